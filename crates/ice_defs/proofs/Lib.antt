@@ -1,0 +1,4 @@
+pub mod Sums
+mod Worked
+mod WorkedBound
+mod WorkedRules
