@@ -1,0 +1,4 @@
+pub mod Ring
+pub mod Gcd
+pub mod Lowest
+pub mod Fractions

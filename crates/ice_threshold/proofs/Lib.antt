@@ -1,0 +1,2 @@
+pub mod CutSum
+pub mod OneCut
