@@ -121,14 +121,14 @@ pub record IsDraft (goods : ℕ) (b : Bidder) (opened : List OpenNode) (stated d
   pub own_count : length b.own ≡ goods
 
 -- a bidder with no node yet
-pub IsDraft-begun : (goods : ℕ) (name own : List ℕ) → length own ≡ goods → IsDraft goods (record { name = name; own = own; tree = []; bounds = no_bounds }) [] (λ n. 0) (λ n. 1)
-IsDraft-begun goods name own count = record {
+pub IsDraft-begun : (goods : ℕ) (name own : List ℕ) (stated depth : ℕ → ℕ) → depth 0 ≡ 1 → length own ≡ goods → IsDraft goods (record { name = name; own = own; tree = []; bounds = no_bounds }) [] stated depth
+IsDraft-begun goods name own stated depth root count = record {
   shaped = record {
     few = omega arith;
     root_parent = refl;
     parent_first = λ c l m. absurd (omega arith);
     preorder = λ c k l m. absurd (omega arith);
-    depths = (refl, λ n l m. absurd (omega arith));
+    depths = (root, λ n l m. absurd (omega arith));
     deep = λ n l. absurd (omega arith);
     kinds = λ n l. absurd (omega arith);
     values = record {

@@ -27,7 +27,7 @@ before_last last v f n l = ap (λ b. cond b v (f n)) (ne_eqb n last (λ e. omega
 -- ---- children
 
 -- a filter of numbers goes by the test below the bound
-filter-same : (p q : ℕ → Bool) (n : ℕ) → ((k : ℕ) → k < n → p k ≡ q k) → filter p (numbers_below n) ≡ filter q (numbers_below n)
+pub filter-same : (p q : ℕ → Bool) (n : ℕ) → ((k : ℕ) → k < n → p k ≡ q k) → filter p (numbers_below n) ≡ filter q (numbers_below n)
 filter-same p q zero same = refl
 filter-same p q (suc n) same =
     filter-append p (numbers_below n) (n ∷ [])

@@ -5,3 +5,6 @@ pub mod Sold
 pub mod Standing
 pub mod Ranged
 pub mod Whole
+pub mod Returning
+pub mod Retaking
+pub mod Describing

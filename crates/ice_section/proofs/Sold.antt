@@ -5,12 +5,12 @@ use Rattle.std.specs.Option.{option_or}
 use Rattle.std.specs.List.{filter, fold, filter_map}
 use Rattle.std.specs.Int.{int_max}
 use Rattle.std.proofs.lemmas.Int.{ints, clamps}
-use Rattle.std.proofs.lemmas.Bool.{cases_lt, and_from, and_parts, ltb-true, le-ltb, eq-eqb, both_ways, not-true, false_from_ne_true, cond-false, cond-true}
+use Rattle.std.proofs.lemmas.Bool.{cases_lt, and_from, and_parts, ltb-true, ltb-false, le-ltb, lt-ltb, eq-eqb, eqb-true, both_ways, not-true, false_from_ne_true, cond-false, cond-true}
 use Rattle.std.proofs.lemmas.List.Elements.{filter_map-append}
 use Rattle.std.proofs.lemmas.List.Folds.{find-append}
 use Rattle.ice_defs.specs.declared.NodeKind.{NodeKind}
 use Rattle.ice_defs.specs.declared.NodeKind.TheVariants.{Choose, Buy, Sell}
-use Rattle.ice_defs.specs.declared.SatRule.TheVariants.{Parent}
+use Rattle.ice_defs.specs.declared.SatRule.TheVariants.{Parent, Few, Many}
 use Rattle.ice_defs.specs.Sum.{numbers_below}
 use Rattle.ice_defs.specs.Tree.{Tree, kind_of, parent_of}
 use Rattle.ice_defs.specs.Set.{NodeSet, has, IsSatisfied, IsWithin, children_inside, units}
@@ -138,3 +138,84 @@ pub sells_owned : (goods : ℕ) (t : Tree) (own : List ℕ) → over_sale goods 
 sells_owned goods t own none g s l is =
     let under = int_lt-false (pos (slice_index own g)) (greatest_sale t g) (none_found (λ k. int_lt (pos (slice_index own k)) (greatest_sale t k)) goods none g l) in
     omega (arith, ints, under, sale_bound t g s is)
+
+-- ---- and a tree that sells no more than is owned is not refused
+
+is_none_true : {X : Type 0} (o : Option X) → is_none o ≡ true → o ≡ None
+is_none_true None e = refl
+is_none_true (Some x) e = absurd cc
+
+first_none : {X : Type 0} (xs : List X) → first_in xs ≡ None → xs ≡ []
+first_none [] e = refl
+first_none (x ∷ xs) e = absurd cc
+
+both_empty : {X : Type 0} (xs ys : List X) → xs ++ ys ≡ [] → (xs ≡ []) × (ys ≡ [])
+both_empty [] ys e = (refl, e)
+both_empty (x ∷ xs) ys e = absurd cc
+
+none_each : {X : Type 0} (f : ℕ → Option X) (n : ℕ) → filter_map f (numbers_below n) ≡ [] → (k : ℕ) → k < n → f k ≡ None
+none_each f zero e k l = absurd (omega arith)
+none_each {X} f (suc n) e k l =
+    let (before, here) = both_empty (filter_map f (numbers_below n)) (filter_map f (n ∷ [])) (sym (filter_map-append f (numbers_below n) (n ∷ [])) ∙ e) in
+    by (cases_lt k n) (none_each f n before k) (last (f n) refl here)
+  where
+    last : (o : Option X) → f n ≡ o → filter_map f (n ∷ []) ≡ [] → f n ≡ None
+    last None is h = is
+    last (Some x) is h = let e : x ∷ [] ≡ [] = sym (rw is) ∙ h in absurd cc
+
+    by : (k < n) ⊎ (n ≤ k) → (k < n → f k ≡ None) → f n ≡ None → f k ≡ None
+    by (inl m) old new = old m
+    by (inr m) old new = let e : k ≡ n = omega arith in ap f e ∙ new
+
+some_else : {X : Type 0} (b : Bool) (x : X) (o : Option X) → cond b (Some x) o ≡ None → (b ≡ false) × (o ≡ None)
+some_else true x o e = absurd cc
+some_else false x o e = (refl, e)
+
+count_none : (kind : NodeKind) (n : ℕ) → count_fault kind n ≡ None → IsWithin kind n
+count_none (Choose least most) n e =
+    let (few, e₁) = some_else (ltb n least) Few _ e in
+    let (many, e₂) = some_else (ltb most n) Many _ e₁ in
+    (ltb-false n least few, ltb-false most n many)
+count_none (Buy good units) n e = tt
+count_none (Sell good units) n e = tt
+
+fault_none : (t : Tree) (s : NodeSet) (n : ℕ) → fault_at t s n ≡ None → has s n ≡ true → (ltb 0 n && not (has s (parent_of t n)) ≡ false) × (count_fault (kind_of t n) (children_inside t s n) ≡ None)
+fault_none t s n e inside = some_else _ Parent _ (sym (cond-true (has s n) _ None inside) ∙ e)
+
+passes_satisfied : (t : Tree) (s : NodeSet) → is_satisfied t s ≡ true → IsSatisfied t s
+passes_satisfied t s e =
+    let (size, free) = and_parts (eqb (length s) (length t)) (is_none (set_fault t s)) e in
+    let each = none_each (fault_at t s) (length t) (first_none _ (is_none_true _ free)) in
+    record {
+      same_length = eqb-true _ _ size;
+      parent_inside = λ c some l h. by c some (has s (parent_of t c)) refl (fault_none t s c (each c l) h).0;
+      count_inside = λ n l h. count_none (kind_of t n) (children_inside t s n) (fault_none t s n (each n l) h).1;
+    }
+  where
+    by : (c : ℕ) → 0 < c → (b : Bool) → has s (parent_of t c) ≡ b → ltb 0 c && not (has s (parent_of t c)) ≡ false → has s (parent_of t c) ≡ true
+    by c some true is e = is
+    by c some false is e = absurd (both_ways _ e (and_from (ltb 0 c) (not (has s (parent_of t c))) (lt-ltb 0 c some) (ap not is)))
+
+greatest_below : (f : NodeSet → ℤ) (p : NodeSet → Bool) (m a : ℤ) (xs : List NodeSet) → a ≤ℤ m → ((s : NodeSet) → p s ≡ true → f s ≤ℤ m) → fold int_max a (map f (filter p xs)) ≤ℤ m
+greatest_below f p m a [] start each = start
+greatest_below f p m a (x ∷ xs) start each = by (p x) refl (λ b l. greatest_below f p m b xs l each)
+  where
+    by : (b : Bool) → p x ≡ b → ((c : ℤ) → c ≤ℤ m → fold int_max c (map f (filter p xs)) ≤ℤ m) → fold int_max a (map f (cond b (x ∷ filter p xs) (filter p xs))) ≤ℤ m
+    by true is go = go (int_max a (f x)) (omega (arith, ints, clamps, each x is))
+    by false is go = go a start
+
+sale_below : (t : Tree) (g : ℕ) (m : ℤ) → pos 0 ≤ℤ m → ((s : NodeSet) → IsSatisfied t s → neg_ℤ (units t s g) ≤ℤ m) → greatest_sale t g ≤ℤ m
+unfolding satisfied_sets greatest_sale
+sale_below t g m some each = greatest_below (λ s. neg_ℤ (units t s g)) (is_satisfied t) m (pos 0) (all_sets (length t)) some (λ s e. each s (passes_satisfied t s e))
+
+find_none : (p : ℕ → Bool) (n : ℕ) → ((k : ℕ) → k < n → p k ≡ false) → find p (numbers_below n) ≡ None
+find_none p zero none = refl
+find_none p (suc n) none =
+    find-append p (numbers_below n) (n ∷ []) ∙ ap (λ o. option_or o (find p (n ∷ []))) (find_none p n (λ k l. none k (omega arith))) ∙ cond-false (p n) _ None (none n (omega arith))
+
+le-int_lt : (a b : ℤ) → b ≤ℤ a → int_lt a b ≡ false
+le-int_lt a b l = grind (arith, ints)
+
+pub owned_sells : (goods : ℕ) (t : Tree) (own : List ℕ) → ((g : ℕ) (s : NodeSet) → g < goods → IsSatisfied t s → pos 0 ≤ℤ (pos (slice_index own g) +ℤ units t s g)) → over_sale goods t own ≡ None
+owned_sells goods t own owned = find_none (λ g. int_lt (pos (slice_index own g)) (greatest_sale t g)) goods (λ g l.
+    le-int_lt (pos (slice_index own g)) (greatest_sale t g) (sale_below t g (pos (slice_index own g)) (omega (arith, ints)) (λ s is. omega (arith, ints, owned g s l is))))

@@ -195,7 +195,7 @@ bidder_stands s records name own after is e =
       no_goods = λ f. absurd (there (ap length f));
       told = (
         line.bidder name own ∷ [],
-        (λ n. 0, λ n. 1, IsDraft-begun (length s.goods) name own (eqb-true _ _ (not-false _ counted)), refl),
+        (λ n. 0, λ n. 1, IsDraft-begun (length s.goods) name own (λ n. 0) (λ n. 1) refl (eqb-true _ _ (not-false _ counted)), refl),
         ap (λ l. l ++ line.bidder name own ∷ []) (are ∙ described_same _ _ _ _ _ _ _ _ refl refl refl no_rest)
             ∙ described_push s.settings s.goods s.bidders [] (line.bidder name own),
       );
