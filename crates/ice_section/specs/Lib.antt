@@ -1,0 +1,5 @@
+pub mod Section
+pub mod Described
+pub mod Taking
+pub mod Laws
+pub mod LineFile

@@ -1,0 +1,4 @@
+//! The section of a journal or file that describes its exchange, and exchange and prices files in line form.
+#![tactic(auto)]
+
+pub mod laws;
