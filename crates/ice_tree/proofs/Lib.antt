@@ -1,0 +1,4 @@
+pub mod Counting
+pub mod Growing
+pub mod Storing
+pub mod Drafting

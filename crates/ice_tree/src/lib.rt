@@ -1,0 +1,15 @@
+//! Trees of choose nodes and leaves, sets of their nodes, bounds and weights.
+#![tactic(auto)]
+
+mod bounds;
+mod faults;
+mod maker;
+mod rows;
+mod tree;
+
+pub use bounds::Bounds;
+pub use faults::{BoundsFault, NoMemory, SatFault, TreeFault};
+pub use ice_defs::{Node, NodeKind, SatRule};
+pub use ice_set::NodeSet;
+pub use maker::TreeMaker;
+pub use tree::Tree;
