@@ -4,6 +4,7 @@ pub mod Children
 pub mod Table
 pub mod Taken
 pub mod Partial
+pub mod Offers
 pub mod Flags
 pub mod Frame
 pub mod Roots
