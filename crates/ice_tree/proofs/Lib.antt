@@ -1,4 +1,7 @@
+pub mod Adding
+pub mod Children
 pub mod Counting
-pub mod Growing
-pub mod Storing
 pub mod Drafting
+pub mod Growing
+pub mod Satisfied
+pub mod Storing

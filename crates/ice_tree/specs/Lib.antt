@@ -1,3 +1,4 @@
 pub mod Fault
 pub mod Making
 pub mod Stored
+pub mod Units
