@@ -1,2 +1,3 @@
 pub mod CutSum
 pub mod OneCut
+pub mod Levels

@@ -1,16 +1,9 @@
-//! Threshold discounts: one cut off all Vickrey discounts, as small as the total allows.
+//! Threshold payments: one cut off all Vickrey discounts, as small as the total allows.
 #![tactic(auto)]
 
-ghost use Rattle.ice_threshold.specs.Laws.{CutIsThreshold, CutDownIsThreshold};
+mod cut;
+mod laws;
+mod payments;
+mod ratio;
 
-/// What the least payable cut leaves of the Vickrey discounts are Threshold discounts.
-pub fn cut_is_threshold()
-    ensures { CutIsThreshold }
-{
-}
-
-/// So are fractions that equal these.
-pub fn cut_down_is_threshold()
-    ensures { CutDownIsThreshold }
-{
-}
+pub use laws::{cut_down_is_threshold, cut_is_threshold};
