@@ -8,3 +8,5 @@ pub mod Whole
 pub mod Returning
 pub mod Retaking
 pub mod Describing
+pub mod Keeping
+pub mod Reaching

@@ -2,4 +2,5 @@ pub mod Section
 pub mod Described
 pub mod Taking
 pub mod Laws
+pub mod Kept
 pub mod LineFile

@@ -1,0 +1,54 @@
+-- How a section keeps the open nodes of a tree: their numbers, and how many children of each are still to come.
+use Rattle.std.specs.Prelude.{ℕ, ◌+◌, ◌-◌, ◌<◌, ◌≡◌, List, [], ◌∷◌, length, reverse, Ok}
+use Rattle.std.specs.List.{AllByRecursion}
+use Rattle.ice_defs.specs.declared.NodeKind.{NodeKind}
+use Rattle.ice_defs.specs.declared.NodeKind.TheVariants.{Choose, Buy, Sell}
+use Rattle.ice_defs.specs.Tree.{Tree, kind_of, children_of}
+use Rattle.ice_defs.specs.Making.{TreeDraft}
+use Rattle.ice_journal.specs.Records.{Record}
+use Rattle.ice_journal.specs.Ranges.{IsRecord}
+use Rattle.ice_section.specs.Section.{OpenNode, Draft, Section, no_section}
+use Rattle.ice_section.specs.Taking.{take_records}
+
+abbrev pub least_of : NodeKind → ℕ
+least_of (Choose least most) = least
+least_of (Buy good units) = 0
+least_of (Sell good units) = 0
+
+abbrev pub most_of : NodeKind → ℕ
+most_of (Choose least most) = most
+most_of (Buy good units) = 0
+most_of (Sell good units) = 0
+
+-- a choose node waits for so many children; of those that are there, so many are incomplete
+abbrev pub open_node : Tree → ℕ → ℕ → ℕ → OpenNode
+open_node t incomplete n left = record { number = n; least = least_of (kind_of t n); most = most_of (kind_of t n); children = length (children_of t n) + left - incomplete; left = left }
+
+-- the open nodes, the innermost first; of each one but the innermost the last child is incomplete
+abbrev pub open_nodes : Tree → ℕ → List ℕ → List ℕ → List OpenNode
+open_nodes t incomplete [] lefts = []
+open_nodes t incomplete (n ∷ outer) [] = []
+open_nodes t incomplete (n ∷ outer) (left ∷ lefts) = open_node t incomplete n left ∷ open_nodes t 1 outer lefts
+
+abbrev pub IsChoose : NodeKind → Type 0
+IsChoose (Choose least most) = Unit {0}
+IsChoose (Buy good units) = ⊥
+IsChoose (Sell good units) = ⊥
+
+-- every open node is a choose node, and waits for a child
+abbrev pub AreKept : Tree → List ℕ → List ℕ → Type 0
+AreKept t [] [] = Unit {0}
+AreKept t [] (left ∷ lefts) = ⊥
+AreKept t (n ∷ outer) [] = ⊥
+AreKept t (n ∷ outer) (left ∷ lefts) = IsChoose (kind_of t n) × (0 < left) × AreKept t outer lefts
+
+-- the incomplete bidder, from the tree that is being made, and the children to come of the open nodes from the root down
+abbrev pub draft_of : List ℕ → List ℕ → TreeDraft → List ℕ → Draft
+draft_of name own d lefts = record {
+  bidder = record { name = name; own = own; tree = d.tree; bounds = d.bounds };
+  opened = open_nodes d.tree 0 d.opened (reverse lefts);
+}
+
+-- some lawful records lead to this section
+abbrev pub IsReached : Section → Type 0
+IsReached s = (records : List Record) × AllByRecursion IsRecord records × (take_records no_section records ≡ Ok s)
