@@ -1,0 +1,42 @@
+-- How far the tests of a journal have come, record by record.
+use Rattle.std.specs.Prelude.{◌-◌, ◌≡◌, if◌then◌else◌, List, [], ◌∷◌, Some}
+use Rattle.ice_journal.specs.Records.{Record}
+use Rattle.ice_journal.specs.Records as line
+use Rattle.ice_check.specs.declared.rule.Rule.{Rule}
+use Rattle.ice_check.specs.State.{State, begun}
+use Rattle.ice_check.specs.Next.{next}
+use Rattle.ice_check.specs.Tests.{Fails, FailsFirst, Holds, ended_list, ListHolds}
+use Rattle.ice_check.specs.Checks.{Failure, is_checked}
+
+-- no record yet; a first record that is no head of a kind that is checked; every test passed so far, with what the next ones look back at; or the first failed test
+pub data Progress : Type 0 where
+  nothing : Progress
+  other_kind : Progress
+  passing : State → Progress
+  failed : Failure → Progress
+
+abbrev pub after_head : Record → Progress
+after_head (line.head version kind) = if is_checked version kind then passing (begun version kind) else other_kind
+after_head other = other_kind
+
+-- a list of rows that this record ends passes its test
+abbrev pub EndsList : State → Record → Type 0
+EndsList s r = (x : Rule) → ended_list s.place r ≡ Some x → ListHolds s.place s
+
+-- a record takes the tests on: it passes them all, or it fails one, or the list of rows before it does
+pub data TakesOn (s : State) (r : Record) : Progress → Type 0 where
+  passes_on : {after : State} → EndsList s r → ((x : Rule) → ¬ Fails x s r) → Holds s r → next s r ≡ Some after → TakesOn s r (passing after)
+  fails_at : {x : Rule} → EndsList s r → FailsFirst x s r → TakesOn s r (failed (record { line = s.line; rule = x }))
+  list_fails_at : {x : Rule} → ended_list s.place r ≡ Some x → ¬ ListHolds s.place s → TakesOn s r (failed (record { line = s.line - 1; rule = x }))
+
+-- what the next record makes of it; a failed test stays the first one
+abbrev pub IsAfter : Progress → Record → Progress → Type 0
+IsAfter nothing r after = after ≡ after_head r
+IsAfter other_kind r after = after ≡ other_kind
+IsAfter (passing s) r after = TakesOn s r after
+IsAfter (failed failure) r after = after ≡ failed failure
+
+-- these records lead from one to the other
+pub data Leads : Progress → List Record → Progress → Type 0 where
+  stays : {p : Progress} → Leads p [] p
+  goes : {p q end : Progress} {r : Record} {rest : List Record} → IsAfter p r q → Leads q rest end → Leads p (r ∷ rest) end

@@ -1,0 +1,8 @@
+//! The checker of journals: it takes one record at a time, and answers yes or names the first failed test.
+#![tactic(auto)]
+
+mod answer;
+mod rule;
+
+pub use answer::{Answer, CheckEnd};
+pub use rule::Rule;
