@@ -12,7 +12,7 @@ use Rattle.ice_check.specs.declared.rule.Rule.TheVariants as rule
 use Rattle.ice_check.specs.State.{done}
 use Rattle.ice_check.specs.Checks.{IsChecked, FirstFailure, Checks}
 use Rattle.ice_check.specs.Theorems.{of_assigned, IsYes}
-use Rattle.ice_check.specs.Progress.{Progress, nothing, other_kind, passing, failed}
+use Rattle.ice_check.specs.Progress.{Progress, nothing, other_kind, passing, failed, Leads}
 
 -- these records are those of the bytes, and this holds of them
 abbrev pub OfJournal : List ℕ → (List Record → Type 0) → Type 0
@@ -38,3 +38,12 @@ EndsWith (failed failure) answer = answer ≡ Ok (No failure.line failure.rule)
 EndsWith (passing s) (Ok (Assign value)) = (s.place ≡ done) × (value ≡ total_value s.final.sets (lower_weights s.bounds))
 EndsWith (passing s) (Ok (No line test)) = (s.place ≢ done) × (line ≡ s.line) × (test ≡ rule.Short)
 EndsWith (passing s) (Err fault) = ⊥
+
+-- what is answered where the records end is what the tests find of the whole journal
+abbrev pub EndIsAnswer : Type 0
+EndIsAnswer = (bytes : List ℕ) (journal : List Record) (p : Progress) (answer : Result Answer CheckEnd)
+    → IsJournal bytes journal → Leads nothing journal p → EndsWith p answer → AnswersBytes bytes answer
+
+-- but for want of memory, bytes have one answer
+abbrev pub OneAnswer : Type 0
+OneAnswer = (bytes : List ℕ) (one other : Result Answer CheckEnd) → AnswersBytes bytes one → AnswersBytes bytes other → one ≢ Err NoMemory → other ≢ Err NoMemory → one ≡ other

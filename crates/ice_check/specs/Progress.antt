@@ -1,12 +1,13 @@
 -- How far the tests of a journal have come, record by record.
-use Rattle.std.specs.Prelude.{◌-◌, ◌≡◌, if◌then◌else◌, List, [], ◌∷◌, Some}
+use Rattle.std.specs.Prelude.{◌-◌, ◌≡◌, ◌≢◌, if◌then◌else◌, List, [], ◌∷◌, ◌++◌, Some, None}
 use Rattle.ice_journal.specs.Records.{Record}
 use Rattle.ice_journal.specs.Records as line
 use Rattle.ice_check.specs.declared.rule.Rule.{Rule}
-use Rattle.ice_check.specs.State.{State, begun}
+use Rattle.ice_check.specs.declared.rule.Rule.TheVariants as rule
+use Rattle.ice_check.specs.State.{done, State, begun}
 use Rattle.ice_check.specs.Next.{next}
 use Rattle.ice_check.specs.Tests.{Fails, FailsFirst, Holds, ended_list, ListHolds}
-use Rattle.ice_check.specs.Checks.{Failure, is_checked}
+use Rattle.ice_check.specs.Checks.{Failure, is_checked, IsChecked, FirstFailure}
 
 -- no record yet; a first record that is no head of a kind that is checked; every test passed so far, with what the next ones look back at; or the first failed test
 pub data Progress : Type 0 where
@@ -40,3 +41,19 @@ IsAfter (failed failure) r after = after ≡ failed failure
 pub data Leads : Progress → List Record → Progress → Type 0 where
   stays : {p : Progress} → Leads p [] p
   goes : {p q end : Progress} {r : Record} {rest : List Record} → IsAfter p r q → Leads q rest end → Leads p (r ∷ rest) end
+
+-- one more record leads to what it makes of the progress
+abbrev pub RecordsLeadOn : Type 0
+RecordsLeadOn = (p q end : Progress) (records : List Record) (r : Record) → Leads p records q → IsAfter q r end → Leads p (records ++ r ∷ []) end
+
+-- where these records are the whole journal: what the tests find of it
+abbrev pub Finds : List Record → Progress → Type 0
+Finds journal nothing = ¬ IsChecked journal
+Finds journal other_kind = ¬ IsChecked journal
+Finds journal (failed failure) = IsChecked journal × FirstFailure journal (Some failure)
+Finds journal (passing s) =
+    IsChecked journal × (s.place ≡ done → FirstFailure journal None)
+    × (s.place ≢ done → FirstFailure journal (Some (record { line = s.line; rule = rule.Short })))
+
+abbrev pub ProgressFindsTheFirstFailure : Type 0
+ProgressFindsTheFirstFailure = (journal : List Record) (p : Progress) → Leads nothing journal p → Finds journal p

@@ -13,7 +13,9 @@ use Rattle.ice_journal.specs.Records.{Record, Kind, assign_kind, regret_kind, se
 use Rattle.ice_journal.specs.Records as line
 use Rattle.ice_journal.specs.Ranges.{IsRecord}
 use Rattle.ice_journal.specs.Plain.{plain}
+use Rattle.ice_check.specs.State.{done, State, exchange_at}
 use Rattle.ice_check.specs.Checks.{Checks}
+use Rattle.ice_check.specs.Progress.{nothing, passing, Leads}
 use Rattle.ice_check.specs.Written.{assigned_records, regretted_records, session_records}
 
 -- the journal says this, in either version
@@ -33,6 +35,18 @@ pub record IsRightRegret (r : Regretted) : Type 0 where
 pub record IsRightAssigned (a : Assigned) : Type 0 where
   pub exchange : IsExchange a.exchange
   pub feasible : IsFeasible (trees_of a.exchange) (exact_of a.exchange) a.sets
+
+-- where the records of an assign journal lead to its end, they state this exchange and these sets
+abbrev pub assigned_at : State → Assigned
+assigned_at s = record { exchange = exchange_at s; sets = s.final.sets }
+
+pub record AreAssigned (journal : List Record) (s : State) : Type 0 where
+  pub says : Says journal (assigned_records (assigned_at s))
+  pub right : IsRightAssigned (assigned_at s)
+  pub bounds : s.bounds ≡ opening_bounds (exchange_at s)
+
+abbrev pub DoneIsAssigned : Type 0
+DoneIsAssigned = (journal : List Record) (s : State) → AllByRecursion IsRecord journal → Leads nothing journal (passing s) → s.place ≡ done → s.kind ≡ assign_kind → AreAssigned journal s
 
 abbrev pub ChecksGiveAssigned : Type 0
 ChecksGiveAssigned = (journal : List Record) → HasKind assign_kind journal → AllByRecursion IsRecord journal → Checks journal → (a : Assigned) × Says journal (assigned_records a) × IsRightAssigned a
