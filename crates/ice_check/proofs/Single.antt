@@ -55,7 +55,7 @@ same_first x y s r f g = by (cases_lt (place_of x) (place_of y)) (cases_lt (plac
     by (inr l) (inl k) = absurd (f.1 y k g.0)
     by (inr l) (inr k) = same_rule x y (omega arith)
 
-some_same : {X : Type 0} (o : Option X) (x y : X) → o ≡ Some x → o ≡ Some y → x ≡ y
+pub some_same : {X : Type 0} (o : Option X) (x y : X) → o ≡ Some x → o ≡ Some y → x ≡ y
 some_same o x y e f = cc
 
 pub same_tested : (s : State) (records : List Record) (a b : Option Failure) → Tested s records a → Tested s records b → a ≡ b

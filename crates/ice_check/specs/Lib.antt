@@ -7,3 +7,4 @@ pub mod Written
 pub mod Theorems
 pub mod Progress
 pub mod Answers
+pub mod Assigning
