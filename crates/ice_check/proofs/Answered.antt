@@ -8,6 +8,7 @@ use Rattle.ice_journal.specs.Records.{Record}
 use Rattle.ice_journal.specs.Journal.{LinesFault, grammar, unended, IsJournal, IsLinesFault}
 use Rattle.ice_journal.specs.Plain.{plain}
 use Rattle.ice_section.specs.Laws.{SectionIsLawful, SectionRecords}
+use Rattle.ice_section.proofs.Whole.{section_is_lawful, section_records_are}
 use Rattle.ice_check.specs.declared.answer.Answer.{Answer}
 use Rattle.ice_check.specs.declared.answer.Answer.TheVariants.{Assign, No}
 use Rattle.ice_check.specs.declared.answer.CheckEnd.{CheckEnd}
@@ -16,7 +17,7 @@ use Rattle.ice_check.specs.declared.rule.Rule.{Rule}
 use Rattle.ice_check.specs.declared.rule.Rule.TheVariants as rule
 use Rattle.ice_check.specs.State.{done, State}
 use Rattle.ice_check.specs.Checks.{Failure, IsChecked, FirstFailure}
-use Rattle.ice_check.specs.Progress.{Progress, nothing, other_kind, passing, failed, Leads}
+use Rattle.ice_check.specs.Progress.{Progress, nothing, other_kind, passing, failed, out_of_memory, Leads}
 use Rattle.ice_check.specs.Theorems.{of_assigned, IsYes, assigned_at}
 use Rattle.ice_check.specs.Answers.{OfJournal, AnswersJournal, AnswersBytes, EndsWith, EndIsAnswer, OneAnswer}
 use Rattle.ice_check.proofs.Single.{same_failure}
@@ -110,5 +111,9 @@ module _ (lawful : SectionIsLawful) (described : SectionRecords) where
   pub end_is_answer : EndIsAnswer
   end_is_answer bytes journal nothing answer is l e = subst (AnswersBytes bytes) (sym e) (journal, is, finds journal nothing l)
   end_is_answer bytes journal other_kind answer is l e = subst (AnswersBytes bytes) (sym e) (journal, is, finds journal other_kind l)
+  end_is_answer bytes journal out_of_memory answer is l e = absurd (finds journal out_of_memory l)
   end_is_answer bytes journal (failed failure) answer is l e = subst (AnswersBytes bytes) (sym e) (journal, is, finds journal (failed failure) l)
   end_is_answer bytes journal (passing s) answer is l e = ends_passing bytes journal s answer is l e
+
+pub end_answers : EndIsAnswer
+end_answers = end_is_answer section_is_lawful section_records_are

@@ -12,6 +12,7 @@ use Rattle.ice_journal.specs.Plain.{plain}
 use Rattle.ice_section.specs.Section.{exchange_in}
 use Rattle.ice_section.specs.Described.{section_records}
 use Rattle.ice_section.specs.Laws.{SectionIsLawful, SectionRecords}
+use Rattle.ice_section.proofs.Whole.{section_is_lawful, section_records_are}
 use Rattle.ice_check.specs.State.{Place, done, State, begun, exchange_at}
 use Rattle.ice_check.specs.Checks.{is_checked, Tested, passes, is_short, list_fails, fails, goes_on, Checks}
 use Rattle.ice_check.specs.Theorems.{HasKind, Says, IsRightAssigned, assigned_at, AreAssigned, DoneIsAssigned, ChecksGiveAssigned}
@@ -109,3 +110,9 @@ module _ (lawful : SectionIsLawful) (described : SectionRecords) where
       of_checked version kind rest (only_assign version kind checked).0 of_kind records checked tested
   checks_give_assigned (other ∷ rest) of_kind records (checked, tested) = absurd checked
   checks_give_assigned [] of_kind records (checked, tested) = absurd checked
+
+pub done_is_right : DoneIsAssigned
+done_is_right = done_is_assigned section_is_lawful section_records_are
+
+pub checked_is_right : ChecksGiveAssigned
+checked_is_right = checks_give_assigned section_is_lawful section_records_are

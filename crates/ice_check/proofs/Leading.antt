@@ -8,7 +8,7 @@ use Rattle.ice_journal.specs.Records as line
 use Rattle.ice_check.specs.declared.rule.Rule.TheVariants as rule
 use Rattle.ice_check.specs.State.{done, State, begun}
 use Rattle.ice_check.specs.Checks.{Failure, Tested, passes, is_short, list_fails, fails, goes_on, is_checked, IsChecked, FirstFailure}
-use Rattle.ice_check.specs.Progress.{Progress, nothing, other_kind, passing, failed, TakesOn, passes_on, fails_at, list_fails_at, IsAfter, Leads, stays, goes, Finds, after_head}
+use Rattle.ice_check.specs.Progress.{Progress, nothing, other_kind, passing, failed, out_of_memory, TakesOn, passes_on, fails_at, list_fails_at, IsAfter, Leads, stays, goes, Finds, after_head}
 
 -- one more record
 pub leads_more : (p q end : Progress) (records : List Record) (r : Record) → Leads p records q → IsAfter q r end → Leads p (records ++ r ∷ []) end
@@ -86,6 +86,27 @@ never_other s (r ∷ records) (goes (list_fails_at {x = x} e n) l) = apart _ (st
     apart : (f : Failure) → other_kind ≡ failed f → ⊥
     apart f e = cc
 
+never_stops : (p : Progress) (records : List Record) → Leads p records out_of_memory → p ≡ out_of_memory
+never_stops p [] stays = refl
+never_stops p (r ∷ records) (goes {q = q} a l) = absurd (by p q a (never_stops q records l))
+  where
+    by : (p q : Progress) → IsAfter p r q → q ≡ out_of_memory → ⊥
+    by nothing q a e = from_head r (sym a ∙ e)
+      where
+        from_head : (r : Record) → after_head r ≡ out_of_memory → ⊥
+        from_head (line.head version kind) e = checked (is_checked version kind) e
+          where
+            checked : (b : Bool) → cond b (passing (begun version kind)) other_kind ≡ out_of_memory → ⊥
+            checked true e = cc
+            checked false e = cc
+        from_head other e = cc
+    by other_kind q a e = let f : other_kind ≡ out_of_memory = sym a ∙ e in cc
+    by (passing s) q (passes_on list none holds is) e = cc
+    by (passing s) q (fails_at list first) e = cc
+    by (passing s) q (list_fails_at list n) e = cc
+    by (failed f) q a e = let g : failed f ≡ out_of_memory = sym a ∙ e in cc
+    by out_of_memory q a e = a
+
 -- where all the records pass, the end tells
 pub leads_end : (s t : State) (records : List Record) (end : Option Failure) → Leads (passing s) records (passing t) → Tested t [] end → Tested s records end
 leads_end s t records end l h = subst (λ (rs : List Record). Tested s rs end) (append-nil records) (leads_tested s t records [] end l h)
@@ -94,6 +115,7 @@ leads_end s t records end l h = subst (λ (rs : List Record). Tested s rs end) (
 finds_checked : (version : Version) (kind : Kind) (rest : List Record) (p : Progress) → is_checked version kind ≡ true → Leads (passing (begun version kind)) rest p → Finds (line.head version kind ∷ rest) p
 finds_checked version kind rest nothing is l = absurd (stays_nowhere _ rest l)
 finds_checked version kind rest other_kind is l = absurd (never_other _ rest l)
+finds_checked version kind rest out_of_memory is l = let e : passing (begun version kind) ≡ out_of_memory = never_stops (passing (begun version kind)) rest l in absurd cc
 finds_checked version kind rest (failed f) is l = (is, leads_failed _ rest f l)
 finds_checked version kind rest (passing s) is l = (is, λ e. leads_end _ s rest None l (passes e), λ ne. leads_end _ s rest _ l (is_short ne))
 
@@ -101,6 +123,7 @@ finds_checked version kind rest (passing s) is l = (is, λ e. leads_end _ s rest
 finds_other : (journal : List Record) (rest : List Record) (p : Progress) → ¬ IsChecked journal → Leads other_kind rest p → Finds journal p
 finds_other journal rest nothing other l = other
 finds_other journal rest other_kind other l = other
+finds_other journal rest out_of_memory other l = let e : other_kind ≡ out_of_memory = never_stops other_kind rest l in absurd cc
 finds_other journal rest (failed f) other l = absurd (other_fails rest f l)
 finds_other journal rest (passing s) other l = absurd (other_passes rest s l)
 
@@ -116,5 +139,6 @@ pub finds : (journal : List Record) (p : Progress) → Leads nothing journal p �
 finds [] nothing stays = λ h. h
 finds [] other_kind l = elim l [ ]
 finds [] (failed f) l = elim l [ ]
+finds [] out_of_memory l = elim l [ ]
 finds [] (passing s) l = elim l [ ]
 finds (r ∷ rest) p (goes {q = q} a l) = finds_from r rest p (subst (λ (z : Progress). Leads z rest p) a l)

@@ -12,7 +12,7 @@ use Rattle.ice_check.specs.declared.rule.Rule.TheVariants as rule
 use Rattle.ice_check.specs.State.{done}
 use Rattle.ice_check.specs.Checks.{IsChecked, FirstFailure, Checks}
 use Rattle.ice_check.specs.Theorems.{of_assigned, IsYes}
-use Rattle.ice_check.specs.Progress.{Progress, nothing, other_kind, passing, failed, Leads}
+use Rattle.ice_check.specs.Progress.{Progress, nothing, other_kind, passing, failed, out_of_memory, Leads}
 
 -- these records are those of the bytes, and this holds of them
 abbrev pub OfJournal : List ℕ → (List Record → Type 0) → Type 0
@@ -34,6 +34,7 @@ AnswersBytes bytes (Err NoMemory) = Unit {0}
 abbrev pub EndsWith : Progress → Result Answer CheckEnd → Type 0
 EndsWith nothing answer = answer ≡ Err OtherKind
 EndsWith other_kind answer = answer ≡ Err OtherKind
+EndsWith out_of_memory answer = answer ≡ Err NoMemory
 EndsWith (failed failure) answer = answer ≡ Ok (No failure.line failure.rule)
 EndsWith (passing s) (Ok (Assign value)) = (s.place ≡ done) × (value ≡ total_value s.final.sets (lower_weights s.bounds))
 EndsWith (passing s) (Ok (No line test)) = (s.place ≢ done) × (line ≡ s.line) × (test ≡ rule.Short)

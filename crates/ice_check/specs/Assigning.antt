@@ -1,12 +1,13 @@
 -- The states of an assign journal.
-use Rattle.std.specs.Prelude.{ℕ, pos, Some, None}
+use Rattle.std.specs.Prelude.{ℕ, suc, ◌+◌, ◌<◌, ◌≤◌, if◌then◌else◌, IsTrue, is_some, length, pos, Option, Some, None}
 use Rattle.ice_defs.specs.declared.SatRule.{SatRule}
 use Rattle.ice_defs.specs.declared.SatRule.TheVariants.{Parent, Few, Many}
 use Rattle.ice_defs.specs.Trade.{Assignment}
 use Rattle.ice_defs.specs.Exchange.{Exchange, opening_bounds}
 use Rattle.ice_defs.specs.Group.{assign_group}
 use Rattle.ice_journal.specs.Records.{version_1, assign_kind, assign_end}
-use Rattle.ice_section.specs.Section.{Section}
+use Rattle.ice_defs.specs.Making.{node_count}
+use Rattle.ice_section.specs.Section.{Draft, Section}
 use Rattle.ice_check.specs.declared.rule.Rule.{Rule}
 use Rattle.ice_check.specs.declared.rule.Rule.TheVariants as rule
 use Rattle.ice_check.specs.State.{Place, at_sets, at_end, done, State, begun}
@@ -36,3 +37,19 @@ abbrev pub rule_of : SatRule → Rule
 rule_of Parent = rule.Parent
 rule_of Few = rule.Few
 rule_of Many = rule.Many
+
+-- how many records described this draft, or this section
+abbrev pub draft_count : Option Draft → ℕ
+draft_count None = 0
+draft_count (Some draft) = suc (length draft.bidder.tree)
+
+abbrev pub described_count : Section → ℕ
+described_count s = (if is_some s.settings then 1 else 0) + length s.goods + (length s.bidders + node_count s.bidders) + draft_count s.draft
+
+-- a section has at most 2,274 records, and settings stand first
+pub record IsBounded (s : Section) : Type 0 where
+  pub goods : length s.goods ≤ 32
+  pub bidders : length s.bidders ≤ 40
+  pub nodes : node_count s.bidders ≤ 2000
+  pub draft : draft_count s.draft ≤ 201
+  pub settings : 0 < length s.goods + length s.bidders + draft_count s.draft → IsTrue (is_some s.settings)
