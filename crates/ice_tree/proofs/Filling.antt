@@ -65,13 +65,13 @@ pub weighted_filled : (w : ℕ) (ws los his : List ℤ) → length ws ≡ length
     → ((k : ℕ) → k < length los → weight_of ws k ≡ weighted w (weight_of los k) (weight_of his k)) → ws ≡ weighted_list w los his
 weighted_filled w ws los his e f each =
     ext_get_or (pos 0) ws (weighted_list w los his) (e ∙ sym (length-weighted_list w los his f))
-        (λ k h. each k (omega (arith, e)) ∙ sym (get_or-weighted_list w los his k f (omega (arith, e))))
+    (λ k h. each k (omega (arith, e)) ∙ sym (get_or-weighted_list w los his k f (omega (arith, e))))
 
 pub perturbed_filled : (s : NodeSet) (ws los his : List ℤ) → length ws ≡ length los → length his ≡ length los
     → ((k : ℕ) → k < length los → weight_of ws k ≡ cond (has s k) (weight_of los k) (weight_of his k)) → ws ≡ perturbed_list s los his
 perturbed_filled s ws los his e f each =
     ext_get_or (pos 0) ws (perturbed_list s los his) (e ∙ sym (length-perturbed_list s los his f))
-        (λ k h. each k (omega (arith, e)) ∙ sym (get_or-perturbed_list s los his k f (omega (arith, e))))
+    (λ k h. each k (omega (arith, e)) ∙ sym (get_or-perturbed_list s los his k f (omega (arith, e))))
 
 -- ---- all bidders
 

@@ -87,6 +87,16 @@ impl Bounds {
         Bounds { lo, hi }
     }
 
+    /// The same bounds once more.
+    pub fn copy(&self) -> Bounds
+        ensures { result ≡ self.now }
+    {
+        Bounds {
+            lo: list_of(&self.lo),
+            hi: list_of(&self.hi),
+        }
+    }
+
     /// The number of nodes.
     pub fn len(&self) -> u16
         ensures value { result ≡ length self.now.lo }
@@ -118,6 +128,10 @@ impl Bounds {
         requires chosen { length chosen.now ≡ length self.now.lo }
         ensures { result ≡ (if has chosen.now node then weight_of self.now.lo node else weight_of self.now.hi node) }
     {
-        if chosen.has(node) { self.lo(node) } else { self.hi(node) }
+        if chosen.has(node) {
+            self.lo(node)
+        } else {
+            self.hi(node)
+        }
     }
 }

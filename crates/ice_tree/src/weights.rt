@@ -88,7 +88,8 @@ impl Weights {
 
     fn fill_lower(&mut self, bounds: &Bounds)
         requires { length self.old ≡ length bounds.now.lo }
-        ensures { self.new ≡ bounds.now.lo }
+        ensures value { self.new ≡ bounds.now.lo }
+        ensures nodes { length self.new ≡ length self.old }
     {
         for node in 0..bounds.len() {
             self.put(node, i128::from(bounds.lo(node)));
@@ -98,7 +99,8 @@ impl Weights {
     fn fill_weighted(&mut self, bounds: &Bounds, weight: u8)
         requires weight { weight ≤ 100 }
         requires nodes { length self.old ≡ length bounds.now.lo }
-        ensures { self.new ≡ weighted_list weight bounds.now.lo bounds.now.hi }
+        ensures value { self.new ≡ weighted_list weight bounds.now.lo bounds.now.hi }
+        ensures nodes { length self.new ≡ length self.old }
     {
         for node in 0..bounds.len() {
             self.put(node, weighted(weight, bounds.lo(node), bounds.hi(node)));
@@ -108,7 +110,8 @@ impl Weights {
     fn fill_perturbed(&mut self, bounds: &Bounds, chosen: &NodeSet)
         requires nodes { length self.old ≡ length bounds.now.lo }
         requires chosen { length chosen.now ≡ length bounds.now.lo }
-        ensures { self.new ≡ perturbed_list chosen.now bounds.now.lo bounds.now.hi }
+        ensures value { self.new ≡ perturbed_list chosen.now bounds.now.lo bounds.now.hi }
+        ensures nodes { length self.new ≡ length self.old }
     {
         for node in 0..bounds.len() {
             self.put(node, i128::from(bounds.perturbed(chosen, node)));
@@ -145,6 +148,13 @@ impl AllWeights {
         }
     }
 
+    /// The number of bidders.
+    pub fn len(&self) -> usize
+        ensures { result ≡ length self.now }
+    {
+        self.weights.len()
+    }
+
     /// The weights of the bidder's tree.
     pub fn of(&self, bidder: u8) -> &Weights
         requires { bidder < length self.now }
@@ -156,7 +166,8 @@ impl AllWeights {
     /// Sets each weight to the lower value of its node. It takes no memory.
     pub fn fill_lower(&mut self, bounds: &[Bounds])
         requires { AreAlike self.old bounds.now }
-        ensures { self.new ≡ lower_weights bounds.now }
+        ensures value { self.new ≡ lower_weights bounds.now }
+        ensures alike { AreAlike self.new bounds.now }
     {
         for bidder in 0..bounds.len() {
             self.weights[bidder].fill_lower(&bounds[bidder]);
@@ -167,7 +178,8 @@ impl AllWeights {
     pub fn fill_weighted(&mut self, bounds: &[Bounds], weight: u8)
         requires weight { weight ≤ 100 }
         requires alike { AreAlike self.old bounds.now }
-        ensures { self.new ≡ weighted_weights weight bounds.now }
+        ensures value { self.new ≡ weighted_weights weight bounds.now }
+        ensures alike { AreAlike self.new bounds.now }
     {
         for bidder in 0..bounds.len() {
             self.weights[bidder].fill_weighted(&bounds[bidder], weight);
@@ -178,7 +190,8 @@ impl AllWeights {
     pub fn fill_perturbed(&mut self, bounds: &[Bounds], chosen: &Assignment)
         requires alike { AreAlike self.old bounds.now }
         requires chosen { AreChosen chosen.now bounds.now }
-        ensures { self.new ≡ perturbed_weights chosen.now bounds.now }
+        ensures value { self.new ≡ perturbed_weights chosen.now bounds.now }
+        ensures alike { AreAlike self.new bounds.now }
     {
         for bidder in 0..bounds.len() {
             self.weights[bidder].fill_perturbed(&bounds[bidder], chosen.set(bidder));

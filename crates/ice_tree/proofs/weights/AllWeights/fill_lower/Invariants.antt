@@ -8,5 +8,5 @@ abbrev pub invariant-loop-bidder : goal.invariant-loop-bidder
 invariant-loop-bidder l = record {
   count : length l.self-inside.weights.items ≡ length l.bounds;
   filled : (b : ℕ) → b < l.bidder → weights_of l.self-inside.weights.items b ≡ (bounds_of l.bounds b).lo;
-  left : (b : ℕ) → l.bidder ≤ b → b < length l.bounds → length (weights_of l.self-inside.weights.items b) ≡ length (bounds_of l.bounds b).lo;
+  alike : (b : ℕ) → b < length l.bounds → length (weights_of l.self-inside.weights.items b) ≡ length (bounds_of l.bounds b).lo;
 }

@@ -3,7 +3,7 @@ use Rattle.ice_defs.specs.Weighing.{lower_weights, weighted_weights, perturbed_w
 use Rattle.ice_tree.proofs.Filling.{all_filled, length-perturbed, weights_of-perturbed}
 use Rattle.ice_tree.proofs.weights.AllWeights.fill_perturbed.Goals as goal
 
-pub returns : goal.returns
-returns c =
+pub returns-clause-value : goal.returns-clause-value
+returns-clause-value c =
     all_filled c.loop-bidder.self-inside.weights.items (perturbed_weights c.args.chosen.now c.args.bounds.now) (length c.args.bounds.now) c.loop-bidder.invariant.count (length-perturbed c.args.chosen.now c.args.bounds.now)
-        (λ b h. c.loop-bidder.invariant.filled b (omega arith) ∙ sym (weights_of-perturbed c.args.chosen.now c.args.bounds.now b h))
+    (λ b h. c.loop-bidder.invariant.filled b (omega arith) ∙ sym (weights_of-perturbed c.args.chosen.now c.args.bounds.now b h))
