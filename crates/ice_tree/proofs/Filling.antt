@@ -1,5 +1,5 @@
 -- Weights that are filled from bounds, node by node and bidder by bidder.
-use Rattle.std.proofs.Common.{ℕ, zero, suc, ◌+◌, ◌*◌, ◌<◌, ◌≤◌, ◌≡◌, Bool, true, false, cond, List, [], ◌∷◌, length, get_or, map, ℤ, pos, neg_ℤ, negsuc, ◌+ℤ◌, ◌*ℤ◌, ◌≤ℤ◌, refl, arith, ap, sym, ◌∙◌}
+use Rattle.std.proofs.Common.{ℕ, zero, suc, ◌*◌, ◌<◌, ◌≤◌, ◌≡◌, cond, List, [], ◌∷◌, length, ℤ, pos, neg_ℤ, negsuc, ◌*ℤ◌, ◌≤ℤ◌, refl, arith, ap, sym, ◌∙◌}
 use Rattle.std.specs.Int.RustNames.{unsigned_abs}
 use Rattle.std.proofs.Math.Nat.{mul-le-mul_right}
 use Rattle.std.proofs.lemmas.Int.{ints, unsigned_abs-mul}
@@ -7,9 +7,8 @@ use Rattle.std.proofs.lemmas.List.{ext_get_or, get_or-map, length-map}
 use Rattle.ice_defs.specs.Set.{NodeSet, Weights, has, weight_of}
 use Rattle.ice_defs.specs.Trade.{Assignment, weights_of, set_of}
 use Rattle.ice_defs.specs.Bounds.{Bounds, bounds_of, no_bounds}
-use Rattle.ice_defs.specs.Lawful.{AreBounds}
 use Rattle.ice_defs.specs.Weighing.{weighted, weighted_list, perturbed_list, lower_weights, weighted_weights, perturbed_weights}
-use Rattle.ice_tree.specs.Alike.{AreAlike, AreChosen}
+use Rattle.ice_tree.specs.Alike.{AreAlike}
 
 -- ---- products
 

@@ -1,6 +1,6 @@
-use Rattle.std.proofs.Common.{◌≡◌, ℤ, pos, neg_ℤ, ◌≤ℤ◌, ◌*ℤ◌, arith, rules, subst, sym}
+use Rattle.std.proofs.Common.{◌≡◌, pos, neg_ℤ, ◌≤ℤ◌, ◌*ℤ◌, rules, subst, sym}
 use mir.Syntax.{w128}
-use mir.Val.{to_z, of_z, SFits}
+use mir.Val.{to_z, of_z}
 use Rattle.ice_tree.proofs.Filling.{times-within}
 use Rattle.ice_tree.proofs.weights.times.Goals as goal
 

@@ -1,8 +1,7 @@
-use Rattle.std.proofs.Common.{◌≡◌, ◌^◌, ℤ, pos, neg_ℤ, ◌≤ℤ◌, ◌+ℤ◌, arith, rules, subst, sym}
+use Rattle.std.proofs.Common.{◌≡◌, ◌+ℤ◌, arith, rules}
 use mir.Syntax.{w128}
-use mir.Val.{to_z, of_z, SFits}
+use mir.Val.{to_z, of_z}
 use Rattle.std.proofs.lemmas.Int.{ints}
-use Rattle.ice_defs.specs.Set.{IsSmall}
 use Rattle.ice_tree.proofs.weights.weighted.Goals as goal
 
 pub returns-clause-small : goal.returns-clause-small

@@ -1,4 +1,4 @@
-use Rattle.std.proofs.Common.{◌≡◌, ◌∙◌, true, false, length, sym, arith, rules}
+use Rattle.std.proofs.Common.{◌≡◌, ◌∙◌, true, length, sym, arith}
 use Rattle.std.specs.List.{list_all}
 use Rattle.ice_defs.specs.Making.{is_value}
 use Rattle.ice_tree.proofs.Bounding.{AreBounds-from_tests}

@@ -1,7 +1,6 @@
-use Rattle.std.proofs.Common.{◌≡◌, ◌<◌, ◌≤◌, ℕ, length}
-use Rattle.ice_defs.specs.Trade.{weights_of, set_of}
+use Rattle.std.proofs.Common.{◌≡◌, ◌<◌, ℕ, length}
+use Rattle.ice_defs.specs.Trade.{weights_of}
 use Rattle.ice_defs.specs.Bounds.{bounds_of}
-use Rattle.ice_defs.specs.Weighing.{weighted_list, perturbed_list}
 use Rattle.ice_tree.proofs.weights.AllWeights.fill_lower.Given as goal
 
 abbrev pub invariant-loop-bidder : goal.invariant-loop-bidder

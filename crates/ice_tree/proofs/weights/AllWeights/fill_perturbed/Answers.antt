@@ -1,5 +1,5 @@
 use Rattle.std.proofs.Common.{◌∙◌, length, sym, arith}
-use Rattle.ice_defs.specs.Weighing.{lower_weights, weighted_weights, perturbed_weights}
+use Rattle.ice_defs.specs.Weighing.{perturbed_weights}
 use Rattle.ice_tree.proofs.Filling.{all_filled, length-perturbed, weights_of-perturbed}
 use Rattle.ice_tree.proofs.weights.AllWeights.fill_perturbed.Goals as goal
 

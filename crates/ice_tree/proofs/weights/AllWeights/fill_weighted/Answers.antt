@@ -1,5 +1,5 @@
 use Rattle.std.proofs.Common.{◌∙◌, length, sym, arith}
-use Rattle.ice_defs.specs.Weighing.{lower_weights, weighted_weights, perturbed_weights}
+use Rattle.ice_defs.specs.Weighing.{weighted_weights}
 use Rattle.ice_tree.proofs.Filling.{all_filled, length-weighted, weights_of-weighted}
 use Rattle.ice_tree.proofs.weights.AllWeights.fill_weighted.Goals as goal
 

@@ -1,5 +1,5 @@
-use Rattle.std.proofs.Common.{◌≡◌, ◌<◌, ℕ, length, cond}
-use Rattle.ice_defs.specs.Set.{has, weight_of}
+use Rattle.std.proofs.Common.{◌≡◌, ◌<◌, ℕ, length}
+use Rattle.ice_defs.specs.Set.{weight_of}
 use Rattle.ice_defs.specs.Weighing.{weighted}
 use Rattle.ice_tree.proofs.weights.Weights.fill_weighted.Given as goal
 
