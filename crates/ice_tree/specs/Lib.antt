@@ -1,3 +1,5 @@
+pub mod Alike
+pub mod Bounds
 pub mod Fault
 pub mod Making
 pub mod Stored

@@ -44,12 +44,19 @@ impl Assignment {
         self.sets.len()
     }
 
+    pub(crate) fn set(&self, bidder: usize) -> &NodeSet
+        requires { bidder < length self.now }
+        ensures { result.now ≡ set_of self.now bidder }
+    {
+        &self.sets[bidder]
+    }
+
     /// The bidder's set.
     pub fn of(&self, bidder: u8) -> &NodeSet
         requires { bidder < length self.now }
         ensures { result.now ≡ set_of self.now bidder }
     {
-        &self.sets[bidder as usize]
+        self.set(usize::from(bidder))
     }
 
     /// Puts a set of the bidder's tree in the place of the bidder's set.

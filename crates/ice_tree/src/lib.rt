@@ -6,6 +6,8 @@ mod bounds;
 mod faults;
 mod maker;
 mod rows;
+#[cfg(test)]
+mod tests;
 mod tree;
 mod units;
 mod weights;

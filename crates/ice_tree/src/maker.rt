@@ -5,7 +5,7 @@ ghost use Rattle.ice_defs.specs.Lawful.{IsLimitedTree, AreBounds};
 ghost use Rattle.ice_tree.specs.Fault.{tree_fault_number, RefusedBy};
 ghost use Rattle.ice_tree.specs.Making.{IsLeaf, kind_close_refusal, draft_close_refusal, with_closed};
 
-use crate::bounds::Bounds;
+use crate::bounds::{Bounds, is_value};
 use crate::faults::TreeFault;
 use crate::rows::Rows;
 use crate::tree::Tree;
@@ -29,12 +29,6 @@ impl Model for TreeMaker {
     ghost view = { λ m. record { goods = m.goods; draft = draft_of m.rows.nodes.items m.rows.lo.items m.rows.hi.items m.path.items } };
 
     ghost invariant = { λ m. IsMaking m.goods m.rows.nodes.items m.rows.lo.items m.rows.hi.items m.rows.children.items m.path.items };
-}
-
-fn is_value(value: i64) -> bool
-    ensures { result ≡ is_value value }
-{
-    -1_000_000_000 <= value && value <= 1_000_000_000
 }
 
 fn is_lawful_kind(goods: u8, kind: NodeKind) -> bool

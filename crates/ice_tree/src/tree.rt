@@ -1,13 +1,15 @@
 //! A tree of choose nodes and leaves.
-ghost use Rattle.std.specs.Prelude.{◌≡◌, ◌<◌, ◌≤◌, ◌*◌, ◌^◌, ◌↔◌, length, pos, neg_ℤ, ◌≤ℤ◌, IsOk, IfErr};
+ghost use Rattle.std.specs.Prelude.{◌≡◌, ◌<◌, ◌≤◌, ◌*◌, ◌^◌, ◌↔◌, length, pos, neg_ℤ, ◌≤ℤ◌, IsOk, IfOk, IfErr};
 ghost use Rattle.std.specs.List.{All};
 ghost use Rattle.ice_defs.specs.Tree.{kind_of, parent_of, children_of};
 ghost use Rattle.ice_defs.specs.Set.{children_inside, IsSatisfied, value};
 ghost use Rattle.ice_defs.specs.SetFault.{count_fault, fault_at, IsSetFault};
 ghost use Rattle.ice_defs.specs.Lawful.{IsLimitedTree};
+ghost use Rattle.ice_tree.specs.Bounds.{bounds_refusal, BoundsRefusedBy};
 ghost use Rattle.ice_tree.specs.Units.{AreUnits};
 
-use crate::faults::SatFault;
+use crate::bounds::Bounds;
+use crate::faults::{BoundsFault, SatFault};
 use crate::units::{Units, add_units, no_units};
 use crate::weights::Weights;
 use arrayvec::ArrayVec;
@@ -191,5 +193,15 @@ impl Tree {
             }
         }
         Units::of(sums)
+    }
+
+    /// New bounds of the tree.
+    ///
+    /// Refuses, in this order, where a list has not one value for each node (`WrongCount`), where a value is outside its limits (`OutOfRange`), and where a lower value is above the upper one (`Crossed`).
+    pub fn set_bounds(&self, lo: &[i64], hi: &[i64]) -> Result<Bounds, BoundsFault>
+        ensures made { IfOk result (λ b. b ≡ record { lo = lo.now; hi = hi.now }) }
+        ensures refused { BoundsRefusedBy result (bounds_refusal (length self.now) lo.now hi.now) }
+    {
+        Bounds::new(usize::from(self.nodes()), lo, hi)
     }
 }
