@@ -9,9 +9,11 @@ use ice_defs::Mark;
 use ice_tree::Tree;
 use std::alloc::Global;
 use std::marker::Model;
+use thiserror::Error;
 
 /// There is no memory left.
-#[derive(Clone, Copy, PartialEq, Eq, Debug)]
+#[derive(Clone, Copy, Debug, Error, PartialEq, Eq)]
+#[error("no memory is left")]
 pub struct NoMemory;
 
 /// A fixing of one tree, seen as one mark per node. A set meets it where it has each Must node and no Never node.
@@ -88,15 +90,21 @@ impl Fixings {
     pub fn free(alloc: Global, trees: &[Tree]) -> Result<Fixings, NoMemory>
         ensures { IfOk result (λ fixings. fixings ≡ map (λ t. replicate (length t) Mark.Free) trees.now) }
     {
-        let Ok(mut fixings) = Vec::with_capacity(alloc, trees.len()) else {
-            return Err(NoMemory);
-        };
-        for tree in trees {
-            let Ok(()) = fixings.push(Fixing::free(tree.nodes())) else {
-                return Err(NoMemory);
-            };
+        let fixings = trees
+            .iter()
+            .map(|tree| Fixing::free(tree.nodes()))
+            .collect(alloc);
+        match fixings {
+            Ok(fixings) => Ok(Fixings { fixings }),
+            Err(_) => Err(NoMemory),
         }
-        Ok(Fixings { fixings })
+    }
+
+    /// The number of bidders.
+    pub fn len(&self) -> usize
+        ensures { result ≡ length self.now }
+    {
+        self.fixings.len()
     }
 
     /// Gives a node of a bidder's tree another mark. Takes no memory.

@@ -6,6 +6,8 @@ mod choice;
 mod fill;
 mod fixing;
 mod sale;
+#[cfg(test)]
+mod tests;
 
 pub use best_set::best;
 pub use fill::Scratch;

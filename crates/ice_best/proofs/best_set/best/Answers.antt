@@ -20,7 +20,7 @@ returns-then-is_blocked-clause-none c =
     λ n l. c.loop-node.invariant.entries n (omega arith) l in
     let blocked = c.is_blocked.ensures.yes c.if-is_blocked.true in
     none_open c.args.tree.now c.args.weights.now c.args.fixing.now (weight_of s.gain) (has s.needed) (has s.possible) (has s.taken)
-    c.nodes-nodes.ensures.tree table blocked.0 blocked.1
+    c.nodes-nodes.ensures.tree.tree table blocked.0 blocked.1
 
 pub returns-clause-greatest : goal.returns-clause-greatest
 returns-clause-greatest c =
@@ -34,7 +34,7 @@ returns-clause-greatest c =
     let is = rw (to_z-of_z w128 (weight_of s.gain 0) gain_fits) at c.root_value.ensures in
     rw (to_z-of_z w128 c.root_value.result fits, is)
     (is_greatest c.args.tree.now c.args.weights.now c.args.fixing.now (weight_of s.gain) (has s.needed) (has s.possible) (has s.taken)
-    c.nodes-nodes.ensures.tree table c.takes_root-root.result c.take_set.result c.take_set.ensures
+    c.nodes-nodes.ensures.tree.tree table c.takes_root-root.result c.take_set.result c.take_set.ensures
     c.takes_root-root.ensures.may c.takes_root-root.ensures.must gains left)
 
 pub returns-clause-set : goal.returns-clause-set
@@ -49,9 +49,9 @@ returns-clause-set c =
     let is = rw (to_z-of_z w128 (weight_of s.gain 0) gain_fits) at c.root_value.ensures in
     rw (to_z-of_z w128 c.root_value.result fits, is) (
       is_open c.args.tree.now c.args.weights.now c.args.fixing.now (weight_of s.gain) (has s.needed) (has s.possible) (has s.taken)
-          c.nodes-nodes.ensures.tree table c.takes_root-root.result c.take_set.result c.take_set.ensures
+          c.nodes-nodes.ensures.tree.tree table c.takes_root-root.result c.take_set.result c.take_set.ensures
           c.takes_root-root.ensures.may c.takes_root-root.ensures.must gains left,
       has_value c.args.tree.now c.args.weights.now c.args.fixing.now (weight_of s.gain) (has s.needed) (has s.possible) (has s.taken)
-          c.nodes-nodes.ensures.tree table c.takes_root-root.result c.take_set.result c.take_set.ensures
+          c.nodes-nodes.ensures.tree.tree table c.takes_root-root.result c.take_set.result c.take_set.ensures
           c.takes_root-root.ensures.may c.takes_root-root.ensures.must gains left,
     )
