@@ -50,6 +50,14 @@ plus-same_den n m d = rw (is_diff n, is_diff m) (simp (diffs, diff_pos) (diff_sa
 pub less-same_den : (n m : ℤ) (d : ℕ) → Equals (less (record { num = n; den = d }) (record { num = m; den = d })) (record { num = n +ℤ neg_ℤ m; den = d })
 less-same_den n m d = plus-same_den n (neg_ℤ m) d
 
+-- a sum of differences is a difference of sums
+pub less-regroup : (a b c d : Fraction) → Equals (plus (less a c) (less b d)) (less (plus a b) (plus c d))
+less-regroup a b c d = law a.num b.num c.num d.num a.den b.den c.den d.den
+  where
+    law : (a b c d : ℤ) (p q r s : ℕ) → ((a *ℤ pos r +ℤ neg_ℤ c *ℤ pos p) *ℤ pos (q * s) +ℤ (b *ℤ pos s +ℤ neg_ℤ d *ℤ pos q) *ℤ pos (p * r)) *ℤ pos ((p * q) * (r * s))
+        ≡ ((a *ℤ pos q +ℤ b *ℤ pos p) *ℤ pos (r * s) +ℤ neg_ℤ (c *ℤ pos s +ℤ d *ℤ pos r) *ℤ pos (p * q)) *ℤ pos ((p * r) * (q * s))
+    law a b c d p q r s = rw (is_diff a, is_diff b, is_diff c, is_diff d) (simp (diffs, diff_pos) (diff_same _ _ _ _ (omega arith)))
+
 -- a whole number over a denominator
 pub Equals-whole : (n : ℤ) (d : ℕ) → Equals (record { num = n *ℤ pos d; den = d }) (whole n)
 Equals-whole n d = rw (is_diff n) (simp (diffs, diff_pos) (diff_same _ _ _ _ (omega arith)))

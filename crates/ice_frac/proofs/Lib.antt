@@ -2,3 +2,4 @@ pub mod Ring
 pub mod Gcd
 pub mod Lowest
 pub mod Fractions
+pub mod FieldLaws

@@ -3,7 +3,9 @@
 
 mod euclid;
 mod fraction;
+mod laws;
 mod narrow;
 
 pub use fraction::Frac;
+pub use laws::{equality_laws, field_laws, lowest_is_unique, order_laws};
 pub use narrow::Wide;

@@ -7,6 +7,7 @@ use Rattle.std.proofs.Math.Nat.{mul-pos, one-mul, zero-mul}
 use Rattle.ice_defs.specs.Sum.{sum_over}
 use Rattle.ice_defs.specs.Fraction.{Fraction, whole, IsFraction, Equals, AtMost, plus, less, negated, sum_of}
 use Rattle.ice_defs.specs.Cut.{at_least_0, cut_down, cut_sum}
+use Rattle.ice_threshold.specs.CutOff.{cut_num}
 use Rattle.ice_frac.proofs.Ring.{diff, is_diff, diff_same, diff_pos, diffs, scale_le}
 use Rattle.ice_frac.proofs.Fractions.{Equals-trans, Equals-plus, plus-same_den, Equals-num}
 
@@ -44,10 +45,6 @@ pub at_least_0-least : (a d : Fraction) → AtMost (whole (pos 0)) d → AtMost 
 at_least_0-least a d p q = by_sign a (λ r. AtMost r d) (λ s. p) (λ s. q)
 
 -- ---- over the denominator of the cut
-
--- v q less p, but no less than 0
-abbrev pub cut_num : ℤ → ℕ → ℤ → ℤ
-cut_num p q v = int_max (pos 0) (v *ℤ pos q -ℤ p)
 
 pub cut_down_is : (p : ℤ) (q : ℕ) (v : ℤ) → Equals (cut_down (record { num = p; den = q }) v) (record { num = cut_num p q v; den = q })
 cut_down_is p q v = by_sign (less (whole v) (record { num = p; den = q })) (λ r. Equals r (record { num = cut_num p q v; den = q }))

@@ -9,7 +9,8 @@ use Rattle.ice_defs.specs.Cut.{cut_sum, IsPayable, IsCut}
 use Rattle.ice_frac.proofs.Ring.{diff, is_diff, diff_same, diff_pos, diffs, scale_le}
 use Rattle.ice_frac.proofs.Fractions.{AtMost-left, AtMost-trans, AtMost_from_Equals}
 use Rattle.ice_threshold.specs.Level.{level_part, level_one, level_sum, level_count, asked_cut}
-use Rattle.ice_threshold.proofs.CutSum.{cut_num, cut_sum_is, proper-cut_sum, times_one, zero_times}
+use Rattle.ice_threshold.specs.CutOff.{cut_num}
+use Rattle.ice_threshold.proofs.CutSum.{cut_sum_is, proper-cut_sum, times_one, zero_times}
 
 -- ---- a loop's step
 
@@ -107,8 +108,9 @@ asked_at_most vickrey total other pay i =
     let x : ℤ = slice_index_or vickrey i (pos 0) in
     let all : ℤ = sum_over (cut_num other.num other.den) vickrey in
     let paid : AtMost (record { num = all; den = other.den }) (whole total) =
-        AtMost-left (cut_sum other vickrey) (record { num = all; den = other.den }) (whole total) (proper-cut_sum other vickrey pay.proper) (cut_sum_is other.num other.den pay.proper vickrey) pay.paid in
+    AtMost-left (cut_sum other vickrey) (record { num = all; den = other.den }) (whole total) (proper-cut_sum other vickrey pay.proper) (cut_sum_is other.num other.den pay.proper vickrey) pay.paid in
     omega (arith, ints, paid, times_one all, left_at_most other.num other.den x vickrey, less_times (level_sum x vickrey) total other.den)
+
 -- ---- the least discount above a cut
 
 at_each : (P : ℕ → Type 0) (n : ℕ) → P zero → ((k : ℕ) → k < n → P (suc k)) → (k : ℕ) → k < suc n → P k
@@ -118,7 +120,7 @@ at_each P n first more (suc k) l = more k (omega arith)
 pub data Lowest (p : ℤ) (q : ℕ) (vs : List ℤ) : Type 0 where
   none_above : ((i : ℕ) → i < length vs → (slice_index_or vs i (pos 0) *ℤ pos q) ≤ℤ p) → Lowest p q vs
   lowest_at : (i : ℕ) → i < length vs → p <ℤ (slice_index_or vs i (pos 0) *ℤ pos q)
-    → ((k : ℕ) → k < length vs → p <ℤ (slice_index_or vs k (pos 0) *ℤ pos q) → slice_index_or vs i (pos 0) ≤ℤ slice_index_or vs k (pos 0)) → Lowest p q vs
+      → ((k : ℕ) → k < length vs → p <ℤ (slice_index_or vs k (pos 0) *ℤ pos q) → slice_index_or vs i (pos 0) ≤ℤ slice_index_or vs k (pos 0)) → Lowest p q vs
 
 lowest_more : (p : ℤ) (q : ℕ) (v : ℤ) (vs : List ℤ) → Lowest p q vs → (p <ℤ (v *ℤ pos q)) ⊎ ((v *ℤ pos q) ≤ℤ p) → Lowest p q (v ∷ vs)
 lowest_more p q v vs (none_above n) (inl a) = lowest_at zero (omega arith) a (at_each (λ k. p <ℤ (slice_index_or (v ∷ vs) k (pos 0) *ℤ pos q) → v ≤ℤ slice_index_or (v ∷ vs) k (pos 0)) (length vs) (λ h. omega (arith, ints)) (λ k l h. absurd (omega (arith, ints, n k l, h))))

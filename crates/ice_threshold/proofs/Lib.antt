@@ -1,3 +1,4 @@
 pub mod CutSum
 pub mod OneCut
 pub mod Levels
+pub mod Paid

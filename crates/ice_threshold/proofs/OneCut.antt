@@ -11,9 +11,9 @@ use Rattle.ice_defs.specs.Threshold.{vickrey_of, AreDiscounts, shortfall, IsNoWo
 use Rattle.ice_defs.specs.Cut.{cut_down, cut_sum, IsPayable, IsCut}
 use Rattle.ice_frac.proofs.Ring.{diff, is_diff, diff_same, diff_pos, diffs, scale_le, cancel_le}
 use Rattle.ice_frac.proofs.Fractions.{Equals-trans, Equals-plus, plus-same_den, Equals-num, Equals-whole, AtMost-trans, AtMost_from_Equals, AtMost_total, AtMost-left, AtMost-right, AtMost-plus, AtMost-swap, Equals_from_AtMost}
-use Rattle.ice_threshold.specs.CutOff.{IsCutDown, AreCutDown}
+use Rattle.ice_threshold.specs.CutOff.{IsCutDown, AreCutDown, cut_num}
 use Rattle.ice_threshold.specs.Laws.{CutIsThreshold, CutDownIsThreshold}
-use Rattle.ice_threshold.proofs.CutSum.{cut_down_is, at_least_0-low, at_least_0-above, at_least_0-least, cut_num, cut_sum_is, proper-cut_down, proper-cut_sum, times_one, zero_times}
+use Rattle.ice_threshold.proofs.CutSum.{cut_down_is, at_least_0-low, at_least_0-above, at_least_0-least, cut_sum_is, proper-cut_down, proper-cut_sum, times_one, zero_times}
 
 -- ---- lists of fractions
 
@@ -79,10 +79,10 @@ greatest_step f n proper g = by (AtMost_total (f g.place) (f n))
   where
     by : AtMost (f g.place) (f n) ⊎ AtMost (f n) (f g.place) → Greatest f (suc n)
     by (inl p) = record {
-        place = n;
-        within = omega arith;
-        most = last_or (λ k. AtMost (f k) (f n)) n (λ k l. AtMost-trans (f k) (f g.place) (f n) (proper g.place (omega (arith, g.within))) (g.most k l) p) (AtMost-refl (f n));
-      }
+      place = n;
+      within = omega arith;
+      most = last_or (λ k. AtMost (f k) (f n)) n (λ k l. AtMost-trans (f k) (f g.place) (f n) (proper g.place (omega (arith, g.within))) (g.most k l) p) (AtMost-refl (f n));
+    }
     by (inr p) = record { place = g.place; within = omega (arith, g.within); most = last_or (λ k. AtMost (f k) (f g.place)) n g.most p }
 
 pub greatest : (f : ℕ → Fraction) (n : ℕ) → 0 < n → ((k : ℕ) → k < n → IsFraction (f k)) → Greatest f n
@@ -95,7 +95,7 @@ greatest f (suc (suc n)) h proper = greatest_step f (suc n) proper (greatest f (
 less_low : (v : ℤ) (d : Fraction) → AtMost d (whole v) → AtMost (whole (pos 0)) (less (whole v) d)
 less_low v d p = omega (arith, ints, p, times_one d.num, zero_times (1 * d.den), times_one (v *ℤ pos d.den +ℤ neg_ℤ d.num *ℤ pos 1), times_one (neg_ℤ d.num))
 
-proper_less : (v : ℤ) (d : Fraction) → IsFraction d → IsFraction (less (whole v) d)
+pub proper_less : (v : ℤ) (d : Fraction) → IsFraction d → IsFraction (less (whole v) d)
 proper_less v d h = subst (λ x. 0 < x) (sym (one-mul d.den)) h
 
 -- what the others leave is at least what the cut at their greatest shortfall leaves
@@ -105,7 +105,7 @@ payable vickrey total others a paid g =
     let v : ℕ → ℤ = λ i. slice_index_or vickrey i (pos 0) in
     let cut : Fraction = shortfall vickrey others g.place in
     let each : (i : ℕ) → i < length vickrey → AtMost (cut_down cut (v i)) (fraction_at others i) =
-        λ i l. at_least_0-least (less (whole (v i)) cut) (fraction_at others i) (a.low i l) (AtMost-swap (whole (v i)) (fraction_at others i) cut (g.most i l)) in
+    λ i l. at_least_0-least (less (whole (v i)) cut) (fraction_at others i) (a.low i l) (AtMost-swap (whole (v i)) (fraction_at others i) cut (g.most i l)) in
     let proper : IsFraction (sum_of others) = proper-sum_of others (λ i l. a.proper i (subst (λ n. i < n) a.same_length l)) in
     record {
       proper = proper_less (v g.place) (fraction_at others g.place) (a.proper g.place g.within);
@@ -174,14 +174,14 @@ not_least vickrey total p q c above under =
     let scaled : ((sum_over (cut_num p q) vickrey +ℤ pos 1) *ℤ pos n) ≤ℤ ((total *ℤ pos q) *ℤ pos n) = scale_le n _ _ (omega (arith, ints)) in
     let one_n : pos 1 *ℤ pos n ≡ pos n = ap pos (one-mul n) in
     let sum_low : sum_over (cut_num less_num (q * n)) vickrey ≤ℤ (total *ℤ pos (q * n)) =
-        omega (arith, ints, finer_sum p q n vickrey, scaled, plus_times (sum_over (cut_num p q) vickrey) (pos 1) n, one_n, times_turn total q n) in
+    omega (arith, ints, finer_sum p q n vickrey, scaled, plus_times (sum_over (cut_num p q) vickrey) (pos 1) n, one_n, times_turn total q n) in
     let num_low : pos 0 ≤ℤ less_num = omega (arith, ints, scale_le n (pos 1) p (omega (arith, ints)), one_n) in
     let payable : IsPayable vickrey total other = record {
-        proper = proper;
-        low = omega (arith, ints, num_low, times_one less_num, zero_times (q * n));
-        paid = AtMost-left (record { num = sum_over (cut_num less_num (q * n)) vickrey; den = q * n }) (cut_sum other vickrey) (whole total) proper (sym (cut_sum_is less_num (q * n) proper vickrey))
-            (omega (arith, ints, sum_low, times_one (sum_over (cut_num less_num (q * n)) vickrey)));
-      } in
+      proper = proper;
+      low = omega (arith, ints, num_low, times_one less_num, zero_times (q * n));
+      paid = AtMost-left (record { num = sum_over (cut_num less_num (q * n)) vickrey; den = q * n }) (cut_sum other vickrey) (whole total) proper (sym (cut_sum_is less_num (q * n) proper vickrey))
+          (omega (arith, ints, sum_low, times_one (sum_over (cut_num less_num (q * n)) vickrey)));
+    } in
     let least : AtMost (record { num = p; den = q }) other = c.least other payable in
     omega (arith, ints, least, smaller p (pos 1) q n, ap pos (one-mul q), c.payable.proper)
 
@@ -212,11 +212,11 @@ uncut : (vickrey : List ℤ) (total p : ℤ) (q : ℕ) → AllByRecursion (λ v.
 uncut vickrey total p q low c under =
     let sum : ℤ = sum_over (cut_num (pos 0) 1) vickrey in
     let payable : IsPayable vickrey total (whole (pos 0)) = record {
-        proper = omega arith;
-        low = omega (arith, ints);
-        paid = AtMost-left (record { num = sum; den = 1 }) (cut_sum (whole (pos 0)) vickrey) (whole total) (omega arith) (sym (cut_sum_is (pos 0) 1 (omega arith) vickrey))
-            (omega (arith, ints, under, whole_sum vickrey low, times_one sum, times_one total));
-      } in
+      proper = omega arith;
+      low = omega (arith, ints);
+      paid = AtMost-left (record { num = sum; den = 1 }) (cut_sum (whole (pos 0)) vickrey) (whole total) (omega arith) (sym (cut_sum_is (pos 0) 1 (omega arith) vickrey))
+          (omega (arith, ints, under, whole_sum vickrey low, times_one sum, times_one total));
+    } in
     omega (arith, ints, c.least (whole (pos 0)) payable, times_one p, zero_times q, cut_low vickrey total p q c)
 
 pub granted : (vickrey : List ℤ) (total p : ℤ) (q : ℕ) → AllByRecursion (λ v. pos 0 ≤ℤ v) vickrey → IsCut vickrey total (record { num = p; den = q }) → sum_over (λ v. v) vickrey <ℤ total
@@ -238,13 +238,13 @@ cut_down_is_threshold vickrey total cut ds low rich c h =
     let v_low : (i : ℕ) → i < length vickrey → pos 0 ≤ℤ slice_index_or vickrey i (pos 0) = at_recursion (λ v. pos 0 ≤ℤ v) vickrey low in
     record {
       within = record {
-          same_length = AreCutDown-length cut ds vickrey h;
-          proper = λ i l. (is i l).proper;
-          low = λ i l. let v : ℤ = slice_index_or vickrey i (pos 0) in
-              AtMost-right (whole (pos 0)) (cut_down cut v) (fraction_at ds i) (proper-cut_down cut v c.payable.proper) (sym (is i l).equal) (at_least_0-low (less (whole v) cut));
-          high = λ i l. let v : ℤ = slice_index_or vickrey i (pos 0) in
-              AtMost-left (cut_down cut v) (fraction_at ds i) (whole v) (proper-cut_down cut v c.payable.proper) (sym (is i l).equal) (high v cut.num cut.den (v_low i l) (cut_low vickrey total cut.num cut.den c));
-        };
+        same_length = AreCutDown-length cut ds vickrey h;
+        proper = λ i l. (is i l).proper;
+        low = λ i l. let v : ℤ = slice_index_or vickrey i (pos 0) in
+            AtMost-right (whole (pos 0)) (cut_down cut v) (fraction_at ds i) (proper-cut_down cut v c.payable.proper) (sym (is i l).equal) (at_least_0-low (less (whole v) cut));
+        high = λ i l. let v : ℤ = slice_index_or vickrey i (pos 0) in
+            AtMost-left (cut_down cut v) (fraction_at ds i) (whole v) (proper-cut_down cut v c.payable.proper) (sym (is i l).equal) (high v cut.num cut.den (v_low i l) (cut_low vickrey total cut.num cut.den c));
+      };
       spent = λ enough. Equals-trans (sum_of ds) (cut_sum cut vickrey) (whole total) (proper-cut_sum cut vickrey c.payable.proper) (AreCutDown-sum cut ds vickrey h) (spent vickrey total cut.num cut.den c enough);
       granted = λ under i l. let v : ℤ = slice_index_or vickrey i (pos 0) in
           Equals-trans (fraction_at ds i) (cut_down cut v) (whole v) (proper-cut_down cut v c.payable.proper) (is i l).equal (granted vickrey total cut.num cut.den low c under v (v_low i l));

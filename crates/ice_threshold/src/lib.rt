@@ -7,3 +7,4 @@ mod payments;
 mod ratio;
 
 pub use laws::{cut_down_is_threshold, cut_is_threshold};
+pub use payments::{NoMemory, Payments, threshold};

@@ -1,5 +1,5 @@
 //! Small fractions that aren't in lowest terms.
-ghost use Rattle.std.specs.Prelude.{◌≡◌, ◌<◌, ◌≤◌, ◌^◌, ◌*ℤ◌, pos, unsigned_abs};
+ghost use Rattle.std.specs.Prelude.{◌≡◌, ◌<◌, ◌≤◌, ◌*◌, ◌^◌, ◌*ℤ◌, pos, unsigned_abs};
 ghost use Rattle.ice_defs.specs.Fraction.{Fraction, AtMost, IsFraction, Equals};
 
 use ice_frac::Frac;
@@ -26,7 +26,8 @@ impl Model for Ratio {
 pub(crate) fn scaled(number: i128, den: u64) -> i128
     requires sized { unsigned_abs number ≤ 2 ^ 57 }
     requires small { den ≤ 40 }
-    ensures { result ≡ number *ℤ pos den }
+    ensures value { result ≡ number *ℤ pos den }
+    ensures size { unsigned_abs result ≤ 2 ^ 57 * 40 }
 {
     number * den as i128
 }
@@ -55,5 +56,15 @@ pub(crate) fn fraction(num: i128, den: u64) -> Frac
     match Frac::new(num, den as i128) {
         Some(fraction) => fraction,
         None => unreachable!(),
+    }
+}
+
+impl Ratio {
+    /// The ratio in lowest terms.
+    pub(crate) fn reduced(self) -> Frac
+        ensures equal { Equals result self }
+        ensures proper { IsFraction result }
+    {
+        fraction(self.num, self.den)
     }
 }

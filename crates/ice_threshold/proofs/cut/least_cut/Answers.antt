@@ -36,6 +36,6 @@ returns c =
     let cut : Fraction = c.loop-at.cut in
     let ended : length c.args.vickrey.now ≤ c.loop-at.at = search rules in
     subst (λ (t : ℤ). IsCut vs t cut) same (record {
-        payable = payable_from_asked vs total cut rich c.loop-at.invariant.proper c.loop-at.invariant.low (λ i l. c.loop-at.invariant.asked i (omega arith));
-        least = c.loop-at.invariant.least;
-      })
+      payable = payable_from_asked vs total cut rich c.loop-at.invariant.proper c.loop-at.invariant.low (λ i l. c.loop-at.invariant.asked i (omega arith));
+      least = c.loop-at.invariant.least;
+    })
