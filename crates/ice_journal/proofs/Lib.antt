@@ -9,3 +9,4 @@ pub mod Numbers
 pub mod Journals
 pub mod Counted
 pub mod Numerators
+pub mod Joined

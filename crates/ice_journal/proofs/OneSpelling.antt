@@ -131,7 +131,6 @@ fraction_same f g p q e =
     let den = decimal_same f.den g.den (omega (arith, p.den.1)) (omega (arith, q.den.1)) cut.1 in
     λ i. record { num = num i; den = den i }
 
-
 abbrev version_from : List ℕ → Option line.Version
 version_from text =
     cond (bytes_eq text (codes "1")) (Some line.version_1) (

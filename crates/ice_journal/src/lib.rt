@@ -14,7 +14,7 @@ mod words;
 mod write;
 
 pub use laws::{bytes_tell_journals, texts_tell_records};
-pub use line::{Change, EndWord, Kind, Line, LimitKind, LowestFraction, Stage, Version};
+pub use line::{Change, EndWord, Kind, LimitKind, Line, LowestFraction, Stage, Version};
 pub use lines::{LinesEnd, read_lines};
 pub use record::read_record;
 pub use write::write_record;

@@ -69,7 +69,10 @@ pub struct LowestFraction {
 #[derive(Drop)]
 pub enum Line {
     /// `ice VERSION KIND`. Version 2 is of a regret or a session.
-    Head { version: Version, kind: Kind },
+    Head {
+        version: Version,
+        kind: Kind,
+    },
     /// `settings W C P I R B`.
     Settings(Settings),
     /// `good NAME`, with free disposal.
@@ -77,7 +80,10 @@ pub enum Line {
     /// `exact NAME`, a good without disposal.
     Exact(Name),
     /// `bidder NAME O ..`: 1 to 32 owned amounts of at most 1,000,000, one per good.
-    Bidder { name: Name, own: ArrayVec<u32, 32> },
+    Bidder {
+        name: Name,
+        own: ArrayVec<u32, 32>,
+    },
     /// `node choose L M N LO HI`: least, most and number of children, each at most 199; values of at most 10^9 in size.
     Choose {
         least: u16,
@@ -103,33 +109,56 @@ pub enum Line {
     /// `assign`.
     Assign,
     /// `settle R`: a settlement of at most 20.
-    Settle { number: u8 },
+    Settle {
+        number: u8,
+    },
     /// `final V`: a value of at most 4 * 10^14 in size.
-    Final { value: i64 },
+    Final {
+        value: i64,
+    },
     /// `rival V`, with the limits of `Final`.
-    Rival { value: i64 },
+    Rival {
+        value: i64,
+    },
     /// `provisional V`, in hundredths, with the limits of `Final`.
-    Provisional { value: i64 },
+    Provisional {
+        value: i64,
+    },
     /// `without B V`: a bidder of at most 39, a value with the limits of `Final`.
-    Without { bidder: u8, value: i64 },
+    Without {
+        bidder: u8,
+        value: i64,
+    },
     /// `set BITS`: 1 to 200 bits.
     Set(NodeSet),
     /// `branch B N`: a bidder of at most 39, a node of at most 199.
-    Branch { bidder: u8, node: u16 },
+    Branch {
+        bidder: u8,
+        node: u16,
+    },
     /// `leaf M ..`: 1 to 32 multipliers from -2^56 to 2^56.
     Leaf(ArrayVec<i64, 32>),
     /// `dead B`: a bidder of at most 39.
-    Dead { bidder: u8 },
+    Dead {
+        bidder: u8,
+    },
     /// `near K G M ..`: at most 32 changes, their goods strictly ascending.
     Near(ArrayVec<Change, 32>),
     /// `regret A`: from 0 to 4 * 10^14.
-    Regret { amount: i64 },
+    Regret {
+        amount: i64,
+    },
     /// `prices D N ..`.
     Prices(Prices),
     /// `accuracy X D`: a violation from 0 to 2^100 over a denominator from 1 to 2^32.
-    Accuracy { violation: i128, den: u64 },
+    Accuracy {
+        violation: i128,
+        den: u64,
+    },
     /// `balance D`: from 1 to 2^32.
-    Balance { den: u64 },
+    Balance {
+        den: u64,
+    },
     /// `row B W BITS`: a bidder of at most 39, a weight from 1 to 2^32, 1 to 200 bits.
     Row {
         bidder: u8,
@@ -157,7 +186,10 @@ pub enum Line {
         payment: LowestFraction,
     },
     /// `spent V X`: a value with the limits of `Final`, and any bound.
-    Spent { value: i64, bound: i128 },
+    Spent {
+        value: i64,
+        bound: i128,
+    },
     /// `limit STAGE KIND X D`, with the limits of `Accuracy`.
     Limit {
         stage: Stage,
@@ -166,7 +198,10 @@ pub enum Line {
         den: u64,
     },
     /// `pool B BITS`: a bidder of at most 39, 1 to 200 bits.
-    Pool { bidder: u8, set: NodeSet },
+    Pool {
+        bidder: u8,
+        set: NodeSet,
+    },
     /// `end WORD`.
     End(EndWord),
     /// `refused F N PLACE`: a file from 1 to 21, a number from 1 to 99, a place of 1 to 256 letters, digits, `_`, `-`
@@ -177,5 +212,7 @@ pub enum Line {
         place: ArrayVec<u8, 256>,
     },
     /// `unread F`: a file from 1 to 21.
-    Unread { file: u8 },
+    Unread {
+        file: u8,
+    },
 }

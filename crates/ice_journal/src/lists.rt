@@ -76,7 +76,11 @@ fn one_change(fields: &mut Fields<'_>, least: u64) -> Option<Change>
     ensures { ReadsFront (option_map change_of result) (λ change. (least ≤ change.good) × IsChange change) change_fields fields.old fields.new }
 {
     let good = natural(fields.next()?, least, 31)? as u8;
-    let multiplier = integer(fields.next()?, -72_057_594_037_927_936, 72_057_594_037_927_936)?;
+    let multiplier = integer(
+        fields.next()?,
+        -72_057_594_037_927_936,
+        72_057_594_037_927_936,
+    )?;
     Some(Change { good, multiplier })
 }
 

@@ -7,7 +7,9 @@ use crate::rows;
 use ice_line::Fields;
 
 const TOTAL: i64 = 400_000_000_000_000;
+
 const MULTIPLIER: i64 = 72_057_594_037_927_936;
+
 const DEN: u64 = 4_294_967_296;
 
 /// The record of these fields behind `ice`.
@@ -55,7 +57,13 @@ pub fn choose_record(fields: Fields<'_>) -> Option<Line>
     ensures { FindsAfter (codes "node" ∷ codes "choose" ∷ []) result fields.entry }
 {
     let (least, most, children, lo, hi) = rows::choose(fields)?;
-    Some(Line::Choose { least, most, children, lo, hi })
+    Some(Line::Choose {
+        least,
+        most,
+        children,
+        lo,
+        hi,
+    })
 }
 
 /// The record of these fields behind `node buy`.
@@ -63,7 +71,12 @@ pub fn buy_record(fields: Fields<'_>) -> Option<Line>
     ensures { FindsAfter (codes "node" ∷ codes "buy" ∷ []) result fields.entry }
 {
     let (good, units, lo, hi) = rows::leaf(fields)?;
-    Some(Line::Buy { good, units, lo, hi })
+    Some(Line::Buy {
+        good,
+        units,
+        lo,
+        hi,
+    })
 }
 
 /// The record of these fields behind `node sell`.
@@ -71,7 +84,12 @@ pub fn sell_record(fields: Fields<'_>) -> Option<Line>
     ensures { FindsAfter (codes "node" ∷ codes "sell" ∷ []) result fields.entry }
 {
     let (good, units, lo, hi) = rows::leaf(fields)?;
-    Some(Line::Sell { good, units, lo, hi })
+    Some(Line::Sell {
+        good,
+        units,
+        lo,
+        hi,
+    })
 }
 
 /// The record of these fields behind `assign`.
@@ -87,7 +105,9 @@ pub fn settle_record(fields: Fields<'_>) -> Option<Line>
     ensures { FindsAfter (codes "settle" ∷ []) result fields.entry }
 {
     let number = rows::one_natural(fields, 0, 20)?;
-    Some(Line::Settle { number: number as u8 })
+    Some(Line::Settle {
+        number: number as u8,
+    })
 }
 
 /// The record of these fields behind `final`.
@@ -151,7 +171,9 @@ pub fn dead_record(fields: Fields<'_>) -> Option<Line>
     ensures { FindsAfter (codes "dead" ∷ []) result fields.entry }
 {
     let bidder = rows::one_natural(fields, 0, 39)?;
-    Some(Line::Dead { bidder: bidder as u8 })
+    Some(Line::Dead {
+        bidder: bidder as u8,
+    })
 }
 
 /// The record of these fields behind `near`.
@@ -199,7 +221,11 @@ pub fn row_record(fields: Fields<'_>) -> Option<Line>
     ensures { FindsAfter (codes "row" ∷ []) result fields.entry }
 {
     let (bidder, weight, set) = rows::weighted_set(fields)?;
-    Some(Line::Row { bidder, weight, set })
+    Some(Line::Row {
+        bidder,
+        weight,
+        set,
+    })
 }
 
 /// The record of these fields behind `submit`.
@@ -231,7 +257,12 @@ pub fn payment_record(fields: Fields<'_>) -> Option<Line>
     ensures { FindsAfter (codes "payment" ∷ []) result fields.entry }
 {
     let (name, vickrey, discount, payment) = rows::payment(fields)?;
-    Some(Line::Payment { name, vickrey, discount, payment })
+    Some(Line::Payment {
+        name,
+        vickrey,
+        discount,
+        payment,
+    })
 }
 
 /// The record of these fields behind `spent`.
@@ -247,7 +278,12 @@ pub fn limit_record(fields: Fields<'_>) -> Option<Line>
     ensures { FindsAfter (codes "limit" ∷ []) result fields.entry }
 {
     let (stage, kind, violation, den) = rows::limit(fields)?;
-    Some(Line::Limit { stage, kind, violation, den })
+    Some(Line::Limit {
+        stage,
+        kind,
+        violation,
+        den,
+    })
 }
 
 /// The record of these fields behind `pool`.
@@ -271,7 +307,11 @@ pub fn refused_record(fields: Fields<'_>) -> Option<Line>
     ensures { FindsAfter (codes "refused" ∷ []) result fields.entry }
 {
     let (file, number, place) = rows::refused(fields)?;
-    Some(Line::Refused { file, number, place })
+    Some(Line::Refused {
+        file,
+        number,
+        place,
+    })
 }
 
 /// The record of these fields behind `unread`.

@@ -8,7 +8,10 @@ ghost use Rattle.ice_journal.specs.Spelling.{bits, fraction_text, version_word, 
 ghost use Rattle.ice_journal.specs.Lines.{version_of, kind_of, end_of, head_of, bidder_of, threshold_of, payment_of, limit_row_of, refused_of};
 
 use crate::fractions::lowest_fraction;
-use crate::items::{bound_number, file_place, journal_kind, last_word, limit_kind, node_bits, pricing_stage, version, violation_number};
+use crate::items::{
+    bound_number, file_place, journal_kind, last_word, limit_kind, node_bits, pricing_stage,
+    version, violation_number,
+};
 use crate::line::{EndWord, Kind, LimitKind, LowestFraction, Stage, Version};
 use crate::lists::{amounts, integers};
 use arrayvec::ArrayVec;
@@ -19,7 +22,9 @@ use ice_terms::{Name, Prices, Settings};
 
 // The greatest size of a value of a node, of a total, and of a multiplier, and the greatest denominator.
 const VALUE: i64 = 1_000_000_000;
+
 const TOTAL: i64 = 400_000_000_000_000;
+
 const DEN: u64 = 4_294_967_296;
 
 /// One number from `least` to `most`.

@@ -6,7 +6,7 @@ ghost use Rattle.ice_journal.specs.Ranges.{IsRecord, IsValue};
 ghost use Rattle.ice_journal.specs.Spelling.{text_of, version_word, kind_word, end_word, stage_word, limit_word, bits, change_fields, fraction_text, counted, verdict_fields};
 ghost use Rattle.ice_journal.specs.Lines.{record_of, version_of, kind_of, end_of, stage_of, limit_of, change_of, fraction_of};
 
-use crate::line::{Change, EndWord, Kind, Line, LimitKind, LowestFraction, Stage, Version};
+use crate::line::{Change, EndWord, Kind, LimitKind, Line, LowestFraction, Stage, Version};
 use arrayvec::ArrayVec;
 use ice_defs::Verdict;
 use ice_line::LineWriter;

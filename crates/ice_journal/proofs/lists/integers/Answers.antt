@@ -15,8 +15,8 @@ returns-in_err-integer c =
     let P = IsBetween c.args.least c.args.most in
     let items : AllByRecursion (IsBetween c.args.least c.args.most) c.loop-field.numbers.items = rw (least, most) at c.loop-field.invariant.1 in
     rw c.from_residual.ensures (λ numbers lawful e.
-        let found = front_of_all P signed_decimal (within_same c.args.least c.args.most c.ranges.least.sfits c.ranges.most.sfits) c.loop-field.numbers.items numbers c.loop-field.fields items lawful.1 (sym c.loop-field.invariant.0 ∙ e) in
-        no_element P signed_decimal found.0 c.in-Some.field.now c.next.new.self found.2 (sym c.in-Some.ensures ∙ found.3) (rw (least, most) at c.in_err-integer.ensures))
+    let found = front_of_all P signed_decimal (within_same c.args.least c.args.most c.ranges.least.sfits c.ranges.most.sfits) c.loop-field.numbers.items numbers c.loop-field.fields items lawful.1 (sym c.loop-field.invariant.0 ∙ e) in
+    no_element P signed_decimal found.0 c.in-Some.field.now c.next.new.self found.2 (sym c.in-Some.ensures ∙ found.3) (rw (least, most) at c.in_err-integer.ensures))
 
 pub loop-field-preserved : goal.loop-field-preserved
 loop-field-preserved c =
