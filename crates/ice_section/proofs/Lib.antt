@@ -10,3 +10,4 @@ pub mod Retaking
 pub mod Describing
 pub mod Keeping
 pub mod Reaching
+pub mod Carrying
