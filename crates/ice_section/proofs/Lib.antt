@@ -11,3 +11,5 @@ pub mod Describing
 pub mod Keeping
 pub mod Reaching
 pub mod Carrying
+pub mod Holding
+pub mod Noding

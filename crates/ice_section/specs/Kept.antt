@@ -5,7 +5,7 @@ use Rattle.ice_defs.specs.declared.NodeKind.{NodeKind}
 use Rattle.ice_defs.specs.declared.NodeKind.TheVariants.{Choose, Buy, Sell}
 use Rattle.ice_defs.specs.Tree.{Tree, kind_of, children_of}
 use Rattle.ice_defs.specs.Making.{node_refusal}
-use Rattle.ice_defs.specs.Exchange.{Bidder}
+use Rattle.ice_defs.specs.Exchange.{Bidder, Exchange}
 use Rattle.ice_tree.specs.Making.{Making}
 use Rattle.ice_journal.specs.Records.{Record}
 use Rattle.ice_journal.specs.Ranges.{IsRecord}
@@ -77,3 +77,22 @@ abbrev pub draft_after : Drafting → NodeKind → ℕ → ℤ → ℤ → Resul
 draft_after d kind children lo hi =
     node_made (node_refusal d.goods (length d.draft.bidder.tree) (suc (length d.draft.opened)) kind lo hi)
     (with_node d.draft.bidder d.draft.opened kind lo hi) (open_after kind (length d.draft.bidder.tree) children d.draft.opened)
+
+-- ---- a section from its two makers
+
+abbrev pub drafts_of : Option Drafting → Option Draft
+drafts_of None = None
+drafts_of (Some d) = Some d.draft
+
+abbrev pub section_from : Option Exchange → Option Drafting → Section
+section_from None drafting = record { settings = None; goods = []; bidders = []; draft = drafts_of drafting }
+section_from (Some ex) drafting = record { settings = Some ex.settings; goods = ex.goods; bidders = ex.bidders; draft = drafts_of drafting }
+
+abbrev pub CountsGoods : ℕ → Option Drafting → Type 0
+CountsGoods goods None = Unit {0}
+CountsGoods goods (Some d) = goods ≡ d.goods
+
+-- some lawful records lead to it, and the incomplete bidder is over its goods
+pub record IsHeld (made : Option Exchange) (drafting : Option Drafting) : Type 0 where
+  pub reached : IsReached (section_from made drafting)
+  pub counted : CountsGoods (length (section_from made drafting).goods) drafting

@@ -10,7 +10,7 @@ ghost use Rattle.ice_section.specs.Kept.{open_nodes, AreKept, IsDrafting, draft_
 use arrayvec::ArrayVec;
 use ice_defs::NodeKind;
 use ice_terms::Name;
-use ice_tree::{TreeFault, TreeMaker};
+use ice_tree::{Bounds, Tree, TreeFault, TreeMaker};
 use std::marker::Model;
 
 /// A bidder with the nodes of its tree so far, and for each open node, from the root down, the number of children that are still to come.
@@ -101,10 +101,48 @@ impl Draft {
         Ok(())
     }
 
+    /// Adds a node of this kind, whose record states so many children where it is a choose node.
+    pub(crate) fn node(
+        &mut self,
+        kind: NodeKind,
+        children: u16,
+        lo: i64,
+        hi: i64,
+    ) -> Result<(), TreeFault>
+        requires { IsDrafting self.old }
+        ensures taken { OnOk result ((self.old.goods ≡ self.new.goods) × (draft_after self.old kind children lo hi ≡ Found self.new.draft)) }
+        ensures refused { IfErr result (λ fault. draft_after self.old kind children lo hi ≡ Refused (of_maker (tree_fault_number fault))) }
+    {
+        match kind {
+            NodeKind::Choose { least, most } => self.choose(least, most, children, lo, hi),
+            NodeKind::Buy { .. } | NodeKind::Sell { .. } => self.leaf(kind, lo, hi),
+        }
+    }
+
     /// Whether no node is open.
     pub(crate) fn is_closed(&self) -> bool
         ensures { result ≡ (length self.now.draft.opened == 0) }
     {
         self.to_come.is_empty()
+    }
+
+    /// The bidder: its name, its owned amounts, its tree and the bounds of its nodes. It takes no memory.
+    pub(crate) fn finish(self) -> (Name, ArrayVec<u32, 32>, Tree, Bounds)
+        requires closed { self.draft.opened ≡ [] }
+        requires some { 0 < length self.draft.bidder.tree }
+        ensures bidder { self.draft.bidder ≡ record { name = result.0; own = result.1.items; tree = result.2; bounds = result.3 } }
+        ensures tree { IsLimitedTree self.goods result.2 }
+        ensures bounds { AreBounds (length result.2) result.3 }
+    {
+        let Draft {
+            name,
+            own,
+            maker,
+            to_come: _,
+        } = self;
+        let Ok((tree, bounds)) = maker.finish() else {
+            unreachable!()
+        };
+        (name, own, tree, bounds)
     }
 }

@@ -2,4 +2,9 @@
 #![tactic(auto)]
 
 mod draft;
+mod faults;
 pub mod laws;
+mod section;
+
+pub use faults::{NoMemory, SectionFault};
+pub use section::Section;
