@@ -46,7 +46,7 @@ new_among name (y ∷ xs) x ys distinct =
 goods_at : Settings → List Good → Section
 goods_at settings goods = record { settings = Some settings; goods = goods; bidders = []; draft = None }
 
-take_as_good : (s : Section) (name : List ℕ) (exact : Bool) → take_record s (cond exact (line.exact name) (line.good name)) ≡ take_good s (record { name = name; exact = exact })
+pub take_as_good : (s : Section) (name : List ℕ) (exact : Bool) → take_record s (cond exact (line.exact name) (line.good name)) ≡ take_good s (record { name = name; exact = exact })
 take_as_good s name true = refl
 take_as_good s name false = refl
 

@@ -10,3 +10,6 @@ pub mod Retaking
 pub mod Describing
 pub mod Keeping
 pub mod Reaching
+pub mod Carrying
+pub mod Holding
+pub mod Noding

@@ -3,4 +3,5 @@ pub mod Described
 pub mod Taking
 pub mod Laws
 pub mod Kept
+pub mod Refusal
 pub mod LineFile
