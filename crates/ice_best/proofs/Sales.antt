@@ -43,7 +43,7 @@ Contains-filter {X} p (y ∷ ys) x passes (suc k, h, e) = by (p y) (Contains-fil
     by false there = there
 
 -- each set stands in the list of all sets
-all_sets-has : (s : NodeSet) → Contains (all_sets (length s)) s
+pub all_sets-has : (s : NodeSet) → Contains (all_sets (length s)) s
 unfolding all_sets
 all_sets-has [] = (0, omega arith, refl)
 all_sets-has (true ∷ s) = Contains-append_right (map (λ r. false ∷ r) (all_sets (length s))) _ (true ∷ s) (Contains-map (λ r. true ∷ r) (all_sets (length s)) s (all_sets-has s))
