@@ -3,3 +3,4 @@ pub mod Gcd
 pub mod Lowest
 pub mod Fractions
 pub mod FieldLaws
+pub mod Rational

@@ -1,17 +1,14 @@
 //! Fractions in lowest terms.
-ghost use Rattle.std.specs.Prelude.{◌≡◌, ◌≢◌, ◌⊎◌, ◌↔◌, ◌<◌, ◌^◌, pos, ◌<ℤ◌, unsigned_abs, IfOk, IfSome, IsNone};
+ghost use Rattle.std.specs.Prelude.{◌≡◌, ◌≢◌, ◌⊎◌, ◌↔◌, ◌<◌, ◌*◌, ◌^◌, pos, ◌<ℤ◌, unsigned_abs, IfOk, IfSome, IsNone};
 ghost use Rattle.std.specs.Result.{result_ok};
 ghost use Rattle.std.specs.Ordering.{nat_cmp};
-ghost use Rattle.std.specs.Prelude.{◌*◌};
 ghost use Rattle.ice_defs.specs.Fraction.{Fraction, Equals, plus, less, times, negated};
 ghost use Rattle.ice_defs.specs.Frac.{lowest, add, sub, mul, div, reciprocal};
 ghost use Rattle.ice_frac.specs.Lowest.{IsLowest};
 ghost use Rattle.ice_frac.specs.Order.{order_of};
 
 use crate::euclid::common_divisor;
-use crate::narrow::{
-    Wide, divide, plus as plus_narrow, times as times_narrow, times_den, with_sign_of,
-};
+use crate::narrow::{Wide, den_product, product, quotient, sum, with_sign_of};
 use std::cmp::Ordering;
 use std::marker::Model;
 
@@ -42,7 +39,7 @@ fn reduce(num: i128, den: u128) -> Frac
 {
     let shared = common_divisor(num.unsigned_abs(), den);
     Frac {
-        num: divide(num, shared),
+        num: quotient(num, shared),
         den: den / shared,
     }
 }
@@ -123,67 +120,67 @@ impl Frac {
 
     /// The sum, exact. Wide exactly where one of the summands over the least common denominator, their sum or that
     /// denominator is out of range.
-    pub fn add(&self, o: &Frac) -> Result<Frac, Wide>
-        ensures exact { result_ok result ≡ add self.now o.now }
-        ensures equal { IfOk result (λ r. Equals r (plus self.now o.now)) }
+    pub fn add(&self, other: &Frac) -> Result<Frac, Wide>
+        ensures exact { result_ok result ≡ add self.now other.now }
+        ensures equal { IfOk result (λ r. Equals r (plus self.now other.now)) }
         ensures lowest { IfOk result IsLowest }
     {
-        let shared = common_divisor(self.den, o.den);
-        let left = times_narrow(self.num, (o.den / shared) as i128)?;
-        let right = times_narrow(o.num, (self.den / shared) as i128)?;
-        let num = plus_narrow(left, right)?;
-        let den = times_den(self.den, o.den / shared)?;
+        let shared = common_divisor(self.den, other.den);
+        let left = product(self.num, (other.den / shared) as i128)?;
+        let right = product(other.num, (self.den / shared) as i128)?;
+        let num = sum(left, right)?;
+        let den = den_product(self.den, other.den / shared)?;
         Ok(reduce(num, den))
     }
 
     /// The difference, exact. Wide exactly where the sum with the negated fraction is.
-    pub fn sub(&self, o: &Frac) -> Result<Frac, Wide>
-        ensures exact { result_ok result ≡ sub self.now o.now }
-        ensures equal { IfOk result (λ r. Equals r (less self.now o.now)) }
+    pub fn sub(&self, other: &Frac) -> Result<Frac, Wide>
+        ensures exact { result_ok result ≡ sub self.now other.now }
+        ensures equal { IfOk result (λ r. Equals r (less self.now other.now)) }
         ensures lowest { IfOk result IsLowest }
     {
-        self.add(&o.negated())
+        self.add(&other.negated())
     }
 
     /// The product, exact. Wide exactly where the product in lowest terms is out of range.
-    pub fn mul(&self, o: &Frac) -> Result<Frac, Wide>
-        ensures exact { result_ok result ≡ mul self.now o.now }
-        ensures equal { IfOk result (λ r. Equals r (times self.now o.now)) }
+    pub fn mul(&self, other: &Frac) -> Result<Frac, Wide>
+        ensures exact { result_ok result ≡ mul self.now other.now }
+        ensures equal { IfOk result (λ r. Equals r (times self.now other.now)) }
         ensures lowest { IfOk result IsLowest }
     {
-        let left = common_divisor(self.num.unsigned_abs(), o.den);
-        let right = common_divisor(o.num.unsigned_abs(), self.den);
-        let num = times_narrow(divide(self.num, left), divide(o.num, right))?;
-        let den = times_den(self.den / right, o.den / left)?;
+        let left = common_divisor(self.num.unsigned_abs(), other.den);
+        let right = common_divisor(other.num.unsigned_abs(), self.den);
+        let num = product(quotient(self.num, left), quotient(other.num, right))?;
+        let den = den_product(self.den / right, other.den / left)?;
         Ok(Frac { num, den })
     }
 
     /// The quotient by a divisor that isn't 0, exact. Wide exactly where the product with the reciprocal is.
-    pub fn div(&self, o: &Frac) -> Result<Frac, Wide>
-        requires { o.now.num ≢ pos 0 }
-        ensures exact { result_ok result ≡ div self.now o.now }
-        ensures equal { IfOk result (λ r. Equals (times r o.now) self.now) }
+    pub fn div(&self, other: &Frac) -> Result<Frac, Wide>
+        requires { other.now.num ≢ pos 0 }
+        ensures exact { result_ok result ≡ div self.now other.now }
+        ensures equal { IfOk result (λ r. Equals (times r other.now) self.now) }
         ensures lowest { IfOk result IsLowest }
     {
-        self.mul(&o.reciprocal())
+        self.mul(&other.reciprocal())
     }
 
     /// The order of two fractions, exact for every pair.
-    pub fn cmp(&self, o: &Frac) -> Ordering
-        ensures { result ≡ order_of self.now o.now }
+    pub fn cmp(&self, other: &Frac) -> Ordering
+        ensures { result ≡ order_of self.now other.now }
     {
         let left = self.num.unsigned_abs();
-        let right = o.num.unsigned_abs();
+        let right = other.num.unsigned_abs();
         if self.num < 0 {
-            if o.num < 0 {
-                compare_products(right, self.den, left, o.den)
+            if other.num < 0 {
+                compare_products(right, self.den, left, other.den)
             } else {
                 Ordering::Less
             }
-        } else if o.num < 0 {
+        } else if other.num < 0 {
             Ordering::Greater
         } else {
-            compare_products(left, o.den, right, self.den)
+            compare_products(left, other.den, right, self.den)
         }
     }
 }

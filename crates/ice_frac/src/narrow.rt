@@ -7,7 +7,7 @@ ghost use Rattle.ice_defs.specs.Frac.{num_fits, den_fits};
 pub struct Wide;
 
 /// The quotient, rounded toward 0.
-pub(crate) fn divide(n: i128, divisor: u128) -> i128
+pub(crate) fn quotient(n: i128, divisor: u128) -> i128
     requires positive { 0 < divisor }
     requires below { divisor < 2 ^ 127 }
     ensures { result ≡ int_div n (pos divisor) }
@@ -28,36 +28,36 @@ pub(crate) fn with_sign_of(number: i128, size: u128) -> i128
 }
 
 /// The product, where it is within 2^127 - 1 in size.
-pub(crate) fn times(a: i128, b: i128) -> Result<i128, Wide>
+pub(crate) fn product(a: i128, b: i128) -> Result<i128, Wide>
     ensures variant { is_ok result ≡ num_fits (a *ℤ b) }
     ensures value { IfOk result (λ r. r ≡ a *ℤ b) }
 {
     match a.checked_mul(b) {
-        Some(product) if product > i128::MIN => Ok(product),
+        Some(exact) if exact > i128::MIN => Ok(exact),
         _ => Err(Wide),
     }
 }
 
 /// The sum, where it is within 2^127 - 1 in size.
-pub(crate) fn plus(a: i128, b: i128) -> Result<i128, Wide>
+pub(crate) fn sum(a: i128, b: i128) -> Result<i128, Wide>
     ensures variant { is_ok result ≡ num_fits (a +ℤ b) }
     ensures value { IfOk result (λ r. r ≡ a +ℤ b) }
 {
     match a.checked_add(b) {
-        Some(sum) if sum > i128::MIN => Ok(sum),
+        Some(exact) if exact > i128::MIN => Ok(exact),
         _ => Err(Wide),
     }
 }
 
 /// The product of two denominators, where it is at most 2^127 - 1.
-pub(crate) fn times_den(a: u128, b: u128) -> Result<u128, Wide>
+pub(crate) fn den_product(a: u128, b: u128) -> Result<u128, Wide>
     requires left { 0 < a }
     requires right { 0 < b }
     ensures variant { is_ok result ≡ den_fits (a * b) }
     ensures value { IfOk result (λ r. r ≡ a * b) }
 {
     match a.checked_mul(b) {
-        Some(product) if product <= i128::MAX as u128 => Ok(product),
+        Some(exact) if exact <= i128::MAX as u128 => Ok(exact),
         _ => Err(Wide),
     }
 }

@@ -1,13 +1,11 @@
 -- The cut that a level of discounts asks for, and that the greatest of these is the least one that is payable.
-use Rattle.std.proofs.Common.{◌≡◌, ℕ, zero, suc, ◌+◌, ◌*◌, ◌<◌, ◌≤◌, ◌⊎◌, inl, inr, Bool, true, false, if◌then◌else◌, List, [], ◌∷◌, length, drop, get_or, slice_index_or, refl, sym, ap, subst, ◌∙◌, arith, add-one, drop-cons, ℤ, pos, negsuc, neg_ℤ, ◌+ℤ◌, ◌-ℤ◌, ◌*ℤ◌, ◌≤ℤ◌, ◌<ℤ◌, int_lt, unsigned_abs}
-use Rattle.std.specs.Int.{int_max}
+use Rattle.std.proofs.Common.{◌≡◌, ℕ, zero, suc, ◌+◌, ◌<◌, ◌≤◌, ◌⊎◌, inl, inr, List, [], ◌∷◌, length, drop, get_or, slice_index_or, refl, sym, ap, ◌∙◌, arith, add-one, drop-cons, ℤ, pos, neg_ℤ, ◌+ℤ◌, ◌-ℤ◌, ◌*ℤ◌, ◌≤ℤ◌, ◌<ℤ◌, unsigned_abs}
 use Rattle.std.proofs.lemmas.Int.{ints, clamps, by_lt_z}
-use Rattle.std.proofs.Math.Nat.{mul-pos}
 use Rattle.ice_defs.specs.Sum.{sum_over}
-use Rattle.ice_defs.specs.Fraction.{Fraction, whole, IsFraction, Equals, AtMost}
-use Rattle.ice_defs.specs.Cut.{cut_sum, IsPayable, IsCut}
-use Rattle.ice_frac.proofs.Ring.{diff, is_diff, diff_same, diff_pos, diffs, scale_le}
-use Rattle.ice_frac.proofs.Fractions.{AtMost-left, AtMost-trans, AtMost_from_Equals}
+use Rattle.ice_defs.specs.Fraction.{Fraction, whole, IsFraction, AtMost}
+use Rattle.ice_defs.specs.Cut.{cut_sum, IsPayable}
+use Rattle.ice_frac.proofs.Ring.{is_diff, diff_same, diff_pos, diffs, scale_le}
+use Rattle.ice_frac.proofs.Fractions.{AtMost-left}
 use Rattle.ice_threshold.specs.Level.{level_part, level_one, level_sum, level_count, asked_cut}
 use Rattle.ice_threshold.specs.CutOff.{cut_num}
 use Rattle.ice_threshold.proofs.CutSum.{cut_sum_is, proper-cut_sum, times_one, zero_times}

@@ -1,16 +1,16 @@
 -- One cut makes the greatest shortfall least.
-use Rattle.std.proofs.Common.{◌≡◌, ℕ, zero, suc, ◌+◌, ◌*◌, ◌<◌, ◌≤◌, ◌⊎◌, inl, inr, List, [], ◌∷◌, map, length, slice_index_or, refl, sym, ap, subst, ◌∙◌, arith, ℤ, pos, negsuc, neg_ℤ, ◌+ℤ◌, ◌-ℤ◌, ◌*ℤ◌, ◌≤ℤ◌, ◌<ℤ◌}
+use Rattle.std.proofs.Common.{◌≡◌, ℕ, zero, suc, ◌*◌, ◌<◌, ◌≤◌, ◌⊎◌, inl, inr, List, [], ◌∷◌, map, length, slice_index_or, refl, sym, ap, subst, ◌∙◌, arith, ℤ, pos, neg_ℤ, ◌+ℤ◌, ◌-ℤ◌, ◌*ℤ◌, ◌≤ℤ◌, ◌<ℤ◌}
 use Rattle.std.specs.Int.{int_max}
-use Rattle.std.specs.List.{AllByRecursion, AllZip}
+use Rattle.std.specs.List.{AllByRecursion}
 use Rattle.std.proofs.lemmas.Int.{ints, clamps, by_lt_z}
 use Rattle.std.proofs.lemmas.Bool.{cases_lt}
 use Rattle.std.proofs.Math.Nat.{mul-pos, one-mul}
 use Rattle.ice_defs.specs.Sum.{sum_over}
-use Rattle.ice_defs.specs.Fraction.{Fraction, whole, IsFraction, Equals, AtMost, plus, less, negated, sum_of, fraction_at}
-use Rattle.ice_defs.specs.Threshold.{vickrey_of, AreDiscounts, shortfall, IsNoWorse, IsThreshold}
+use Rattle.ice_defs.specs.Fraction.{Fraction, whole, IsFraction, Equals, AtMost, less, sum_of, fraction_at}
+use Rattle.ice_defs.specs.Threshold.{AreDiscounts, shortfall, IsNoWorse}
 use Rattle.ice_defs.specs.Cut.{cut_down, cut_sum, IsPayable, IsCut}
-use Rattle.ice_frac.proofs.Ring.{diff, is_diff, diff_same, diff_pos, diffs, scale_le, cancel_le}
-use Rattle.ice_frac.proofs.Fractions.{Equals-trans, Equals-plus, plus-same_den, Equals-num, Equals-whole, AtMost-trans, AtMost_from_Equals, AtMost_total, AtMost-left, AtMost-right, AtMost-plus, AtMost-swap, Equals_from_AtMost}
+use Rattle.ice_frac.proofs.Ring.{is_diff, diff_same, diff_pos, diffs, scale_le}
+use Rattle.ice_frac.proofs.Fractions.{Equals-trans, Equals-plus, AtMost-trans, AtMost_total, AtMost-left, AtMost-right, AtMost-plus, AtMost-swap, Equals_from_AtMost}
 use Rattle.ice_threshold.specs.CutOff.{IsCutDown, AreCutDown, cut_num}
 use Rattle.ice_threshold.specs.Laws.{CutIsThreshold, CutDownIsThreshold}
 use Rattle.ice_threshold.proofs.CutSum.{cut_down_is, at_least_0-low, at_least_0-above, at_least_0-least, cut_sum_is, proper-cut_down, proper-cut_sum, times_one, zero_times}

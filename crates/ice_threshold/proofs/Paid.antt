@@ -1,6 +1,5 @@
 -- What is paid with the discounts that a cut leaves.
-use Rattle.std.proofs.Common.{◌≡◌, ℕ, zero, suc, ◌+◌, ◌*◌, ◌<◌, ◌≤◌, ◌^◌, List, [], ◌∷◌, ◌++◌, length, take, get_or, slice_index_or, refl, sym, ap, subst, ◌∙◌, arith, ℤ, pos, neg_ℤ, ◌+ℤ◌, ◌-ℤ◌, ◌*ℤ◌, ◌≤ℤ◌, unsigned_abs, All}
-use Rattle.std.specs.List.{AllZip}
+use Rattle.std.proofs.Common.{◌≡◌, ℕ, zero, suc, ◌+◌, ◌*◌, ◌<◌, ◌≤◌, ◌^◌, List, [], ◌∷◌, ◌++◌, length, take, get_or, slice_index_or, refl, sym, subst, arith, ℤ, pos, ◌+ℤ◌, ◌-ℤ◌, ◌*ℤ◌, ◌≤ℤ◌, unsigned_abs}
 use Rattle.std.proofs.lemmas.Int.{ints}
 use Rattle.std.proofs.lemmas.List.{take_more}
 use Rattle.std.proofs.Math.Nat.{mul-pos}
@@ -10,12 +9,12 @@ use borrow.Author.Count.{below_more}
 use Rattle.ice_defs.specs.Sum.{sum_over}
 use Rattle.ice_defs.specs.Fraction.{Fraction, whole, IsFraction, Equals, AtMost, plus, less, sum_of, fraction_at}
 use Rattle.ice_defs.specs.Threshold.{ArePayments, IsSurplus}
-use Rattle.ice_defs.specs.Cut.{cut_down, cut_sum, IsPayable, IsCut}
-use Rattle.ice_frac.proofs.Fractions.{Equals-trans, Equals-plus, Equals-less, Equals-num, Equals-whole, plus-same_den, less-same_den, less-regroup, AtMost-left, AtMost-right, Equals_from_AtMost}
+use Rattle.ice_defs.specs.Cut.{cut_down, cut_sum, IsCut}
+use Rattle.ice_frac.proofs.Fractions.{Equals-trans, Equals-plus, Equals-less, Equals-whole, plus-same_den, less-same_den, less-regroup, AtMost-left, AtMost-right, Equals_from_AtMost}
 use Rattle.ice_threshold.specs.CutOff.{cut_num, IsCutDown, AreCutDown, IsPaid, ArePaid}
 use Rattle.ice_threshold.specs.Limits.{IsValueLimit}
 use Rattle.ice_threshold.proofs.CutSum.{at_least_0-low, at_least_0-above, at_least_0-least, cut_down_is, cut_sum_is, proper-cut_down, proper-cut_sum}
-use Rattle.ice_threshold.proofs.OneCut.{AreCutDown-at, AreCutDown-length, AreCutDown-sum, proper_less}
+use Rattle.ice_threshold.proofs.OneCut.{AreCutDown-at, AreCutDown-sum, proper_less}
 
 -- ---- in place of a cut one that equals it
 

@@ -1,5 +1,5 @@
 -- What a settlement may be asked to pay for.
-use Rattle.std.specs.Prelude.{ℕ, ◌≤◌, ◌^◌, ℤ, pos, ◌≤ℤ◌, unsigned_abs}
+use Rattle.std.specs.Prelude.{◌≤◌, ◌^◌, ℤ, pos, ◌≤ℤ◌, unsigned_abs}
 
 -- a Vickrey discount is from 0 to 10^15
 pub record IsVickreyLimit (vickrey : ℤ) : Type 0 where

@@ -173,10 +173,8 @@ mod tests {
 
     fn are(fractions: &[Frac], wanted: &[(i128, u128)]) -> bool {
         fractions.len() == wanted.len()
-            && fractions
-                .iter()
-                .zip(wanted)
-                .all(|(fraction, parts)| fraction.num() == parts.0 && fraction.den() == parts.1)
+            && fractions.iter().zip(wanted).all(|(fraction, parts)| fraction.num() == parts.0
+                && fraction.den() == parts.1)
     }
 
     #[test]

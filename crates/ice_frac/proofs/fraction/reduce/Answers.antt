@@ -8,7 +8,7 @@ use Rattle.ice_frac.proofs.fraction.reduce.Goals as goal
 
 pub invariant_of-result : goal.invariant_of-result
 invariant_of-result c =
-    let made : Fraction = record { num = to_z w128 (of_z w128 c.divide.result); den = c.args.den / c.common_divisor-shared.result } in
+    let made : Fraction = record { num = to_z w128 (of_z w128 c.quotient.result); den = c.args.den / c.common_divisor-shared.result } in
     let e : made ≡ lowest c.args.num c.args.den = search rules in
     subst IsLowest (sym e) (IsLowest-lowest c.args.num c.args.den c.requires.sized c.requires.positive c.requires.below)
 

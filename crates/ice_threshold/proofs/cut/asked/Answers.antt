@@ -1,4 +1,4 @@
-use Rattle.std.proofs.Common.{◌≡◌, ◌<◌, ◌≤◌, ◌^◌, ◌-ℤ◌, pos, arith, rules, slice_index_or, to_z, of_z}
+use Rattle.std.proofs.Common.{◌≡◌, ◌^◌, ◌-ℤ◌, pos, arith, rules, slice_index_or, to_z, of_z}
 use mir.Syntax.{w128}
 use Rattle.std.proofs.lemmas.Int.{ints}
 use Rattle.ice_threshold.specs.Level.{level_count}

@@ -1,4 +1,4 @@
-use Rattle.std.proofs.Common.{◌≡◌, ℕ, ◌<◌, ◌≤◌, List, ℤ, pos, ◌≤ℤ◌, arith, rules, subst, sym, length, to_z, of_z}
+use Rattle.std.proofs.Common.{◌≡◌, ◌≤◌, List, ℤ, pos, ◌≤ℤ◌, arith, rules, subst, sym, length, to_z, of_z}
 use mir.Syntax.{w128}
 use borrow.Author.Count.{below_more}
 use Rattle.std.proofs.lemmas.Int.{ints}

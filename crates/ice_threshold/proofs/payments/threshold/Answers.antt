@@ -7,7 +7,6 @@ use Rattle.ice_defs.specs.Sum.{sum_over}
 use Rattle.ice_defs.specs.Fraction.{Fraction, Equals, whole, less}
 use Rattle.ice_defs.specs.Cut.{IsCut, cut_sum}
 use Rattle.ice_threshold.specs.CutOff.{AreCutDown, ArePaid}
-use Rattle.ice_threshold.specs.Limits.{IsVickreyLimit}
 use Rattle.ice_threshold.proofs.OneCut.{cut_down_is_threshold}
 use Rattle.ice_threshold.proofs.Paid.{IsCut_moves, AreCutDown_moves, payments_from, surplus_of, balanced, sum_high}
 use Rattle.ice_threshold.proofs.payments.threshold.Goals as goal

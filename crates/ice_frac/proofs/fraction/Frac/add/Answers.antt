@@ -11,9 +11,9 @@ joined a b l r s e f g = g ∙ ap (λ x. x +ℤ r) e ∙ ap (λ x. (a.num *ℤ p
 pub returns-in_err-num-clause-exact : goal.returns-in_err-num-clause-exact
 returns-in_err-num-clause-exact c =
     let a : Fraction = c.args.self.now in
-    let b : Fraction = c.args.o.now in
-    let l : c.in_ok-left.left ≡ c.args.self.now.num *ℤ pos (c.args.o.now.den / gcd c.args.self.now.den c.args.o.now.den) = search rules in
-    let r : c.in_ok-right.right ≡ c.args.o.now.num *ℤ pos (c.args.self.now.den / gcd c.args.self.now.den c.args.o.now.den) = search rules in
+    let b : Fraction = c.args.other.now in
+    let l : c.in_ok-left.left ≡ c.args.self.now.num *ℤ pos (c.args.other.now.den / gcd c.args.self.now.den c.args.other.now.den) = search rules in
+    let r : c.in_ok-right.right ≡ c.args.other.now.num *ℤ pos (c.args.self.now.den / gcd c.args.self.now.den c.args.other.now.den) = search rules in
     let wide : num_fits (c.in_ok-left.left +ℤ c.in_ok-right.right) ≡ false = search rules in
     let e : result_ok c.from_residual-in_err-num.result ≡ None = search rules in
     e ∙ sym (add_none a b (ap num_fits (sym (joined a b _ _ (c.in_ok-left.left +ℤ c.in_ok-right.right) l r (λ i. c.in_ok-left.left +ℤ c.in_ok-right.right))) ∙ wide))
@@ -21,16 +21,16 @@ returns-in_err-num-clause-exact c =
 pub returns-clause-exact : goal.returns-clause-exact
 returns-clause-exact c =
     let a : Fraction = c.args.self.now in
-    let b : Fraction = c.args.o.now in
-    let l : c.in_ok-left.left ≡ c.args.self.now.num *ℤ pos (c.args.o.now.den / gcd c.args.self.now.den c.args.o.now.den) = search rules in
-    let r : c.in_ok-right.right ≡ c.args.o.now.num *ℤ pos (c.args.self.now.den / gcd c.args.self.now.den c.args.o.now.den) = search rules in
+    let b : Fraction = c.args.other.now in
+    let l : c.in_ok-left.left ≡ c.args.self.now.num *ℤ pos (c.args.other.now.den / gcd c.args.self.now.den c.args.other.now.den) = search rules in
+    let r : c.in_ok-right.right ≡ c.args.other.now.num *ℤ pos (c.args.self.now.den / gcd c.args.self.now.den c.args.other.now.den) = search rules in
     let s : c.in_ok-num.num ≡ c.in_ok-left.left +ℤ c.in_ok-right.right = search rules in
-    let d : c.in_ok-den.den ≡ (common_sum c.args.self.now c.args.o.now).den = search rules in
+    let d : c.in_ok-den.den ≡ (common_sum c.args.self.now c.args.other.now).den = search rules in
     let n : c.in_ok-num.num ≡ (common_sum a b).num = joined a b _ _ _ l r s in
-    let fits_left : num_fits (c.args.self.now.num *ℤ pos (c.args.o.now.den / gcd c.args.self.now.den c.args.o.now.den)) ≡ true = search rules in
-    let fits_right : num_fits (c.args.o.now.num *ℤ pos (c.args.self.now.den / gcd c.args.self.now.den c.args.o.now.den)) ≡ true = search rules in
+    let fits_left : num_fits (c.args.self.now.num *ℤ pos (c.args.other.now.den / gcd c.args.self.now.den c.args.other.now.den)) ≡ true = search rules in
+    let fits_right : num_fits (c.args.other.now.num *ℤ pos (c.args.self.now.den / gcd c.args.self.now.den c.args.other.now.den)) ≡ true = search rules in
     let fits_sum : num_fits (c.in_ok-left.left +ℤ c.in_ok-right.right) ≡ true = search rules in
-    let fits_den : den_fits (common_sum c.args.self.now c.args.o.now).den ≡ true = search rules in
+    let fits_den : den_fits (common_sum c.args.self.now c.args.other.now).den ≡ true = search rules in
     let e : c.reduce.result ≡ lowest c.in_ok-num.num c.in_ok-den.den = search rules in
     let e' : c.reduce.result ≡ lowest (common_sum a b).num (common_sum a b).den = e ∙ ap (λ x. lowest x c.in_ok-den.den) n ∙ ap (λ x. lowest (common_sum a b).num x) d in
     ap (λ (f : Fraction). Some f) e' ∙ sym (add_is a b fits_left fits_right (ap num_fits (sym n ∙ s) ∙ fits_sum) fits_den)
@@ -38,11 +38,11 @@ returns-clause-exact c =
 pub returns-clause-equal : goal.returns-clause-equal
 returns-clause-equal c =
     let a : Fraction = c.args.self.now in
-    let b : Fraction = c.args.o.now in
-    let l : c.in_ok-left.left ≡ c.args.self.now.num *ℤ pos (c.args.o.now.den / gcd c.args.self.now.den c.args.o.now.den) = search rules in
-    let r : c.in_ok-right.right ≡ c.args.o.now.num *ℤ pos (c.args.self.now.den / gcd c.args.self.now.den c.args.o.now.den) = search rules in
+    let b : Fraction = c.args.other.now in
+    let l : c.in_ok-left.left ≡ c.args.self.now.num *ℤ pos (c.args.other.now.den / gcd c.args.self.now.den c.args.other.now.den) = search rules in
+    let r : c.in_ok-right.right ≡ c.args.other.now.num *ℤ pos (c.args.self.now.den / gcd c.args.self.now.den c.args.other.now.den) = search rules in
     let s : c.in_ok-num.num ≡ c.in_ok-left.left +ℤ c.in_ok-right.right = search rules in
-    let d : c.in_ok-den.den ≡ (common_sum c.args.self.now c.args.o.now).den = search rules in
+    let d : c.in_ok-den.den ≡ (common_sum c.args.self.now c.args.other.now).den = search rules in
     let n : c.in_ok-num.num ≡ (common_sum a b).num = joined a b _ _ _ l r s in
     let e : c.reduce.result ≡ lowest c.in_ok-num.num c.in_ok-den.den = search rules in
     let e' : c.reduce.result ≡ lowest (common_sum a b).num (common_sum a b).den = e ∙ ap (λ x. lowest x c.in_ok-den.den) n ∙ ap (λ x. lowest (common_sum a b).num x) d in
