@@ -1,7 +1,7 @@
 -- What a record makes of the tests at each place of an assign journal.
 use Rattle.std.proofs.Common.{◌≡◌, ◌≢◌, ◌<◌, ◌≤◌, ℕ, suc, Bool, true, false, cond, eqb, List, [], ◌∷◌, ◌++◌, length, ℤ, pos, refl, sym, ◌∙◌, ap, subst, arith, ◌⊎◌, inl, inr}
 use Rattle.std.specs.Prelude.{◌||◌, ◌&&◌, is_none, nat_lt, ◌+◌, Option, Some, None, is_some, option_map, Result, Ok, Err, IsTrue, IsSome, IsSomeAnd}
-use Rattle.std.proofs.lemmas.Bool.{and_parts, eqb-true, eqb-false, eq-eqb, ne_eqb, true≢false, false≢true}
+use Rattle.std.proofs.lemmas.Bool.{and_parts, ltb-true, eqb-true, eqb-false, eq-eqb, ne_eqb, true≢false, false≢true}
 use Rattle.std.proofs.lemmas.Option.{none-some}
 use Rattle.ice_defs.specs.declared.SatRule.{SatRule}
 use Rattle.ice_defs.specs.declared.SatRule.TheVariants.{Parent, Few, Many}
@@ -10,7 +10,7 @@ use Rattle.ice_defs.specs.SetFault.{set_fault}
 use Rattle.ice_defs.specs.Trade.{Assignment, tree_of, total_value, is_exact, IsCovered, total_units}
 use Rattle.ice_defs.specs.Exchange.{Settings, Exchange, trees_of, exact_of}
 use Rattle.ice_defs.specs.Group.{assign_group}
-use Rattle.ice_journal.specs.Records.{Record, assign_end}
+use Rattle.ice_journal.specs.Records.{Record, assign_end, exchange_end, prices_end, regret_end, closed_end, open_end, spent_end, limit_end}
 use Rattle.ice_journal.specs.Records as line
 use Rattle.ice_section.specs.Section.{Section, SectionFault, order, count, no_good, maker, take_record, may_end, exchange_in, settings_in, Draft}
 use Rattle.ice_check.specs.declared.rule.Rule.{Rule}
@@ -22,7 +22,7 @@ use Rattle.ice_check.specs.Tests.{Fails, FailsFirst, place_of, is_refusal, Compl
 use Rattle.ice_check.specs.Checks.{Failure}
 use Rattle.ice_check.specs.Progress.{Progress, passing, failed, TakesOn, passes_on, fails_at, list_fails_at}
 use Rattle.ice_check.proofs.Single.{some_same}
-use Rattle.ice_check.specs.Assigning.{describing, section_of, described, stating, stated, rule_of}
+use Rattle.ice_check.specs.Assigning.{describing, section_of, described, stating, stated, rule_of, AreBalanced, AreShort, IsBounded, draft_count}
 
 -- ---- a set
 
@@ -33,13 +33,6 @@ module _ (number : ℕ) (ex : Exchange) (sets : Assignment) (x : NodeSet) where
   abbrev Mine : Complete
   Mine = record { group = assign_group; stated = record { value = pos 0; sets = sets ++ x ∷ [] } }
 
-  -- the sets with this one are covered in each good, or short of one
-  abbrev pub AreBalanced : Type 0
-  AreBalanced = (g : ℕ) → g < length (exact_of ex) → IsCovered (is_exact (exact_of ex) g) (total_units (trees_of ex) (sets ++ x ∷ []) g) (pos 0)
-
-  abbrev pub AreShort : Type 0
-  AreShort = (g : ℕ) × (g < length (exact_of ex)) × ¬ IsCovered (is_exact (exact_of ex) g) (total_units (trees_of ex) (sets ++ x ∷ []) g) (pos 0)
-
   abbrev pub IsFaulty : SatRule → Type 0
   IsFaulty k = set_fault (tree_of (trees_of ex) (length sets)) x ≡ Some k
 
@@ -47,7 +40,7 @@ module _ (number : ℕ) (ex : Exchange) (sets : Assignment) (x : NodeSet) where
   pub data SetFailure : Rule → Type 0 where
     by_count : (length x ≢ length (tree_of (trees_of ex) (length sets)) ⊎ (length (trees_of ex) ≤ length sets)) → SetFailure rule.Count
     by_fault : (k : SatRule) → IsFaulty k → SetFailure (rule_of k)
-    by_excess : suc (length sets) ≡ length (trees_of ex) → AreShort → SetFailure rule.Excess
+    by_excess : suc (length sets) ≡ length (trees_of ex) → AreShort ex (sets ++ x ∷ []) → SetFailure rule.Excess
 
   unbalanced : (b : Bool) → eqb (suc (length sets)) (length (trees_of ex)) ≡ b
       → IsSomeAnd (cond b (Some Mine) None) (λ (c : Complete). (g : ℕ) × (g < length (exact_of ex)) × ¬ IsCovered (is_exact (exact_of ex) g) (total_units (trees_of ex) c.stated.sets g) (pos 0))
@@ -119,13 +112,13 @@ module _ (number : ℕ) (ex : Exchange) (sets : Assignment) (x : NodeSet) where
   IsFaultless : Type 0
   IsFaultless = set_fault (tree_of (trees_of ex) (length sets)) x ≡ None
 
-  short_fails : suc (length sets) ≡ length (trees_of ex) → AreShort → Fails rule.Excess Before (line.set x)
+  short_fails : suc (length sets) ≡ length (trees_of ex) → AreShort ex (sets ++ x ∷ []) → Fails rule.Excess Before (line.set x)
   short_fails last short =
       subst (λ (b : Bool). IsSomeAnd (cond b (Some Mine) None) (λ (c : Complete). (g : ℕ) × (g < length (exact_of ex)) × ¬ IsCovered (is_exact (exact_of ex) g) (total_units (trees_of ex) c.stated.sets g) (pos 0)))
       (sym (eq-eqb (suc (length sets)) (length (trees_of ex)) last)) short
 
   -- the sets are all there, and short of a good
-  pub sets_short : IsCounted → set_fault (tree_of (trees_of ex) (length sets)) x ≡ None → suc (length sets) ≡ length (trees_of ex) → AreShort
+  pub sets_short : IsCounted → set_fault (tree_of (trees_of ex) (length sets)) x ≡ None → suc (length sets) ≡ length (trees_of ex) → AreShort ex (sets ++ x ∷ [])
       → TakesOn Before (line.set x) (failed (record { line = number; rule = rule.Excess }))
   sets_short c faultless last short = fails_set rule.Excess (short_fails last short) least
     where
@@ -134,7 +127,7 @@ module _ (number : ℕ) (ex : Exchange) (sets : Assignment) (x : NodeSet) where
       least z (by_fault j h) l = none-some j (sym faultless ∙ h)
       least z (by_excess e h) l = omega (arith, l)
 
-  passes_set : (after : State) → IsCounted → set_fault (tree_of (trees_of ex) (length sets)) x ≡ None → (suc (length sets) ≡ length (trees_of ex) → ¬ AreShort) → next Before (line.set x) ≡ Some after
+  passes_set : (after : State) → IsCounted → set_fault (tree_of (trees_of ex) (length sets)) x ≡ None → (suc (length sets) ≡ length (trees_of ex) → ¬ AreShort ex (sets ++ x ∷ [])) → next Before (line.set x) ≡ Some after
       → TakesOn Before (line.set x) (passing after)
   passes_set after c faultless balanced is = passes_on (λ z e. absurd (none-some z e)) (λ z h. quiet z (set_failure z h)) (record { leaf = tt; violation = tt; list = tt; verdict = tt }) is
     where
@@ -151,7 +144,7 @@ module _ (number : ℕ) (ex : Exchange) (sets : Assignment) (x : NodeSet) where
       (ap (λ (b : Bool). Some (to_line (suc number) (cond b (after_sets Before assign_group Mine.stated) (go_to (at_sets assign_group Mine.stated) Before)))) (ne_eqb (suc (length sets)) (length (trees_of ex)) more))
 
   -- the sets are all there, and feasible
-  pub sets_balanced : IsCounted → set_fault (tree_of (trees_of ex) (length sets)) x ≡ None → suc (length sets) ≡ length (trees_of ex) → AreBalanced
+  pub sets_balanced : IsCounted → set_fault (tree_of (trees_of ex) (length sets)) x ≡ None → suc (length sets) ≡ length (trees_of ex) → AreBalanced ex (sets ++ x ∷ [])
       → TakesOn Before (line.set x) (passing (stated (at_end assign_end) (suc number) ex (sets ++ x ∷ [])))
   sets_balanced c faultless last balanced =
       passes_set (stated (at_end assign_end) (suc number) ex (sets ++ x ∷ [])) c faultless (λ e (g, l, open_good). open_good (balanced g l))
@@ -319,3 +312,24 @@ section_is_whole s settings ended = λ i. record { settings = has_settings i; go
         by : (o : Option Draft) → is_none o ≡ true → o ≡ None
         by None e = refl
         by (Some x) e = absurd (false≢true e)
+
+pub section_ends : (number : ℕ) (s : Section) → IsBounded s → may_end s ≡ true → TakesOn (describing number s) line.assign (passing (stating (suc number) (exchange_in s) []))
+section_ends number s bounded ended = section_complete number s ended (section_is_whole s (bounded.settings there) ended)
+  where
+    there : 0 < length s.goods + length s.bidders + draft_count s.draft
+    there = omega (arith, ltb-true 0 (length s.bidders) (and_parts (nat_lt 0 (length s.bidders)) (is_none s.draft) ended).0)
+
+pub assign_only : (r : Record) → is_assign r ≡ true → r ≡ line.assign
+assign_only line.assign e = refl
+assign_only other e = absurd (false≢true e)
+
+pub end_only : (r : Record) → is_end assign_end r ≡ true → r ≡ line.end assign_end
+end_only (line.end assign_end) e = refl
+end_only (line.end exchange_end) e = absurd (false≢true e)
+end_only (line.end prices_end) e = absurd (false≢true e)
+end_only (line.end regret_end) e = absurd (false≢true e)
+end_only (line.end closed_end) e = absurd (false≢true e)
+end_only (line.end open_end) e = absurd (false≢true e)
+end_only (line.end spent_end) e = absurd (false≢true e)
+end_only (line.end limit_end) e = absurd (false≢true e)
+end_only other e = absurd (false≢true e)

@@ -1,9 +1,10 @@
 -- The states of an assign journal.
-use Rattle.std.specs.Prelude.{ℕ, suc, ◌+◌, ◌<◌, ◌≤◌, if◌then◌else◌, IsTrue, is_some, length, pos, Option, Some, None}
+use Rattle.std.specs.Prelude.{ℕ, suc, ◌+◌, ◌<◌, ◌≤◌, ◌≡◌, if◌then◌else◌, IsTrue, is_some, length, pos, Option, Some, None}
 use Rattle.ice_defs.specs.declared.SatRule.{SatRule}
 use Rattle.ice_defs.specs.declared.SatRule.TheVariants.{Parent, Few, Many}
-use Rattle.ice_defs.specs.Trade.{Assignment}
-use Rattle.ice_defs.specs.Exchange.{Exchange, opening_bounds}
+use Rattle.ice_defs.specs.Set.{IsSatisfied}
+use Rattle.ice_defs.specs.Trade.{Assignment, tree_of, set_of, is_exact, IsCovered, total_units}
+use Rattle.ice_defs.specs.Exchange.{Exchange, trees_of, exact_of, opening_bounds}
 use Rattle.ice_defs.specs.Group.{assign_group}
 use Rattle.ice_journal.specs.Records.{version_1, assign_kind, assign_end}
 use Rattle.ice_defs.specs.Making.{node_count}
@@ -53,3 +54,27 @@ pub record IsBounded (s : Section) : Type 0 where
   pub nodes : node_count s.bidders ≤ 2000
   pub draft : draft_count s.draft ≤ 201
   pub settings : 0 < length s.goods + length s.bidders + draft_count s.draft → IsTrue (is_some s.settings)
+
+-- an exchange with the sets that are stated so far
+pub record Stating : Type 0 where
+  pub exchange : Exchange
+  pub sets : Assignment
+
+-- what is bought of a good is covered by what is sold of it
+abbrev pub IsBalanced : Exchange → Assignment → ℕ → Type 0
+IsBalanced ex sets g = IsCovered (is_exact (exact_of ex) g) (total_units (trees_of ex) sets g) (pos 0)
+
+abbrev pub AreBalanced : Exchange → Assignment → Type 0
+AreBalanced ex sets = (g : ℕ) → g < length (exact_of ex) → IsBalanced ex sets g
+
+-- some good is not covered
+abbrev pub AreShort : Exchange → Assignment → Type 0
+AreShort ex sets = (g : ℕ) × (g < length (exact_of ex)) × ¬ IsBalanced ex sets g
+
+-- one set of each bidder's tree, of which the first ones are stated and satisfied
+pub record AreStated (ex : Exchange) (sets : Assignment) (taken : ℕ) : Type 0 where
+  pub few : length (trees_of ex) ≤ 40
+  pub same_length : length sets ≡ length (trees_of ex)
+  pub taken_there : taken ≤ length sets
+  pub sizes : (b : ℕ) → b < length sets → length (set_of sets b) ≡ length (tree_of (trees_of ex) b)
+  pub satisfied : (b : ℕ) → b < taken → IsSatisfied (tree_of (trees_of ex) b) (set_of sets b)

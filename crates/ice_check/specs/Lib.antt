@@ -8,3 +8,4 @@ pub mod Theorems
 pub mod Progress
 pub mod Answers
 pub mod Assigning
+pub mod Stages

@@ -3,7 +3,16 @@
 
 mod answer;
 pub mod laws;
+mod checker;
+mod lines;
+mod memory;
 mod rule;
+mod stage;
+mod stated;
+mod steps;
+mod value;
 
 pub use answer::{Answer, CheckEnd};
+pub use checker::Checker;
+pub use memory::NoMemory;
 pub use rule::Rule;
