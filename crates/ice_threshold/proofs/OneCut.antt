@@ -141,7 +141,7 @@ finer a n =
 finer_is : (p v k : ℤ) (q n : ℕ) → v *ℤ pos (q * n) -ℤ (p *ℤ pos n -ℤ k) ≡ (v *ℤ pos q -ℤ p) *ℤ pos n +ℤ k
 finer_is p v k q n = rw (is_diff p, is_diff v, is_diff k) (simp (diffs, diff_pos) (diff_same _ _ _ _ (omega arith)))
 
-plus_times : (x y : ℤ) (n : ℕ) → (x +ℤ y) *ℤ pos n ≡ x *ℤ pos n +ℤ y *ℤ pos n
+pub plus_times : (x y : ℤ) (n : ℕ) → (x +ℤ y) *ℤ pos n ≡ x *ℤ pos n +ℤ y *ℤ pos n
 plus_times x y n = rw (is_diff x, is_diff y) (simp (diffs, diff_pos) (diff_same _ _ _ _ (omega arith)))
 
 -- a cut that is 1 / (q n) smaller leaves at most that much more of each
@@ -208,7 +208,7 @@ whole_sum : (vs : List ℤ) → AllByRecursion (λ v. pos 0 ≤ℤ v) vs → sum
 whole_sum [] h = refl
 whole_sum (v ∷ vs) h = let low : pos 0 ≤ℤ v = h.0 in omega (arith, ints, clamps, low, whole_sum vs h.1, times_one v)
 
-uncut : (vickrey : List ℤ) (total p : ℤ) (q : ℕ) → AllByRecursion (λ v. pos 0 ≤ℤ v) vickrey → IsCut vickrey total (record { num = p; den = q }) → sum_over (λ v. v) vickrey <ℤ total → p ≡ pos 0
+pub uncut : (vickrey : List ℤ) (total p : ℤ) (q : ℕ) → AllByRecursion (λ v. pos 0 ≤ℤ v) vickrey → IsCut vickrey total (record { num = p; den = q }) → sum_over (λ v. v) vickrey <ℤ total → p ≡ pos 0
 uncut vickrey total p q low c under =
     let sum : ℤ = sum_over (cut_num (pos 0) 1) vickrey in
     let payable : IsPayable vickrey total (whole (pos 0)) = record {
