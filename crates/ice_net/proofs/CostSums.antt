@@ -1,7 +1,6 @@
 -- What a node costs, good by good.
-use Rattle.std.proofs.Common.{ℕ, ◌<◌, ◌≤◌, ◌≡◌, Bool, true, false, cond, eqb, length, get_or, ℤ, pos, ◌*ℤ◌, neg_ℤ, refl, arith, ap, sym, ◌∙◌, ◌⊎◌, inl, inr, subst}
-use Rattle.std.proofs.lemmas.Int.{ints}
-use Rattle.std.proofs.lemmas.Bool.{cases_lt, cases_eq, eq-eqb, ne_eqb}
+use Rattle.std.proofs.Common.{ℕ, ◌<◌, ◌≤◌, ◌≡◌, Bool, true, false, cond, eqb, length, ℤ, pos, ◌*ℤ◌, neg_ℤ, arith, ap, sym, ◌∙◌, ◌⊎◌, inl, inr}
+use Rattle.std.proofs.lemmas.Bool.{cases_lt, cases_eq}
 use Rattle.std.proofs.lemmas.List.{get_or_past}
 use Rattle.std.proofs.Math.IntN.{*ℤ-zero, zero-*ℤ}
 use Rattle.ice_defs.specs.declared.NodeKind.{NodeKind}

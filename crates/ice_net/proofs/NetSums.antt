@@ -5,7 +5,7 @@ use Rattle.std.proofs.Math.IntN.{*ℤ-zero}
 use Rattle.ice_defs.specs.declared.Mark.TheVariants.{Free}
 use Rattle.ice_defs.specs.Sum.{sum_below}
 use Rattle.ice_defs.specs.Tree.{Tree, kind_of}
-use Rattle.ice_defs.specs.Set.{NodeSet, has, IsSatisfied, Weights, weight_of, AllSmall, IsSmall, value, leaf_units, units}
+use Rattle.ice_defs.specs.Set.{NodeSet, has, Weights, weight_of, AllSmall, IsSmall, value, leaf_units, units}
 use Rattle.ice_defs.specs.Fixing.{Fixing, Agrees, Meets}
 use Rattle.ice_defs.specs.Greatest.{IsGreatest}
 use Rattle.ice_defs.specs.Bound.{IsOpen}
