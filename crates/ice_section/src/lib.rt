@@ -13,3 +13,6 @@ pub use exchange_file::read_exchange_lines;
 pub use faults::{LineFileFault, NoMemory, SectionFault};
 pub use prices_file::read_prices_lines;
 pub use section::Section;
+
+#[cfg(test)]
+mod tests;
