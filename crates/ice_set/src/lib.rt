@@ -1,41 +1,63 @@
 //! Sets of the nodes of one tree.
 #![tactic(auto)]
 
-ghost use Rattle.std.specs.Prelude.{◌≡◌, ◌≢◌, ℕ, ◌<◌, ◌≤◌, Bool, false, List, length, replicate, slice_set, nat_eq};
-ghost use Rattle.std.specs.Int.{bit_at};
+ghost use Rattle.std.specs.Prelude.{◌≡◌, ◌<◌, ◌≤◌, ◌↔◌, IsTrue, false, length, replicate, slice_set};
 ghost use Rattle.ice_defs.specs.Set.{has};
+ghost use Rattle.ice_defs.specs.Vickrey.{IsEmpty};
 
+use ice_word::{bit, with_bit};
 use std::marker::Model;
 
 /// The most nodes of a set.
 pub const MAX_NODES: u16 = 200;
 
 /// A set of the nodes of one tree, seen as one truth value per node. It takes no memory.
-#[derive(Drop)]
+#[derive(Clone, Copy, Debug)]
 pub struct NodeSet {
     words: [u64; 4],
     len: u16,
 }
 
 impl Model for NodeSet {
-    ghost use Rattle.std.specs.Prelude.{List, Bool, ◌≤◌};
-    ghost use Rattle.ice_set.specs.Words.{bits_of};
+    ghost use Rattle.std.specs.Prelude.{List, Bool, length, refl};
+    ghost use Rattle.ice_word.specs.Words.{bits_of, words_of, ArePacked};
+    ghost use Rattle.ice_word.proofs.Bits.{length-bits_of};
+    ghost use Rattle.ice_word.proofs.Packing.{words_of-bits_of};
 
     ghost Value = { List Bool };
 
     ghost view = { λ s. bits_of s.words s.len };
 
-    ghost invariant = { λ s. s.len ≤ 200 };
+    ghost invariant = { λ s. ArePacked s.words s.len };
+
+    ghost inverse = { λ bits. record { words = words_of bits; len = length bits } };
+
+    ghost inverse_ok = { λ s h i. record {
+      words = words_of-bits_of s.words s.len h i;
+      len = length-bits_of s.words s.len i;
+    } };
 }
 
-/// The word with its bit of this number put.
-fn with_bit(word: u64, number: u16, on: bool) -> u64
-    requires { number < 64 }
-    ensures same { nat_eq (bit_at result number) 1 ≡ on }
-    ensures other { (i : ℕ) → i < 64 → i ≢ number → bit_at result i ≡ bit_at word i }
-{
-    let mask = 1u64 << number;
-    if on { word | mask } else { word & !mask }
+impl PartialEq for NodeSet {
+    ghost use Rattle.std.specs.Bool.{beq};
+    ghost use Rattle.std.specs.Cmp.{bool_eq_equiv, partial_equiv_from_equiv};
+    ghost use Rattle.std.specs.Cmp.Lexicographic.{pointwise};
+    ghost use Rattle.std.proofs.lemmas.Cmp.{lists_equiv};
+
+    ghost eq = { pointwise beq };
+
+    ghost laws = { partial_equiv_from_equiv (lists_equiv bool_eq_equiv) };
+
+    fn eq(&self, other: &NodeSet) -> bool {
+        self.len == other.len && self.words == other.words
+    }
+}
+
+impl Eq for NodeSet {
+    ghost use Rattle.std.specs.Cmp.{bool_eq_equiv};
+    ghost use Rattle.std.proofs.lemmas.Cmp.{lists_equiv};
+
+    ghost laws = { lists_equiv bool_eq_equiv };
 }
 
 impl NodeSet {
@@ -63,7 +85,7 @@ impl NodeSet {
         requires { node < length self.now }
         ensures { result ≡ has self.now node }
     {
-        (self.words[node as usize / 64] >> (node % 64)) & 1 == 1
+        bit(self.words[node as usize / 64], node % 64)
     }
 
     /// Puts the node inside or outside.
@@ -75,13 +97,32 @@ impl NodeSet {
         self.words[place] = with_bit(self.words[place], node % 64, on);
     }
 
-    /// The same set once more.
-    pub fn copy(&self) -> NodeSet
-        ensures { result ≡ self.now }
+    /// Whether no node is inside.
+    pub fn is_empty(&self) -> bool
+        ensures { IsTrue result ↔ IsEmpty self.now }
     {
-        NodeSet {
-            words: self.words,
-            len: self.len,
+        self.words == [0; 4]
+    }
+}
+
+#[cfg(test)]
+mod tests {
+    use super::*;
+
+    #[test]
+    fn keeps_nodes(rt: HostRuntime) {
+        let mut set = NodeSet::empty(200);
+        assert!(rt; set.is_empty());
+        for (node, on) in [(199, true), (63, true), (64, true), (63, false)] {
+            assert!(rt; node < set.len());
+            set.put(node, on);
         }
+        for (node, want) in [(199, true), (63, false), (64, true), (0, false)] {
+            assert!(rt; node < set.len());
+            assert_eq!(rt; set.has(node), want, "at {node}");
+        }
+        assert_eq!(rt; set.len(), 200);
+        assert!(rt; !set.is_empty());
+        assert!(rt; set != NodeSet::empty(200));
     }
 }

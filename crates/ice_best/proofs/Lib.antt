@@ -1,0 +1,14 @@
+pub mod Threshold
+pub mod Greedy
+pub mod Children
+pub mod Table
+pub mod Taken
+pub mod Partial
+pub mod Offers
+pub mod Flags
+pub mod Frame
+pub mod Roots
+pub mod NewEntry
+pub mod RootEntry
+pub mod Deciding
+pub mod Sales

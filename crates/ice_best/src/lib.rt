@@ -1,0 +1,16 @@
+//! The best set of a tree: the greatest value of a satisfied set that meets a fixing, and the greatest sale of a good.
+#![tactic(auto)]
+
+mod best_set;
+mod choice;
+mod fill;
+mod fixing;
+mod sale;
+#[cfg(test)]
+mod tests;
+
+pub use best_set::best;
+pub use fill::Scratch;
+pub use fixing::{Fixing, Fixings, NoMemory};
+pub use ice_defs::Mark;
+pub use sale::greatest_sale;

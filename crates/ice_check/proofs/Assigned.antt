@@ -1,0 +1,118 @@
+-- An assign journal that passes each test states a lawful exchange and a feasible assignment of it.
+use Rattle.std.proofs.Common.{◌≡◌, Bool, true, false, cond, List, [], ◌∷◌, ◌++◌, map, refl, sym, ◌∙◌, ap, subst}
+use Rattle.std.specs.Prelude.{Option, Some, None, IsTrue, Ok}
+use Rattle.std.specs.List.{AllByRecursion}
+use Rattle.std.proofs.lemmas.List.{append_assoc, append-nil}
+use Rattle.std.proofs.lemmas.Bool.{false≢true}
+use Rattle.ice_defs.specs.Session.{Assigned}
+use Rattle.ice_journal.specs.Records.{Record, Version, version_1, version_2, Kind, assign_kind, regret_kind, session_kind, exchange_kind, prices_kind, assign_end}
+use Rattle.ice_journal.specs.Records as line
+use Rattle.ice_journal.specs.Ranges.{IsRecord}
+use Rattle.ice_journal.specs.Plain.{plain}
+use Rattle.ice_section.specs.Section.{exchange_in}
+use Rattle.ice_section.specs.Described.{section_records}
+use Rattle.ice_section.specs.Laws.{SectionIsLawful, SectionRecords}
+use Rattle.ice_section.proofs.Whole.{section_is_lawful, section_records_are}
+use Rattle.ice_check.specs.State.{Place, done, State, begun, exchange_at}
+use Rattle.ice_check.specs.Checks.{is_checked, Tested, passes, is_short, list_fails, fails, goes_on, Checks}
+use Rattle.ice_check.specs.Theorems.{HasKind, Says, IsRightAssigned, assigned_at, AreAssigned, DoneIsAssigned, ChecksGiveAssigned}
+use Rattle.ice_check.specs.Written.{assigned_records}
+use Rattle.ice_check.specs.Progress.{Progress, nothing, other_kind, passing, failed, TakesOn, passes_on, fails_at, list_fails_at, after_head, Leads, stays, goes}
+use Rattle.ice_check.proofs.Leading.{failed_passes, other_passes}
+use Rattle.ice_check.proofs.Assigning.{IsAt, IsStanding, standing_more}
+
+-- each record that passes goes along
+leads_standing : (before : List Record) (s t : State) (records : List Record) → IsStanding before s → Leads (passing s) records (passing t) → IsStanding (before ++ records) t
+leads_standing before s t [] h stays = subst (λ (rs : List Record). IsStanding rs t) (sym (append-nil before)) h
+leads_standing before s t (r ∷ rest) h (goes (passes_on {after = after} list none holds is) l) =
+    subst (λ (rs : List Record). IsStanding rs t) (append_assoc before (r ∷ []) rest) (leads_standing (before ++ r ∷ []) after t rest (standing_more before s r after h is none) l)
+leads_standing before s t (r ∷ rest) h (goes (fails_at list f) l) = absurd (failed_passes _ rest t l)
+leads_standing before s t (r ∷ rest) h (goes (list_fails_at e n) l) = absurd (failed_passes _ rest t l)
+
+-- the records after the head, which is one of kind assign
+pub record IsStanding_after_head (journal : List Record) (s : State) : Type 0 where
+  pub rest : List Record
+  pub is : journal ≡ line.head version_1 assign_kind ∷ rest
+  pub standing : IsStanding rest s
+
+only_assign : (version : Version) (kind : Kind) → is_checked version kind ≡ true → (version ≡ version_1) × (kind ≡ assign_kind)
+only_assign version_1 assign_kind e = (refl, refl)
+only_assign version_1 regret_kind e = absurd (false≢true e)
+only_assign version_1 session_kind e = absurd (false≢true e)
+only_assign version_1 exchange_kind e = absurd (false≢true e)
+only_assign version_1 prices_kind e = absurd (false≢true e)
+only_assign version_2 assign_kind e = absurd (false≢true e)
+only_assign version_2 regret_kind e = absurd (false≢true e)
+only_assign version_2 session_kind e = absurd (false≢true e)
+only_assign version_2 exchange_kind e = absurd (false≢true e)
+only_assign version_2 prices_kind e = absurd (false≢true e)
+
+from_begun : (version : Version) (kind : Kind) (rest : List Record) (s : State) → version ≡ version_1 → kind ≡ assign_kind → Leads (passing (begun version kind)) rest (passing s) → IsStanding_after_head (line.head version kind ∷ rest) s
+from_begun version kind rest s v k l = record {
+  rest = rest;
+  is = ap (λ (x : Version). line.head x kind ∷ rest) v ∙ ap (λ (x : Kind). line.head version_1 x ∷ rest) k;
+  standing = leads_standing [] (begun version kind) s rest (record { kind = k; place = refl }) l;
+}
+
+from_head : (version : Version) (kind : Kind) (rest : List Record) (s : State) (b : Bool) → is_checked version kind ≡ b → Leads (cond b (passing (begun version kind)) other_kind) rest (passing s) → IsStanding_after_head (line.head version kind ∷ rest) s
+from_head version kind rest s true e l =
+    let is = only_assign version kind e in
+    from_begun version kind rest s is.0 is.1 l
+from_head version kind rest s false e l = absurd (other_passes rest s l)
+
+from_first : (r : Record) (rest : List Record) (s : State) → Leads (after_head r) rest (passing s) → IsStanding_after_head (r ∷ rest) s
+from_first (line.head version kind) rest s l = from_head version kind rest s (is_checked version kind) refl l
+from_first other rest s l = absurd (other_passes rest s l)
+
+pub standing_journal : (journal : List Record) (s : State) → Leads nothing journal (passing s) → IsStanding_after_head journal s
+standing_journal [] s l = elim l [ ]
+standing_journal (r ∷ rest) s (goes {q = q} a l) = from_first r rest s (subst (λ (z : Progress). Leads z rest (passing s)) a l)
+
+all_left : (xs ys : List Record) → AllByRecursion IsRecord (xs ++ ys) → AllByRecursion IsRecord xs
+all_left [] ys h = tt
+all_left (x ∷ xs) ys h = (h.0, all_left xs ys h.1)
+
+-- journals that pass
+tested_leads : (s : State) (records : List Record) → Tested s records None → (t : State) × Leads (passing s) records (passing t) × (t.place ≡ done)
+tested_leads s [] (passes e) = (s, stays, e)
+tested_leads s (r ∷ rest) (goes_on {after = after} list none holds is t) =
+    let (end, l, e) = tested_leads after rest t in
+    (end, goes (passes_on list none holds is) l, e)
+
+module _ (lawful : SectionIsLawful) (described : SectionRecords) where
+  assigned_at_end : (journal : List Record) (s : State) → AllByRecursion IsRecord journal → (h : IsStanding_after_head journal s) → IsAt h.rest s done → AreAssigned journal s
+  assigned_at_end journal s records h (section, is, said, feasible) = record {
+    says = ap plain h.is ∙ ap (λ (rest : List Record). line.head version_1 assign_kind ∷ rest) (said ∙ ap (λ (rs : List Record). rs ++ line.assign ∷ map line.set s.final.sets ++ line.end assign_end ∷ []) (described section s.section is.taken is.ended));
+    right = record { exchange = lawful section s.section of_section is.taken is.ended; feasible = feasible };
+    bounds = is.opening;
+  }
+    where
+      of_section : AllByRecursion IsRecord section
+      of_section =
+          let after_head : AllByRecursion IsRecord h.rest = (subst (AllByRecursion IsRecord) h.is records).1 in
+          all_left section _ (all_left (section ++ line.assign ∷ map line.set s.final.sets) (line.end assign_end ∷ []) (subst (AllByRecursion IsRecord) said after_head))
+
+  pub done_is_assigned : DoneIsAssigned
+  done_is_assigned journal s records l place kind =
+      let h = standing_journal journal s l in
+      assigned_at_end journal s records h (subst (λ (p : Place). IsAt h.rest s p) place h.standing.place)
+
+  of_checked : (version : Version) (kind : Kind) (rest : List Record) → version ≡ version_1 → kind ≡ assign_kind → AllByRecursion IsRecord (line.head version kind ∷ rest)
+      → is_checked version kind ≡ true → Tested (begun version kind) rest None → (a : Assigned) × Says (line.head version kind ∷ rest) (assigned_records a) × IsRightAssigned a
+  of_checked version kind rest v k records checked tested =
+      let (end, l, e) = tested_leads (begun version kind) rest tested in
+      let h = from_begun version kind rest end v k l in
+      let found = assigned_at_end (line.head version kind ∷ rest) end records h (subst (λ (p : Place). IsAt h.rest end p) e h.standing.place) in
+      (assigned_at end, found.says, found.right)
+
+  pub checks_give_assigned : ChecksGiveAssigned
+  checks_give_assigned (line.head version kind ∷ rest) of_kind records (checked, tested) =
+      of_checked version kind rest (only_assign version kind checked).0 of_kind records checked tested
+  checks_give_assigned (other ∷ rest) of_kind records (checked, tested) = absurd checked
+  checks_give_assigned [] of_kind records (checked, tested) = absurd checked
+
+pub done_is_right : DoneIsAssigned
+done_is_right = done_is_assigned section_is_lawful section_records_are
+
+pub checked_is_right : ChecksGiveAssigned
+checked_is_right = checks_give_assigned section_is_lawful section_records_are

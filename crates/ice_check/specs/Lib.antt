@@ -1,0 +1,11 @@
+pub mod Fields
+pub mod State
+pub mod Next
+pub mod Tests
+pub mod Checks
+pub mod Written
+pub mod Theorems
+pub mod Progress
+pub mod Answers
+pub mod Assigning
+pub mod Stages

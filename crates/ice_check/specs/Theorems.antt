@@ -1,0 +1,64 @@
+-- Why a checked journal may be trusted: the theorems of the checker, as statements.
+use Rattle.std.specs.Prelude.{◌≡◌, List, ◌∷◌, ℤ}
+use Rattle.std.specs.List.{AllByRecursion}
+use Rattle.ice_defs.specs.Trade.{IsFeasible, total_value}
+use Rattle.ice_defs.specs.Weighing.{lower_weights}
+use Rattle.ice_defs.specs.Fraction.{Fraction}
+use Rattle.ice_defs.specs.Exchange.{trees_of, exact_of, opening_bounds}
+use Rattle.ice_defs.specs.Lawful.{IsExchange}
+use Rattle.ice_defs.specs.Session.{Assigned, Regretted, Session}
+use Rattle.ice_defs.specs.Right.{IsSettled, IsRight}
+use Rattle.ice_defs.specs.Headline.{Headline}
+use Rattle.ice_journal.specs.Records.{Record, Kind, assign_kind, regret_kind, session_kind}
+use Rattle.ice_journal.specs.Records as line
+use Rattle.ice_journal.specs.Ranges.{IsRecord}
+use Rattle.ice_journal.specs.Plain.{plain}
+use Rattle.ice_check.specs.State.{done, State, exchange_at}
+use Rattle.ice_check.specs.Checks.{Checks}
+use Rattle.ice_check.specs.Progress.{nothing, passing, Leads}
+use Rattle.ice_check.specs.Written.{assigned_records, regretted_records, session_records}
+
+-- the journal says this, in either version
+abbrev pub Says : List Record → List Record → Type 0
+Says journal written = plain journal ≡ written
+
+abbrev pub HasKind : Kind → List Record → Type 0
+HasKind kind (line.head version other ∷ rest) = other ≡ kind
+HasKind kind other = ⊥
+
+-- a right regret journal states the best value at lower values, and the exact regret of its sets
+pub record IsRightRegret (r : Regretted) : Type 0 where
+  pub exchange : IsExchange r.exchange
+  pub settled : IsSettled r.exchange (opening_bounds r.exchange) r.settlement
+
+-- an assign journal that passes every test states a feasible assignment
+pub record IsRightAssigned (a : Assigned) : Type 0 where
+  pub exchange : IsExchange a.exchange
+  pub feasible : IsFeasible (trees_of a.exchange) (exact_of a.exchange) a.sets
+
+-- where the records of an assign journal lead to its end, they state this exchange and these sets
+abbrev pub assigned_at : State → Assigned
+assigned_at s = record { exchange = exchange_at s; sets = s.final.sets }
+
+pub record AreAssigned (journal : List Record) (s : State) : Type 0 where
+  pub says : Says journal (assigned_records (assigned_at s))
+  pub right : IsRightAssigned (assigned_at s)
+  pub bounds : s.bounds ≡ opening_bounds (exchange_at s)
+
+abbrev pub DoneIsAssigned : Type 0
+DoneIsAssigned = (journal : List Record) (s : State) → AllByRecursion IsRecord journal → Leads nothing journal (passing s) → s.place ≡ done → s.kind ≡ assign_kind → AreAssigned journal s
+
+abbrev pub ChecksGiveAssigned : Type 0
+ChecksGiveAssigned = (journal : List Record) → HasKind assign_kind journal → AllByRecursion IsRecord journal → Checks journal → (a : Assigned) × Says journal (assigned_records a) × IsRightAssigned a
+
+-- the numbers of a yes
+pub data Yes : Type 0 where
+  of_assigned : (value : ℤ) → Yes
+  of_regret : (amount : ℤ) → Yes
+  of_session : (regret : ℤ) → (surplus : Fraction) → Yes
+
+-- the checker's yes to a journal, and what it says
+abbrev pub IsYes : List Record → Yes → Type 0
+IsYes journal (of_assigned value) = (a : Assigned) × Says journal (assigned_records a) × IsRightAssigned a × (value ≡ total_value a.sets (lower_weights (opening_bounds a.exchange)))
+IsYes journal (of_regret amount) = (r : Regretted) × Says journal (regretted_records r) × IsRightRegret r × (amount ≡ r.settlement.regret)
+IsYes journal (of_session regret surplus) = (s : Session) × Says journal (session_records s) × IsRight s × Headline s × (regret ≡ s.closed.settlement.regret) × (surplus ≡ s.closed.surplus)

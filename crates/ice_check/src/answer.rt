@@ -1,0 +1,22 @@
+use crate::Rule;
+
+/// What the checker answers of a journal of a kind that it checks.
+#[derive(Clone, Copy, PartialEq, Eq, Debug)]
+pub enum Answer {
+    /// A journal of kind assign passes every test: the value of its sets at lower bounds.
+    Assign { value: i128 },
+    /// The first failed test: its line, from 1, and its rule.
+    No { line: u64, rule: Rule },
+}
+
+/// Why bytes have no answer.
+#[derive(Clone, Copy, PartialEq, Eq, Debug)]
+pub enum CheckEnd {
+    /// This line is no record, and none before it is at fault.
+    Grammar { line: u64 },
+    /// The last line has no newline, and none before it is at fault.
+    Unended { line: u64 },
+    /// Every line is a record, and the first is no head of a kind that is checked, or there is no line.
+    OtherKind,
+    NoMemory,
+}

@@ -1,0 +1,91 @@
+//! The checker, which takes one record at a time.
+ghost use Rattle.std.specs.Prelude.{◌≡◌, IsTrue, IfOk, OnOk, OnErr, IsOk};
+ghost use Rattle.ice_journal.specs.Lines.{record_of};
+ghost use Rattle.ice_journal.specs.Ranges.{IsRecord};
+ghost use Rattle.ice_check.specs.Progress.{nothing, out_of_memory, is_ready, IsAfter};
+ghost use Rattle.ice_check.specs.Answers.{EndsWith};
+
+use crate::answer::{Answer, CheckEnd};
+use crate::memory::NoMemory;
+use crate::rule::Rule;
+use crate::stage::Stage;
+use ice_journal::Line;
+use std::alloc::Global;
+use std::marker::Model;
+use std::mem;
+
+/// A checker of one journal, seen as how far the tests have come. It takes the records one after another, and keeps neither
+/// them nor their bytes.
+#[derive(Drop)]
+pub struct Checker {
+    alloc: Global,
+    next_line: u64,
+    stage: Stage,
+}
+
+impl Model for Checker {
+    ghost use Rattle.ice_check.specs.Progress.{Progress};
+    ghost use Rattle.ice_check.specs.Stages.{progress_of, IsWithin};
+
+    ghost Value = { Progress };
+
+    ghost view = { λ c. progress_of c.next_line c.stage };
+
+    ghost invariant = { λ c. IsWithin c.next_line c.stage };
+}
+
+impl Checker {
+    /// A checker that has taken no record.
+    pub fn new(alloc: Global) -> Result<Checker, NoMemory>
+        ensures made { result ≡ Ok nothing }
+    {
+        Ok(Checker {
+            alloc,
+            next_line: 1,
+            stage: Stage::Begin,
+        })
+    }
+
+    /// Takes the next record.
+    ///
+    /// After `NoMemory` it takes no more records, and each later call answers `NoMemory`. Where `ready` is true, no memory is wanted.
+    pub fn feed(&mut self, line: &Line) -> Result<(), NoMemory>
+        requires { IsRecord (record_of line.now) }
+        ensures after { OnOk result (IsAfter self.old (record_of line.now) self.new) }
+        ensures stopped { OnErr result (self.new ≡ out_of_memory) }
+        ensures ready { IsTrue (is_ready self.old) → IsOk result }
+    {
+        let stage = mem::replace(&mut self.stage, Stage::OutOfMemory);
+        self.stage = stage.after(self.alloc, self.next_line, line)?;
+        self.next_line = self.next_line.saturating_add(1);
+        Ok(())
+    }
+
+    /// Whether the exchange and one record after it are taken, or no record matters any more: then `feed` wants no memory.
+    pub fn ready(&self) -> bool
+        ensures { result ≡ is_ready self.now }
+    {
+        !matches!(
+            self.stage,
+            Stage::Begin | Stage::Describing(_) | Stage::OutOfMemory
+        )
+    }
+
+    /// What the tests find, where the records taken so far are the whole journal. It wants no memory.
+    pub fn finish(self) -> Result<Answer, CheckEnd>
+        ensures { EndsWith self result }
+    {
+        match self.stage {
+            Stage::Begin | Stage::OtherKind => Err(CheckEnd::OtherKind),
+            Stage::Done(stated) => Ok(Answer::Assign {
+                value: stated.value(),
+            }),
+            Stage::Failed { line, rule } => Ok(Answer::No { line, rule }),
+            Stage::OutOfMemory => Err(CheckEnd::NoMemory),
+            Stage::Describing(_) | Stage::Stating(_) | Stage::AwaitsEnd(_) => Ok(Answer::No {
+                line: self.next_line,
+                rule: Rule::Short,
+            }),
+        }
+    }
+}

@@ -1,0 +1,18 @@
+//! The checker of journals: it takes one record at a time, and answers yes or names the first failed test.
+#![tactic(auto)]
+
+mod answer;
+pub mod laws;
+mod checker;
+mod lines;
+mod memory;
+mod rule;
+mod stage;
+mod stated;
+mod steps;
+mod value;
+
+pub use answer::{Answer, CheckEnd};
+pub use checker::Checker;
+pub use memory::NoMemory;
+pub use rule::Rule;

@@ -1,0 +1,61 @@
+//! How far the records of a journal have come.
+ghost use Rattle.std.specs.Prelude.{◌≡◌, suc, IsTrue, IfOk, IsOk, IsErr};
+ghost use Rattle.ice_journal.specs.Lines.{record_of};
+ghost use Rattle.ice_journal.specs.Ranges.{IsRecord};
+ghost use Rattle.ice_check.specs.Progress.{out_of_memory, is_ready, IsAfter};
+ghost use Rattle.ice_check.specs.Stages.{progress_of, IsWithin};
+
+use crate::memory::NoMemory;
+use crate::rule::Rule;
+use crate::stated::Stated;
+use crate::steps::{begin, describe, end, state};
+use ice_journal::Line;
+use ice_section::Section;
+use std::alloc::Global;
+
+/// How far the records of a journal have come.
+#[derive(Drop)]
+pub(crate) enum Stage {
+    /// No record is read yet.
+    Begin,
+    /// The first record is no head of a kind that is checked.
+    OtherKind,
+    /// The exchange is being described.
+    Describing(Section),
+    /// Its sets are being stated.
+    Stating(Stated),
+    /// All its sets are stated.
+    AwaitsEnd(Stated),
+    /// The journal has ended.
+    Done(Stated),
+    /// The first failed test.
+    Failed { line: u64, rule: Rule },
+    /// No memory was left for a record.
+    OutOfMemory,
+}
+
+impl Stage {
+    /// The stage after a record, which stands in the line with this number.
+    pub(crate) fn after(self, alloc: Global, number: u64, line: &Line) -> Result<Stage, NoMemory>
+        requires within { IsWithin number self }
+        requires lawful { IsRecord (record_of line.now) }
+        ensures after { IfOk result (λ next. IsAfter (progress_of number self) (record_of line.now) (progress_of (suc number) next)) }
+        ensures within { IfOk result (λ next. IsWithin (suc number) next) }
+        ensures ready { IsTrue (is_ready (progress_of number self)) → IsOk result }
+        ensures stopped { progress_of number self ≡ out_of_memory → IsErr result }
+    {
+        match self {
+            Stage::Begin => begin(alloc, line),
+            Stage::OtherKind => Ok(Stage::OtherKind),
+            Stage::Describing(section) => describe(alloc, number, section, line),
+            Stage::Stating(stated) => Ok(state(number, stated, line)),
+            Stage::AwaitsEnd(stated) => Ok(end(number, stated, line)),
+            Stage::Done(_) => Ok(Stage::Failed {
+                line: number,
+                rule: Rule::Order,
+            }),
+            Stage::Failed { line, rule } => Ok(Stage::Failed { line, rule }),
+            Stage::OutOfMemory => Err(NoMemory),
+        }
+    }
+}

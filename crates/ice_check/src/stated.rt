@@ -1,0 +1,87 @@
+//! The sets that an assign journal states.
+ghost use Rattle.std.specs.Prelude.{◌≡◌, ◌<◌, ◌≤◌, ◌++◌, [], ◌∷◌, length, IfOk, IsTrue, ◌↔◌, MatchBool};
+ghost use Rattle.ice_defs.specs.Exchange.{trees_of, opening_bounds};
+ghost use Rattle.ice_defs.specs.Set.{IsSatisfied};
+ghost use Rattle.ice_check.specs.Assigning.{AreBalanced, AreShort};
+ghost use Rattle.ice_defs.specs.Trade.{set_of, tree_of, total_value};
+ghost use Rattle.ice_defs.specs.Weighing.{lower_weights};
+
+use crate::value::total_value;
+use ice_trade::Exchange;
+use ice_tree::{Assignment, NoMemory, NodeSet, Tree};
+use std::alloc::Global;
+use std::marker::Model;
+
+/// An exchange, and the sets that are stated for its first bidders.
+#[derive(Drop)]
+pub(crate) struct Stated {
+    exchange: Exchange,
+    sets: Assignment,
+    taken: u8,
+}
+
+impl Model for Stated {
+    ghost use Rattle.std.specs.Prelude.{take};
+    ghost use Rattle.ice_check.specs.Assigning.{Stating, AreStated};
+
+    ghost Value = { Stating };
+
+    ghost view = { λ a. record { exchange = a.exchange; sets = take a.taken a.sets } };
+
+    ghost invariant = { λ a. AreStated a.exchange a.sets a.taken };
+}
+
+impl Stated {
+    /// No set yet, with the memory for all.
+    pub(crate) fn new(alloc: Global, exchange: Exchange) -> Result<Stated, NoMemory>
+        ensures made { IfOk result (λ s. s ≡ record { exchange = exchange; sets = [] }) }
+        ensures few { IfOk result (λ _. length (trees_of exchange) ≤ 40) }
+    {
+        let sets = Assignment::empty(alloc, exchange.trees())?;
+        Ok(Stated {
+            exchange,
+            sets,
+            taken: 0,
+        })
+    }
+
+    /// The tree of the bidder whose set comes next.
+    pub(crate) fn tree(&self) -> &Tree
+        requires { length self.now.sets < length (trees_of self.now.exchange) }
+        ensures { result.now ≡ tree_of (trees_of self.now.exchange) (length self.now.sets) }
+    {
+        &self.exchange.trees()[self.taken as usize]
+    }
+
+    /// One more set.
+    pub(crate) fn put(&mut self, set: &NodeSet)
+        requires room { length self.old.sets < length (trees_of self.old.exchange) }
+        requires satisfied { IsSatisfied (tree_of (trees_of self.old.exchange) (length self.old.sets)) set.now }
+        ensures { self.new ≡ record { exchange = self.old.exchange; sets = self.old.sets ++ set.now ∷ [] } }
+    {
+        self.sets.put(self.taken, set);
+        self.taken += 1;
+    }
+
+    /// Whether each bidder has its set.
+    pub(crate) fn is_full(&self) -> bool
+        ensures { IsTrue result ↔ (length self.now.sets ≡ length (trees_of self.now.exchange)) }
+    {
+        usize::from(self.taken) == self.sets.len()
+    }
+
+    /// Whether the sets leave no good short, where each bidder has one.
+    pub(crate) fn are_balanced(&self) -> bool
+        requires { length self.now.sets ≡ length (trees_of self.now.exchange) }
+        ensures { MatchBool result (AreBalanced self.now.exchange self.now.sets) (AreShort self.now.exchange self.now.sets) }
+    {
+        self.exchange.feasible(&self.sets).is_ok()
+    }
+
+    /// The value of the sets at the opening lower values.
+    pub(crate) fn value(&self) -> i128
+        ensures { result ≡ total_value self.now.sets (lower_weights (opening_bounds self.now.exchange)) }
+    {
+        total_value(&self.sets, self.exchange.bounds(), self.taken)
+    }
+}

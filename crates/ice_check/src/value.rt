@@ -1,0 +1,59 @@
+//! The value of a set at lower values.
+ghost use Rattle.std.specs.Prelude.{◌≡◌, ℕ, take, ◌<◌, ◌≤◌, if◌then◌else◌, length, pos, neg_ℤ, ◌≤ℤ◌};
+ghost use Rattle.ice_defs.specs.Exchange.{IsBetween};
+ghost use Rattle.ice_defs.specs.Lawful.{AreBounds};
+ghost use Rattle.ice_defs.specs.Trade.{set_of, weights_of, total_value};
+ghost use Rattle.ice_defs.specs.Weighing.{lower_weights};
+ghost use Rattle.ice_defs.specs.Set.{has, weight_of, value};
+
+use ice_tree::{Assignment, Bounds, NodeSet};
+
+/// The lower value of a node inside, and 0 outside.
+fn node_value(set: &NodeSet, bounds: &Bounds, node: u16) -> i64
+    requires inside { node < length set.now }
+    requires same_length { length set.now ≡ length bounds.now.lo }
+    requires bounds { AreBounds (length bounds.now.lo) bounds.now }
+    ensures value { result ≡ (if has set.now node then weight_of bounds.now.lo node else pos 0) }
+    ensures small { IsBetween (neg_ℤ (pos 1000000000)) (pos 1000000000) result }
+{
+    if set.has(node) { bounds.lo(node) } else { 0 }
+}
+
+/// The sum of the lower values of the nodes inside.
+#[tactic(auto, using(ice_defs::proofs::Sums::sums))]
+pub(crate) fn lower_value(set: &NodeSet, bounds: &Bounds) -> i64
+    requires { length set.now ≡ length bounds.now.lo }
+    ensures value { result ≡ value set.now bounds.now.lo }
+    ensures small { IsBetween (neg_ℤ (pos 200000000000)) (pos 200000000000) result }
+{
+    let mut sum = 0;
+    for node in 0..bounds.len() {
+        sum += node_value(set, bounds, node);
+    }
+    sum
+}
+
+/// The lower value of a bidder's set.
+fn bidder_value(sets: &Assignment, bounds: &[Bounds], bidder: u8) -> i64
+    requires stated { bidder < length sets.now }
+    requires bounded { bidder < length bounds.now }
+    requires same_length { length (set_of sets.now bidder) ≡ length (weights_of (lower_weights bounds.now) bidder) }
+    ensures value { result ≡ value (set_of sets.now bidder) (weights_of (lower_weights bounds.now) bidder) }
+    ensures small { IsBetween (neg_ℤ (pos 200000000000)) (pos 200000000000) result }
+{
+    lower_value(sets.of(bidder), &bounds[usize::from(bidder)])
+}
+
+/// The sum of the lower values of the first sets, so many as are taken.
+pub(crate) fn total_value(sets: &Assignment, bounds: &[Bounds], taken: u8) -> i128
+    requires stated { taken ≤ length sets.now }
+    requires bounded { taken ≤ length bounds.now }
+    requires same_length { (b : ℕ) → b < taken → length (set_of sets.now b) ≡ length (weights_of (lower_weights bounds.now) b) }
+    ensures { result ≡ total_value (take taken sets.now) (lower_weights bounds.now) }
+{
+    let mut total = 0;
+    for bidder in 0..taken {
+        total += i128::from(bidder_value(sets, bounds, bidder));
+    }
+    total
+}

@@ -1,0 +1,6 @@
+pub mod Edge
+pub mod Status
+pub mod MemoryShelf
+pub mod MemorySink
+pub mod RealCounts
+pub mod MemoryFile

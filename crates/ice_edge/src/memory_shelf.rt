@@ -1,0 +1,182 @@
+ghost use Rattle.std.specs.Prelude.{◌≡◌, ◌==◌, ℕ, ◌≤◌, ◌<◌, ◌↔◌, List, length, map, IfOk, IfErr, Err, IsErrOf, IsSomeAnd, OnOk, OnErr, Some, None, IsTrue, MatchOption, string_bytes};
+ghost use Rattle.std.specs.List.{list_any};
+ghost use Rattle.ice_edge.specs.Edge.{Rose};
+ghost use Rattle.ice_edge.specs.MemoryShelf.{found, held, empty_shelf, with_file, with_failing, fetch_fault, after_fetch};
+ghost use Rattle.ice_edge.specs.MemoryFile.{file_of};
+
+use crate::{FetchFault, NoMemory, Shelf};
+use std::alloc::{AllocError, Global};
+use std::marker::Model;
+
+#[derive(Drop)]
+struct MemFile {
+    name: String,
+    bytes: Vec<u8>,
+}
+
+/// Files in memory, for tests. A fetch fails where it is told to, and where there is no file of the name.
+#[derive(Drop)]
+pub struct MemShelf {
+    alloc: Global,
+    files: Vec<MemFile>,
+    failing: Vec<u64>,
+    calls: u64,
+    faults: u64,
+    overlong: u64,
+}
+
+impl Model for MemShelf {
+    ghost use Rattle.std.specs.Prelude.{map};
+    ghost use Rattle.ice_edge.specs.MemoryShelf.{ShelfState};
+    ghost use Rattle.ice_edge.specs.MemoryFile.{file_of};
+
+    ghost Value = { ShelfState };
+
+    ghost view = { λ s. record { files = map file_of s.files.items; failing = s.failing.items; calls = s.calls; faults = s.faults; overlong = s.overlong } };
+}
+
+fn look_up<'a>(files: &'a [MemFile], name: &str) -> Option<&'a Vec<u8>>
+    ensures { let here = found (map file_of files.now) name.now in MatchOption result (here ≡ None) (λ bytes. here ≡ Some bytes.now.items) }
+{
+    for file in files {
+        if file.name.as_str() == name {
+            return Some(&file.bytes);
+        }
+    }
+    None
+}
+
+fn make_file(alloc: Global, name: &str, bytes: &[u8]) -> Result<MemFile, AllocError>
+    ensures { IfOk result (λ file. file_of file ≡ record { name = name.now; bytes = bytes.now }) }
+{
+    Ok(MemFile {
+        name: String::from_str(alloc, name)?,
+        bytes: bytes.to_vec(alloc)?,
+    })
+}
+
+fn is_planned(failing: &[u64], call: u64) -> bool
+    ensures { result ≡ list_any (λ planned. planned == call) failing.now }
+{
+    failing.contains(&call)
+}
+
+impl MemShelf {
+    /// An empty shelf, of which no fetch is to fail.
+    pub fn new(alloc: Global) -> Result<MemShelf, NoMemory>
+        ensures { IfOk result (λ shelf. shelf ≡ empty_shelf) }
+    {
+        Ok(MemShelf {
+            alloc,
+            files: Vec::new(alloc),
+            failing: Vec::new(alloc),
+            calls: 0,
+            faults: 0,
+            overlong: 0,
+        })
+    }
+
+    /// Adds a file, or puts other bytes under its name.
+    pub fn add(&mut self, name: &str, bytes: &[u8]) -> Result<(), NoMemory>
+        ensures ok { OnOk result (self.new ≡ with_file self.old name.now bytes.now) }
+        ensures err { OnErr result (self.new ≡ self.old) }
+    {
+        let Ok(file) = make_file(self.alloc, name, bytes) else {
+            return Err(NoMemory);
+        };
+        let Ok(()) = self.files.insert(0, file) else {
+            return Err(NoMemory);
+        };
+        Ok(())
+    }
+
+    /// Makes the fetch with this number fail, counted from 1 on since the shelf was made. Every such call counts.
+    pub fn fail_at(&mut self, call: u32) -> Result<(), NoMemory>
+        ensures ok { OnOk result (self.new ≡ with_failing self.old call) }
+        ensures err { OnErr result (self.new ≡ self.old) }
+    {
+        let Ok(()) = self.failing.push(u64::from(call)) else {
+            return Err(NoMemory);
+        };
+        Ok(())
+    }
+}
+
+impl Shelf for MemShelf {
+    ghost holds = { λ shelf name. Some (held shelf name) };
+
+    ghost faults = { λ shelf name. shelf.faults };
+
+    ghost overlong = { λ shelf name limit. shelf.overlong };
+
+    fn fetch(&mut self, alloc: Global, name: &str, limit: usize) -> Result<Vec<u8>, FetchFault>
+        ensures bytes { IfOk result (λ v. held self.old name.now ≡ Some v.items) }
+        ensures within { IfOk result (λ v. length v.items ≤ limit) }
+        ensures too_long { IsErrOf result FetchFault.TooLong → IsSomeAnd (held self.old name.now) (λ bytes. limit < length bytes) }
+        ensures failed { IsErrOf result FetchFault.Failed → Rose self.old.faults self.new.faults }
+        ensures overlong { IsErrOf result FetchFault.TooLong → Rose self.old.overlong self.new.overlong }
+        ensures same { (n : List ℕ) → held self.new n ≡ held self.old n }
+        ensures faults_later { (n : List ℕ) → self.old.faults ≤ self.new.faults }
+        ensures overlong_later { (n : List ℕ) (most : ℕ) → self.old.overlong ≤ self.new.overlong }
+
+        // It fails exactly where it is told to and where there is no file, and else is too long exactly where there are
+        // more than `limit` bytes. Only want of memory comes beside that.
+        ensures after { self.new ≡ after_fetch self.old name.now limit }
+        ensures answer { MatchOption (fetch_fault self.old name.now limit) (IfErr result (λ fault. fault ≡ FetchFault.NoMemory)) (λ fault. result ≡ Err fault) }
+    {
+        self.calls = self.calls.saturating_add(1);
+        if is_planned(&self.failing, self.calls) {
+            self.faults = self.faults.saturating_add(1);
+            return Err(FetchFault::Failed);
+        }
+        let Some(bytes) = look_up(&self.files, name) else {
+            self.faults = self.faults.saturating_add(1);
+            return Err(FetchFault::Failed);
+        };
+        if bytes.len() > limit {
+            self.overlong = self.overlong.saturating_add(1);
+            return Err(FetchFault::TooLong);
+        }
+        Ok(bytes.to_vec(alloc)?)
+    }
+}
+
+#[cfg(test)]
+mod tests {
+    use super::*;
+    use std::test::Fail;
+
+    #[test]
+    fn fails_where_told_and_at_an_absent_name(rt: HostRuntime) -> Result<(), Fail> {
+        let alloc = rt.alloc();
+        let mut shelf = MemShelf::new(alloc)?;
+        shelf.add("one", b"abc")?;
+        shelf.add("two", b"")?;
+        shelf.add("one", b"abcd")?;
+        shelf.fail_at(2)?;
+        assert_eq!(rt;
+            shelf.fetch(alloc, "one", 4)?.as_slice(),
+            b"abcd".as_slice()
+        );
+        assert_eq!(rt;
+            shelf
+                .fetch(alloc, "one", 4)
+                .is_err_and(|fault| fault == FetchFault::Failed),
+            true
+        );
+        assert_eq!(rt;
+            shelf
+                .fetch(alloc, "one", 3)
+                .is_err_and(|fault| fault == FetchFault::TooLong),
+            true
+        );
+        assert_eq!(rt;
+            shelf
+                .fetch(alloc, "six", 3)
+                .is_err_and(|fault| fault == FetchFault::Failed),
+            true
+        );
+        assert_eq!(rt; shelf.fetch(alloc, "two", 0)?.len(), 0);
+        Ok(())
+    }
+}

@@ -1,0 +1,246 @@
+//! Fractions in lowest terms.
+ghost use Rattle.std.specs.Prelude.{◌≡◌, ◌≢◌, ◌⊎◌, ◌↔◌, ◌<◌, ◌*◌, ◌^◌, pos, ◌<ℤ◌, unsigned_abs, IfOk, IfSome, IsNone};
+ghost use Rattle.std.specs.Result.{result_ok};
+ghost use Rattle.std.specs.Ordering.{nat_cmp};
+ghost use Rattle.ice_defs.specs.Fraction.{Fraction, Equals, plus, less, times, negated};
+ghost use Rattle.ice_defs.specs.Frac.{lowest, add, sub, mul, div, reciprocal};
+ghost use Rattle.ice_frac.specs.Lowest.{IsLowest};
+ghost use Rattle.ice_frac.specs.Order.{order_of};
+
+use crate::euclid::common_divisor;
+use crate::narrow::{Wide, den_product, product, quotient, sum, with_sign_of};
+use std::cmp::Ordering;
+use std::marker::Model;
+
+/// A fraction in lowest terms: a numerator within 2^127 - 1 in size over a denominator from 1 to 2^127 - 1.
+#[derive(Clone, Copy, PartialEq, Eq)]
+pub struct Frac {
+    num: i128,
+    den: u128,
+}
+
+impl Model for Frac {
+    ghost Value = { Fraction };
+
+    ghost view = { λ f. record { num = f.num; den = f.den } };
+
+    ghost invariant = { λ f. IsLowest (record { num = f.num; den = f.den }) };
+
+    ghost inverse = { λ v. record { num = v.num; den = v.den } };
+}
+
+/// A numerator and a denominator in range, in lowest terms.
+fn reduce(num: i128, den: u128) -> Frac
+    requires sized { unsigned_abs num < 2 ^ 127 }
+    requires positive { 0 < den }
+    requires below { den < 2 ^ 127 }
+    ensures value { result ≡ lowest num den }
+    ensures lowest { IsLowest result }
+{
+    let shared = common_divisor(num.unsigned_abs(), den);
+    Frac {
+        num: quotient(num, shared),
+        den: den / shared,
+    }
+}
+
+/// The order of the products a * d and c * b, each exact at 256 bits.
+fn compare_products(a: u128, d: u128, c: u128, b: u128) -> Ordering
+    ensures { result ≡ nat_cmp (a * d) (c * b) }
+{
+    let (low, high) = a.carrying_mul(d, 0);
+    let (other_low, other_high) = c.carrying_mul(b, 0);
+    if high < other_high {
+        return Ordering::Less;
+    }
+    if other_high < high {
+        return Ordering::Greater;
+    }
+    if low < other_low {
+        return Ordering::Less;
+    }
+    if other_low < low {
+        return Ordering::Greater;
+    }
+    Ordering::Equal
+}
+
+impl Frac {
+    /// The fraction `num / den` in lowest terms. None exactly where `den` is below 1 or `num` is the least `i128`.
+    pub fn new(num: i128, den: i128) -> Option<Frac>
+        ensures none { IsNone result ↔ (den <ℤ pos 1) ⊎ (num ≡ i128.MIN) }
+        ensures value { IfSome result (λ r. r ≡ lowest num (unsigned_abs den)) }
+        ensures equal { IfSome result (λ r. Equals r (record { num = num; den = unsigned_abs den })) }
+        ensures lowest { IfSome result IsLowest }
+    {
+        if den < 1 || num == i128::MIN {
+            return None;
+        }
+        Some(reduce(num, den as u128))
+    }
+
+    /// The numerator, which has the fraction's sign.
+    pub fn num(&self) -> i128
+        ensures value { result ≡ self.now.num }
+        ensures lowest { IsLowest self.now }
+    {
+        self.num
+    }
+
+    /// The denominator, at least 1.
+    pub fn den(&self) -> u128
+        ensures value { result ≡ self.now.den }
+        ensures lowest { IsLowest self.now }
+    {
+        self.den
+    }
+
+    /// The fraction of the other sign. It never refuses, since the range of numerators is the same on both sides of 0.
+    pub fn negated(&self) -> Frac
+        ensures value { result ≡ negated self.now }
+        ensures lowest { IsLowest result }
+    {
+        Frac {
+            num: -self.num,
+            den: self.den,
+        }
+    }
+
+    /// The fraction with numerator and denominator exchanged, and the same sign.
+    pub fn reciprocal(&self) -> Frac
+        requires { self.now.num ≢ pos 0 }
+        ensures value { result ≡ reciprocal self.now }
+        ensures lowest { IsLowest result }
+    {
+        Frac {
+            num: with_sign_of(self.num, self.den),
+            den: self.num.unsigned_abs(),
+        }
+    }
+
+    /// The sum, exact. Wide exactly where one of the summands over the least common denominator, their sum or that
+    /// denominator is out of range.
+    pub fn add(&self, other: &Frac) -> Result<Frac, Wide>
+        ensures exact { result_ok result ≡ add self.now other.now }
+        ensures equal { IfOk result (λ r. Equals r (plus self.now other.now)) }
+        ensures lowest { IfOk result IsLowest }
+    {
+        let shared = common_divisor(self.den, other.den);
+        let left = product(self.num, (other.den / shared) as i128)?;
+        let right = product(other.num, (self.den / shared) as i128)?;
+        let num = sum(left, right)?;
+        let den = den_product(self.den, other.den / shared)?;
+        Ok(reduce(num, den))
+    }
+
+    /// The difference, exact. Wide exactly where the sum with the negated fraction is.
+    pub fn sub(&self, other: &Frac) -> Result<Frac, Wide>
+        ensures exact { result_ok result ≡ sub self.now other.now }
+        ensures equal { IfOk result (λ r. Equals r (less self.now other.now)) }
+        ensures lowest { IfOk result IsLowest }
+    {
+        self.add(&other.negated())
+    }
+
+    /// The product, exact. Wide exactly where the product in lowest terms is out of range.
+    pub fn mul(&self, other: &Frac) -> Result<Frac, Wide>
+        ensures exact { result_ok result ≡ mul self.now other.now }
+        ensures equal { IfOk result (λ r. Equals r (times self.now other.now)) }
+        ensures lowest { IfOk result IsLowest }
+    {
+        let left = common_divisor(self.num.unsigned_abs(), other.den);
+        let right = common_divisor(other.num.unsigned_abs(), self.den);
+        let num = product(quotient(self.num, left), quotient(other.num, right))?;
+        let den = den_product(self.den / right, other.den / left)?;
+        Ok(Frac { num, den })
+    }
+
+    /// The quotient by a divisor that isn't 0, exact. Wide exactly where the product with the reciprocal is.
+    pub fn div(&self, other: &Frac) -> Result<Frac, Wide>
+        requires { other.now.num ≢ pos 0 }
+        ensures exact { result_ok result ≡ div self.now other.now }
+        ensures equal { IfOk result (λ r. Equals (times r other.now) self.now) }
+        ensures lowest { IfOk result IsLowest }
+    {
+        self.mul(&other.reciprocal())
+    }
+
+    /// The order of two fractions, exact for every pair.
+    pub fn cmp(&self, other: &Frac) -> Ordering
+        ensures { result ≡ order_of self.now other.now }
+    {
+        let left = self.num.unsigned_abs();
+        let right = other.num.unsigned_abs();
+        if self.num < 0 {
+            if other.num < 0 {
+                compare_products(right, self.den, left, other.den)
+            } else {
+                Ordering::Less
+            }
+        } else if other.num < 0 {
+            Ordering::Greater
+        } else {
+            compare_products(left, other.den, right, self.den)
+        }
+    }
+}
+
+#[cfg(test)]
+mod tests {
+    use super::*;
+
+    /// 2^126
+    const BIG: i128 = 1 << 126;
+
+    fn parts(outcome: Result<Frac, Wide>) -> Option<(i128, u128)> {
+        match outcome {
+            Ok(fraction) => Some((fraction.num(), fraction.den())),
+            Err(Wide) => None,
+        }
+    }
+
+    #[test]
+    fn makes_lowest_terms(rt: HostRuntime) {
+        let cases = [
+            (6, 4, Some((3, 2))),
+            (-6, 4, Some((-3, 2))),
+            (0, 5, Some((0, 1))),
+            (i128::MAX, 1, Some((i128::MAX, 1))),
+            (i128::MIN, 1, None),
+            (1, 0, None),
+            (1, -2, None),
+        ];
+        for (num, den, wanted) in cases {
+            let made = parts(Frac::new(num, den).ok_or(Wide));
+            assert!(rt; made == wanted, "{num} over {den}");
+        }
+    }
+
+    #[test]
+    fn operates(rt: HostRuntime) {
+        let half = Frac::new(1, 2).expect(&rt, "1/2");
+        let third = Frac::new(-1, 3).expect(&rt, "-1/3");
+        let tiny = Frac::new(1, BIG).expect(&rt, "1/2^126");
+        let big = Frac::new(BIG, 1).expect(&rt, "2^126");
+        let cases = [
+            ("1/2 - 1/3", half.add(&third), Some((1, 6))),
+            ("1/2 + 1/3", half.sub(&third), Some((5, 6))),
+            ("1/2 + 1/2", half.add(&half), Some((1, 1))),
+            ("1/2 * -1/3", half.mul(&third), Some((-1, 6))),
+            ("2^126 * 1/2", big.mul(&half), Some((BIG / 2, 1))),
+            ("2^126 * 2^126", big.mul(&big), None),
+            ("1/2^126 - 1/3", tiny.add(&third), None),
+            ("1/2^126 + 1/3", tiny.sub(&third), None),
+        ];
+        for (name, outcome, wanted) in cases {
+            assert!(rt; parts(outcome) == wanted, "{name}");
+        }
+        assert!(rt; tiny.cmp(&third.negated()) == Ordering::Less);
+        assert!(rt; third.cmp(&tiny) == Ordering::Less);
+        assert!(rt; big.cmp(&half) == Ordering::Greater);
+        if third.num() != 0 {
+            assert!(rt; parts(half.div(&third)) == Some((-3, 2)));
+            assert!(rt; third.reciprocal().num() == -3);
+        }
+    }
+}

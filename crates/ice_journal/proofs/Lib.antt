@@ -1,0 +1,12 @@
+pub mod RecordParts
+pub mod Listed
+pub mod Changed
+pub mod Bits
+pub mod Clear
+pub mod OneSpelling
+pub mod Slashes
+pub mod Numbers
+pub mod Journals
+pub mod Counted
+pub mod Numerators
+pub mod Joined

@@ -1,0 +1,5 @@
+use Rattle.ice_journal.proofs.RecordParts.{none_after, final_row}
+use Rattle.ice_journal.proofs.records.final_record.Goals as goal
+
+pub returns-in_err-value : goal.returns-in_err-value
+returns-in_err-value c = rw c.from_residual.ensures (none_after final_row c.args.fields c.in_err-value.ensures)

@@ -1,0 +1,9 @@
+pub mod Records
+pub mod Spelling
+pub mod Ranges
+pub mod Journal
+pub mod Plain
+pub mod Lines
+pub mod Reading
+pub mod Words
+pub mod Ends

@@ -1,0 +1,38 @@
+-- The first word of a record.
+use Rattle.std.specs.Prelude.{ℕ, List, codes}
+use Rattle.ice_journal.specs.declared.words.Word.{Word}
+use Rattle.ice_journal.specs.declared.words.Word.TheVariants as word
+
+abbrev pub word_text : Word → List ℕ
+word_text word.Ice = codes "ice"
+word_text word.Settings = codes "settings"
+word_text word.Good = codes "good"
+word_text word.Exact = codes "exact"
+word_text word.Bidder = codes "bidder"
+word_text word.Node = codes "node"
+word_text word.Assign = codes "assign"
+word_text word.Settle = codes "settle"
+word_text word.Final = codes "final"
+word_text word.Rival = codes "rival"
+word_text word.Provisional = codes "provisional"
+word_text word.Without = codes "without"
+word_text word.Set = codes "set"
+word_text word.Branch = codes "branch"
+word_text word.Leaf = codes "leaf"
+word_text word.Dead = codes "dead"
+word_text word.Near = codes "near"
+word_text word.Regret = codes "regret"
+word_text word.Prices = codes "prices"
+word_text word.Accuracy = codes "accuracy"
+word_text word.Balance = codes "balance"
+word_text word.Row = codes "row"
+word_text word.Submit = codes "submit"
+word_text word.Verdict = codes "verdict"
+word_text word.Threshold = codes "threshold"
+word_text word.Payment = codes "payment"
+word_text word.Spent = codes "spent"
+word_text word.Limit = codes "limit"
+word_text word.Pool = codes "pool"
+word_text word.End = codes "end"
+word_text word.Refused = codes "refused"
+word_text word.Unread = codes "unread"

@@ -1,0 +1,15 @@
+ghost use Rattle.std.specs.Prelude.{◌≡◌, ℕ, List, Result};
+ghost use Rattle.ice_journal.specs.Records.{Record};
+ghost use Rattle.ice_journal.specs.Ranges.{IsRecord};
+ghost use Rattle.ice_journal.specs.Spelling.{text_of};
+ghost use Rattle.ice_journal.specs.Journal.{LinesFault, IsJournalOf};
+
+/// What is written of a record is read as no other.
+pub fn texts_tell_records()
+    ensures { (a b : Record) → IsRecord a → IsRecord b → text_of a ≡ text_of b → a ≡ b }
+{}
+
+/// Bytes are the lines of one list of records, or have one least line at fault, and never both.
+pub fn bytes_tell_journals()
+    ensures { (bytes : List ℕ) (a b : Result (List Record) LinesFault) → IsJournalOf bytes a → IsJournalOf bytes b → a ≡ b }
+{}

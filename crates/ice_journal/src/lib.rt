@@ -1,0 +1,20 @@
+//! The records of journals and of files in line form, each with one spelling, read and written.
+#![tactic(auto)]
+
+mod fractions;
+mod items;
+mod laws;
+mod line;
+mod lines;
+mod lists;
+mod record;
+mod records;
+mod rows;
+mod words;
+mod write;
+
+pub use laws::{bytes_tell_journals, texts_tell_records};
+pub use line::{Change, EndWord, Kind, LimitKind, Line, LowestFraction, Stage, Version};
+pub use lines::{LinesEnd, read_lines};
+pub use record::read_record;
+pub use write::write_record;

@@ -1,0 +1,218 @@
+use arrayvec::ArrayVec;
+use ice_defs::Verdict;
+use ice_set::NodeSet;
+use ice_terms::{Name, Prices, Settings};
+
+/// The version of a journal.
+#[derive(Clone, Copy, Debug, PartialEq, Eq)]
+pub enum Version {
+    One,
+    Two,
+}
+
+/// What a journal or a file in line form is of.
+#[derive(Clone, Copy, Debug, PartialEq, Eq)]
+pub enum Kind {
+    Assign,
+    Regret,
+    Session,
+    Exchange,
+    Prices,
+}
+
+/// The last word of a journal or a file.
+#[derive(Clone, Copy, Debug, PartialEq, Eq)]
+pub enum EndWord {
+    Assign,
+    Exchange,
+    Prices,
+    Regret,
+    Closed,
+    Open,
+    Spent,
+    Limit,
+}
+
+/// Where a pricing run ended before its prices were found.
+#[derive(Clone, Copy, Debug, PartialEq, Eq)]
+pub enum Stage {
+    Accuracy,
+    Balance,
+}
+
+/// Why a pricing run ended before its prices were found.
+#[derive(Clone, Copy, Debug, PartialEq, Eq)]
+pub enum LimitKind {
+    Wide,
+    Pivots,
+    Rows,
+    Den,
+}
+
+/// A multiplier that differs from the one of the leaf before it: its good, from 0 to 31, and its number in 64ths,
+/// from -2^56 to 2^56.
+#[derive(Clone, Copy, Default)]
+pub struct Change {
+    pub good: u8,
+    pub multiplier: i64,
+}
+
+/// A fraction in lowest terms: a numerator of at most 10^18 in size, over a denominator from 1 to 1,000.
+#[derive(Clone, Copy)]
+pub struct LowestFraction {
+    pub num: i64,
+    pub den: u16,
+}
+
+/// One record of a journal or of a file in line form. Bidders, goods and nodes are numbered from 0.
+/// It takes no memory.
+#[derive(Drop)]
+pub enum Line {
+    /// `ice VERSION KIND`. Version 2 is of a regret or a session.
+    Head {
+        version: Version,
+        kind: Kind,
+    },
+    /// `settings W C P I R B`.
+    Settings(Settings),
+    /// `good NAME`, with free disposal.
+    Good(Name),
+    /// `exact NAME`, a good without disposal.
+    Exact(Name),
+    /// `bidder NAME O ..`: 1 to 32 owned amounts of at most 1,000,000, one per good.
+    Bidder {
+        name: Name,
+        own: ArrayVec<u32, 32>,
+    },
+    /// `node choose L M N LO HI`: least, most and number of children, each at most 199; values of at most 10^9 in size.
+    Choose {
+        least: u16,
+        most: u16,
+        children: u16,
+        lo: i64,
+        hi: i64,
+    },
+    /// `node buy G U LO HI`: a good of at most 31, 1 to 1,000 units.
+    Buy {
+        good: u8,
+        units: u16,
+        lo: i64,
+        hi: i64,
+    },
+    /// `node sell G U LO HI`, with the limits of `Buy`.
+    Sell {
+        good: u8,
+        units: u16,
+        lo: i64,
+        hi: i64,
+    },
+    /// `assign`.
+    Assign,
+    /// `settle R`: a settlement of at most 20.
+    Settle {
+        number: u8,
+    },
+    /// `final V`: a value of at most 4 * 10^14 in size.
+    Final {
+        value: i64,
+    },
+    /// `rival V`, with the limits of `Final`.
+    Rival {
+        value: i64,
+    },
+    /// `provisional V`, in hundredths, with the limits of `Final`.
+    Provisional {
+        value: i64,
+    },
+    /// `without B V`: a bidder of at most 39, a value with the limits of `Final`.
+    Without {
+        bidder: u8,
+        value: i64,
+    },
+    /// `set BITS`: 1 to 200 bits.
+    Set(NodeSet),
+    /// `branch B N`: a bidder of at most 39, a node of at most 199.
+    Branch {
+        bidder: u8,
+        node: u16,
+    },
+    /// `leaf M ..`: 1 to 32 multipliers from -2^56 to 2^56.
+    Leaf(ArrayVec<i64, 32>),
+    /// `dead B`: a bidder of at most 39.
+    Dead {
+        bidder: u8,
+    },
+    /// `near K G M ..`: at most 32 changes, their goods strictly ascending.
+    Near(ArrayVec<Change, 32>),
+    /// `regret A`: from 0 to 4 * 10^14.
+    Regret {
+        amount: i64,
+    },
+    /// `prices D N ..`.
+    Prices(Prices),
+    /// `accuracy X D`: a violation from 0 to 2^100 over a denominator from 1 to 2^32.
+    Accuracy {
+        violation: i128,
+        den: u64,
+    },
+    /// `balance D`: from 1 to 2^32.
+    Balance {
+        den: u64,
+    },
+    /// `row B W BITS`: a bidder of at most 39, a weight from 1 to 2^32, 1 to 200 bits.
+    Row {
+        bidder: u8,
+        weight: u64,
+        set: NodeSet,
+    },
+    /// `submit NAME K LO .. L HI ..`: two lists of at most 200 values of at most 10^9 in size.
+    Submit {
+        name: Name,
+        lo: ArrayVec<i32, 200>,
+        hi: ArrayVec<i32, 200>,
+    },
+    /// `verdict accepted`, `verdict 40 N` and the others: a node of at most 199.
+    Verdict(Verdict),
+    /// `threshold C S`: cut and surplus.
+    Threshold {
+        cut: LowestFraction,
+        surplus: LowestFraction,
+    },
+    /// `payment NAME V D P`: the Vickrey discount, from 0 to 10^15, the discount and the payment.
+    Payment {
+        name: Name,
+        vickrey: i64,
+        discount: LowestFraction,
+        payment: LowestFraction,
+    },
+    /// `spent V X`: a value with the limits of `Final`, and any bound.
+    Spent {
+        value: i64,
+        bound: i128,
+    },
+    /// `limit STAGE KIND X D`, with the limits of `Accuracy`.
+    Limit {
+        stage: Stage,
+        kind: LimitKind,
+        violation: i128,
+        den: u64,
+    },
+    /// `pool B BITS`: a bidder of at most 39, 1 to 200 bits.
+    Pool {
+        bidder: u8,
+        set: NodeSet,
+    },
+    /// `end WORD`.
+    End(EndWord),
+    /// `refused F N PLACE`: a file from 1 to 21, a number from 1 to 99, a place of 1 to 256 letters, digits, `_`, `-`
+    /// and dots, where `-` alone means no place.
+    Refused {
+        file: u8,
+        number: u8,
+        place: ArrayVec<u8, 256>,
+    },
+    /// `unread F`: a file from 1 to 21.
+    Unread {
+        file: u8,
+    },
+}

@@ -1,0 +1,15 @@
+pub mod Growing
+pub mod Opening
+pub mod Drafts
+pub mod Sold
+pub mod Standing
+pub mod Ranged
+pub mod Whole
+pub mod Returning
+pub mod Retaking
+pub mod Describing
+pub mod Keeping
+pub mod Reaching
+pub mod Carrying
+pub mod Holding
+pub mod Noding

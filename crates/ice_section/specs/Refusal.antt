@@ -1,0 +1,22 @@
+-- The faults that the code answers, and when each is due.
+use Rattle.std.specs.Prelude.{ℕ, ◌≡◌, Option, Some, Result, Err}
+use Rattle.ice_section.specs.declared.faults.SectionFault.{SectionFault}
+use Rattle.ice_section.specs.declared.faults.SectionFault.TheVariants as fault
+use Rattle.ice_section.specs.Section.{Section, order, count, no_good, maker}
+use Rattle.ice_section.specs.Section as told
+
+-- the fault of this refusal; want of memory is free
+abbrev pub IsRefusal : Result Section told.SectionFault → SectionFault → Type 0
+IsRefusal found fault.Order = found ≡ Err order
+IsRefusal found fault.Count = found ≡ Err count
+IsRefusal found fault.NoGood = found ≡ Err no_good
+IsRefusal found (fault.Maker number) = found ≡ Err (maker number)
+IsRefusal found fault.NoMemory = Unit {0}
+
+-- the fault of a refusal by the exchange's maker, which has a number
+abbrev pub IsMakerRefusal : Option ℕ → SectionFault → Type 0
+IsMakerRefusal due fault.Order = ⊥
+IsMakerRefusal due fault.Count = ⊥
+IsMakerRefusal due fault.NoGood = ⊥
+IsMakerRefusal due (fault.Maker number) = due ≡ Some number
+IsMakerRefusal due fault.NoMemory = Unit {0}

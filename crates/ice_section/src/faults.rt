@@ -1,0 +1,27 @@
+//! Why a record is refused.
+use thiserror::Error;
+
+/// There is no memory left.
+#[derive(Clone, Copy, Debug, Error, PartialEq, Eq)]
+#[error("no memory is left")]
+pub struct NoMemory;
+
+/// Why a section does not take a record.
+#[derive(Clone, Copy, Debug, Error, PartialEq, Eq)]
+pub enum SectionFault {
+    /// The record may not stand here.
+    #[error("this record may not stand here")]
+    Order,
+    /// The owned amounts of a bidder are not as many as the goods.
+    #[error("the owned amounts are not as many as the goods")]
+    Count,
+    /// A node names a good that is not there.
+    #[error("the node names no good")]
+    NoGood,
+    /// A maker refuses, with this number.
+    #[error("refused with the number {number}")]
+    Maker { number: u8 },
+    /// There is no memory left.
+    #[error("no memory is left")]
+    NoMemory,
+}

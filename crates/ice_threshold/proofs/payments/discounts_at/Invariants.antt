@@ -1,0 +1,6 @@
+use Rattle.std.proofs.Common.{take}
+use Rattle.ice_threshold.specs.CutOff.{AreCutDown}
+use Rattle.ice_threshold.proofs.payments.discounts_at.Given as goal
+
+abbrev pub invariant-loop-discount : goal.invariant-loop-discount
+invariant-loop-discount l = AreCutDown l.cut l.discounts.items (take l.discount-index l.vickrey)

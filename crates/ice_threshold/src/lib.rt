@@ -1,0 +1,10 @@
+//! Threshold payments: one cut off all Vickrey discounts, as small as the total allows.
+#![tactic(auto)]
+
+mod cut;
+mod laws;
+mod payments;
+mod ratio;
+
+pub use laws::{cut_down_is_threshold, cut_is_threshold};
+pub use payments::{NoMemory, Payments, threshold};

@@ -1,0 +1,206 @@
+-- An exchange that grows by a good or a bidder that isn't refused stays lawful.
+use Rattle.std.proofs.Common.{ℕ, zero, suc, ◌+◌, ◌<◌, ◌≤◌, ◌≡◌, Bool, true, false, cond, ◌||◌, not, ltb, leb, List, [], ◌∷◌, ◌++◌, map, length, ℤ, pos, neg_ℤ, ◌+ℤ◌, ◌≤ℤ◌, Option, Some, None, refl, arith, ap, sym, ◌∙◌, ◌⊎◌, inl, inr, subst}
+use Rattle.std.specs.Prelude.{IsTrue, is_some, int_lt, find, slice_index, slice_index_or}
+use Rattle.std.specs.Option.{option_or}
+use Rattle.std.specs.List.{AllByRecursion, IsDistinct, list_any, position, position_or_len}
+use Rattle.std.specs.Str.{bytes_eq}
+use Rattle.std.proofs.lemmas.Int.{ints}
+use Rattle.std.proofs.lemmas.Bool.{cases_lt, le-ltb, false_from_ne_true, ltb-true, ltb-false, leb-false, or_parts, not-false}
+use Rattle.std.proofs.lemmas.List.{map-append, length_push, length-map}
+use Rattle.std.proofs.lemmas.Slice.Eq.{bytes_eq-Decides}
+use Rattle.std.proofs.lemmas.List.Folds.{find-append}
+use Rattle.std.proofs.lemmas.List.Sums.{sum_by_push}
+use Rattle.ice_defs.specs.Sum.{numbers_below}
+use Rattle.ice_defs.specs.Tree.{Tree}
+use Rattle.ice_defs.specs.Set.{NodeSet, IsSatisfied, units}
+use Rattle.ice_defs.specs.Sale.{greatest_sale}
+use Rattle.ice_defs.specs.Trade.{tree_of}
+use Rattle.ice_defs.specs.Name.{is_name}
+use Rattle.ice_defs.specs.Exchange.{Settings, AreSettings, Good, Bidder, Exchange}
+use Rattle.ice_defs.specs.Lawful.{IsBidder, IsExchange}
+use Rattle.ice_defs.specs.Making.{good_refusal, node_count, over_sale, bidder_refusal}
+use Rattle.ice_best.proofs.Sales.{greatest_sale-greatest}
+use Rattle.ice_trade.specs.Parts.{IsUnfinished, no_exchange, with_good, with_bidder}
+
+-- ---- one more in a list
+
+all_push : {X : Type 0} (P : X → Type 0) (xs : List X) (x : X) → AllByRecursion P xs → P x → AllByRecursion P (xs ++ x ∷ [])
+all_push P [] x all is = (is, tt)
+all_push P (y ∷ xs) x all is = (all.0, all_push P xs x all.1 is)
+
+distinct_push : {X : Type 0} (name : X → List ℕ) (xs : List X) (x : X) → IsDistinct bytes_eq (map name xs)
+    → list_any (λ other. bytes_eq (name other) (name x)) xs ≡ false → IsDistinct bytes_eq (map name xs ++ name x ∷ [])
+unfolding IsDistinct
+distinct_push name [] x distinct new = (tt, tt)
+distinct_push name (y ∷ xs) x distinct new =
+    let (here, later) = or_parts (bytes_eq (name y) (name x)) (list_any (λ other. bytes_eq (name other) (name x)) xs) new in
+    (all_push (λ n. bytes_eq (name y) n ≡ false) (map name xs) (name x) distinct.0 here, distinct_push name xs x distinct.1 later)
+
+abbrev AreNamed : {X : Type 0} → (X → List ℕ) → List X → Type 0
+AreNamed name xs = AllByRecursion (λ n. IsTrue (is_name n)) (map name xs) × IsDistinct bytes_eq (map name xs)
+
+named_push : {X : Type 0} (name : X → List ℕ) (xs : List X) (x : X) → AreNamed name xs → is_name (name x) ≡ true
+    → list_any (λ other. bytes_eq (name other) (name x)) xs ≡ false → AreNamed name (xs ++ x ∷ [])
+named_push name xs x named is new =
+    subst (λ ns. AllByRecursion (λ n. IsTrue (is_name n)) ns × IsDistinct bytes_eq ns) (sym (map-append name xs (x ∷ [])))
+    (all_push (λ n. IsTrue (is_name n)) (map name xs) (name x) named.0 is, distinct_push name xs x named.1 new)
+
+-- ---- what isn't refused
+
+refused_not : (b : Bool) (number : ℕ) (other : Option ℕ) → cond b (Some number) other ≡ None → (b ≡ false) × (other ≡ None)
+refused_not true number other e = absurd cc
+refused_not false number other e = (refl, e)
+
+not_some : {X : Type 0} (o : Option X) → is_some o ≡ false → o ≡ None
+not_some None e = refl
+not_some (Some x) e = absurd cc
+
+no_bidder : (bidders : List Bidder) → length bidders ≤ 0 → bidders ≡ []
+no_bidder [] none = refl
+no_bidder (b ∷ bidders) none = absurd (omega arith)
+
+pub IsUnfinished-new : (settings : Settings) → AreSettings settings → IsUnfinished (no_exchange settings)
+unfolding IsDistinct
+IsUnfinished-new settings are = record {
+  settings = are;
+  goods_count = omega arith;
+  bidders_count = omega arith;
+  goods_named = tt;
+  goods = tt;
+  bidders_named = tt;
+  names = tt;
+  bidders = tt;
+  nodes = omega arith;
+  sold = tt;
+}
+
+pub IsUnfinished-good : (ex : Exchange) (good : Good) → IsUnfinished ex → good_refusal ex.goods ex.bidders good.name ≡ None → IsUnfinished (with_good ex good)
+IsUnfinished-good ex good is unrefused =
+    let (none, r₁) = refused_not (ltb 0 (length ex.bidders)) 17 _ unrefused in
+    let (named, r₂) = refused_not (not (is_name good.name)) 13 _ r₁ in
+    let (new, r₃) = refused_not (list_any (λ other. bytes_eq other.name good.name) ex.goods) 10 _ r₂ in
+    let (few, r₄) = refused_not (leb 32 (length ex.goods)) 12 _ r₃ in
+    let (names, distinct) = named_push (λ g. g.name) ex.goods good (is.goods_named, is.goods) (not-false _ named) new in
+    let empty : ex.bidders ≡ [] = no_bidder ex.bidders (ltb-false 0 (length ex.bidders) none) in
+    record {
+      settings = is.settings;
+      goods_count = omega (arith, length_push ex.goods good, leb-false 32 (length ex.goods) few);
+      bidders_count = is.bidders_count;
+      goods_named = names;
+      goods = distinct;
+      bidders_named = is.bidders_named;
+      names = is.names;
+      bidders = subst (λ bidders. AllByRecursion (IsBidder (length (ex.goods ++ good ∷ []))) bidders) (sym empty) tt;
+      nodes = is.nodes;
+      sold = subst (λ bidders. AllByRecursion (λ b. over_sale (length (ex.goods ++ good ∷ [])) b.tree b.own ≡ None) bidders) (sym empty) tt;
+    }
+
+pub IsUnfinished-bidder : (ex : Exchange) (b : Bidder) → IsUnfinished ex → IsBidder (length ex.goods) b → bidder_refusal (length ex.goods) ex.bidders b ≡ None → IsUnfinished (with_bidder ex b)
+IsUnfinished-bidder ex b is bidder unrefused =
+    let (named, r₁) = refused_not (not (is_name b.name)) 13 _ unrefused in
+    let (new, r₂) = refused_not (list_any (λ other. bytes_eq other.name b.name) ex.bidders) 11 _ r₁ in
+    let (few, r₃) = refused_not (leb 40 (length ex.bidders) || ltb 2000 (node_count ex.bidders + length b.tree)) 12 _ r₂ in
+    let (sold, r₄) = refused_not (is_some (over_sale (length ex.goods) b.tree b.own)) 14 _ r₃ in
+    let (few_bidders, few_nodes) = or_parts (leb 40 (length ex.bidders)) (ltb 2000 (node_count ex.bidders + length b.tree)) few in
+    let (names, distinct) = named_push (λ x. x.name) ex.bidders b (is.bidders_named, is.names) (not-false _ named) new in
+    record {
+      settings = is.settings;
+      goods_count = is.goods_count;
+      bidders_count = omega (arith, length_push ex.bidders b, leb-false 40 (length ex.bidders) few_bidders);
+      goods_named = is.goods_named;
+      goods = is.goods;
+      bidders_named = names;
+      names = distinct;
+      bidders = all_push (IsBidder (length ex.goods)) ex.bidders b is.bidders bidder;
+      nodes = omega (arith, sum_by_push (λ x. length x.tree) ex.bidders b, ltb-false 2000 (node_count ex.bidders + length b.tree) few_nodes);
+      sold = all_push (λ x. over_sale (length ex.goods) x.tree x.own ≡ None) ex.bidders b is.sold (not_some _ sold);
+    }
+
+-- ---- no good is sold above what is owned
+
+both_none : {X : Type 0} (a b : Option X) → option_or a b ≡ None → (a ≡ None) × (b ≡ None)
+both_none (Some x) b e = absurd cc
+both_none None b e = (refl, e)
+
+passes_not : (b : Bool) (n : ℕ) → cond b (Some n) None ≡ None → b ≡ false
+passes_not true n e = absurd cc
+passes_not false n e = refl
+
+-- a number that isn't found passes no test
+none_found : (p : ℕ → Bool) (n : ℕ) → find p (numbers_below n) ≡ None → (k : ℕ) → k < n → p k ≡ false
+none_found p zero e k l = absurd (omega arith)
+none_found p (suc n) e k l =
+    let (before, here) = both_none (find p (numbers_below n)) (find p (n ∷ [])) (sym (find-append p (numbers_below n) (n ∷ [])) ∙ e) in
+    by (cases_lt k n) (none_found p n before k) (passes_not (p n) n here)
+  where
+    by : (k < n) ⊎ (n ≤ k) → (k < n → p k ≡ false) → p n ≡ false → p k ≡ false
+    by (inl m) old new = old m
+    by (inr m) old new = let e : k ≡ n = omega arith in ap p e ∙ new
+
+int_lt-false : (a b : ℤ) → int_lt a b ≡ false → b ≤ℤ a
+int_lt-false a b e = grind (arith, ints)
+
+sells_owned : (goods : ℕ) (t : Tree) (own : List ℕ) → over_sale goods t own ≡ None → (g : ℕ) (s : NodeSet) → g < goods → IsSatisfied t s → pos 0 ≤ℤ (pos (slice_index own g) +ℤ units t s g)
+sells_owned goods t own none g s l is =
+    let under = int_lt-false (pos (slice_index own g)) (greatest_sale t g) (none_found (λ k. int_lt (pos (slice_index own k)) (greatest_sale t k)) goods none g l) in
+    let most = greatest_sale-greatest t g in
+    let sold = most.bound s is in
+    omega (arith, ints, under, sold)
+
+sold_at : (goods : ℕ) (bidders : List Bidder) → AllByRecursion (λ b. over_sale goods b.tree b.own ≡ None) bidders → (b g : ℕ) (s : NodeSet)
+    → b < length (map (λ x. x.tree) bidders) → g < goods → IsSatisfied (tree_of (map (λ x. x.tree) bidders) b) s
+    → pos 0 ≤ℤ (pos (slice_index (slice_index_or (map (λ x. x.own) bidders) b []) g) +ℤ units (tree_of (map (λ x. x.tree) bidders) b) s g)
+sold_at goods [] sold b g s there known is = absurd (omega arith)
+sold_at goods (x ∷ bidders) sold zero g s there known is = sells_owned goods x.tree x.own sold.0 g s known is
+sold_at goods (x ∷ bidders) sold (suc b) g s there known is = sold_at goods bidders sold.1 b g s (omega arith) known is
+
+pub IsUnfinished-finished : (ex : Exchange) → IsUnfinished ex → 1 ≤ length ex.goods → 1 ≤ length ex.bidders → IsExchange ex
+IsUnfinished-finished ex is good bidder = record {
+  settings = is.settings;
+  goods_count = (good, is.goods_count);
+  bidders_count = (bidder, is.bidders_count);
+  goods_named = is.goods_named;
+  goods = is.goods;
+  bidders_named = is.bidders_named;
+  names = is.names;
+  bidders = is.bidders;
+  nodes = is.nodes;
+  owned = λ b g s there known sat. sold_at (length ex.goods) ex.bidders is.sold b g s there (omega (arith, length-map ex.goods (λ (x : Good). x.exact))) sat;
+}
+
+-- ---- what is no name is the name of nothing
+
+differs : (name x : List ℕ) → ¬ IsTrue (is_name name) → IsTrue (is_name x) → bytes_eq name x ≡ false
+differs name x unlawful is = false_from_ne_true (bytes_eq name x) (λ e. unlawful (subst (λ n. IsTrue (is_name n)) (sym ((bytes_eq-Decides name x).0 e)) is))
+
+all_pass : (name : List ℕ) (names : List (List ℕ)) → AllByRecursion (λ n. IsTrue (is_name n)) names → ¬ IsTrue (is_name name) → position_or_len (bytes_eq name) names ≡ length names
+all_pass name [] all unlawful = refl
+all_pass name (x ∷ names) all unlawful =
+    ap (λ b. cond (not b) (1 + position_or_len (bytes_eq name) names) 0) (differs name x unlawful all.0) ∙ omega (arith, all_pass name names all.1 unlawful)
+
+pub unlawful_absent : (name : List ℕ) (names : List (List ℕ)) → AllByRecursion (λ n. IsTrue (is_name n)) names → ¬ IsTrue (is_name name) → position (bytes_eq name) names ≡ None
+unlawful_absent name names all unlawful =
+    let n = position_or_len (bytes_eq name) names in
+    let not_below : ltb n (length names) ≡ false = le-ltb n (length names) (omega (arith, all_pass name names all unlawful)) in
+    ap (λ b. cond b (Some n) None) not_below
+
+-- ---- what a bidder owns
+
+owned_at : (goods : ℕ) (bidders : List Bidder) → AllByRecursion (IsBidder goods) bidders → (b : ℕ) → b < length bidders
+    → (length (slice_index_or (map (λ x. x.own) bidders) b []) ≡ goods) × AllByRecursion (λ amount. amount ≤ 1000000) (slice_index_or (map (λ x. x.own) bidders) b [])
+owned_at goods [] are b l = absurd (omega arith)
+owned_at goods (x ∷ bidders) are zero l = (are.0.own_count, are.0.own)
+owned_at goods (x ∷ bidders) are (suc b) l = owned_at goods bidders are.1 b (omega arith)
+
+amount_at : (own : List ℕ) → AllByRecursion (λ amount. amount ≤ 1000000) own → (g : ℕ) → slice_index own g ≤ 1000000
+amount_at [] are g = omega arith
+amount_at (x ∷ own) are zero = are.0
+amount_at (x ∷ own) are (suc g) = amount_at own are.1 g
+
+pub owned_count : (goods : ℕ) (bidders : List Bidder) (b : ℕ) → AllByRecursion (IsBidder goods) bidders → b < length bidders → length (slice_index_or (map (λ x. x.own) bidders) b []) ≡ goods
+owned_count goods bidders b are l = (owned_at goods bidders are b l).0
+
+pub owned_most : (goods : ℕ) (bidders : List Bidder) (b g : ℕ) → AllByRecursion (IsBidder goods) bidders → b < length bidders → slice_index (slice_index_or (map (λ x. x.own) bidders) b []) g ≤ 1000000
+owned_most goods bidders b g are l = amount_at (slice_index_or (map (λ x. x.own) bidders) b []) (owned_at goods bidders are b l).1 g
+
+pub ruleset owning = (owned_count, owned_most)

@@ -1,0 +1,5 @@
+pub mod Names
+pub mod Fault
+pub mod Parts
+pub mod Excess
+pub mod Bidders

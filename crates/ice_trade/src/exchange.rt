@@ -1,0 +1,153 @@
+//! An exchange.
+ghost use Rattle.std.specs.Prelude.{◌≡◌, ◌≤◌, ◌<◌, ◌↔◌, [], ℕ, IsOk, IfErr, length, pos, slice_index_or};
+ghost use Rattle.std.specs.List.{position};
+ghost use Rattle.std.specs.Str.{bytes_eq};
+ghost use Rattle.ice_defs.specs.Exchange.{names_of, trees_of, exact_of, opening_bounds, market_of};
+ghost use Rattle.ice_defs.specs.Market.{owned_amount};
+ghost use Rattle.ice_defs.specs.Set.{IsSatisfied};
+ghost use Rattle.ice_defs.specs.Trade.{is_exact, tree_of, set_of, total_units, IsFeasible};
+ghost use Rattle.ice_trade.specs.Excess.{IsExcess};
+ghost use Rattle.ice_defs.specs.Lawful.{IsExchange, good_names};
+
+use crate::faults::TradeFault;
+use crate::feasible::{first_excess, total_units};
+use crate::maker::ExchangeMaker;
+use ice_terms::{Name, Settings};
+use ice_tree::{Assignment, Bounds, Tree};
+use std::marker::Model;
+
+/// An exchange: its settings, 1 to 32 goods, and 1 to 40 bidders with their owned amounts, trees and opening bounds. No
+/// bidder's tree may sell more of a good than the bidder owns.
+#[derive(Drop)]
+pub struct Exchange {
+    made: ExchangeMaker,
+}
+
+impl Model for Exchange {
+    ghost use Rattle.ice_defs.specs.Exchange as exchange;
+    ghost use Rattle.ice_defs.specs.Lawful.{IsExchange};
+
+    ghost Value = { exchange.Exchange };
+
+    ghost view = { λ e. e.made };
+
+    ghost invariant = { λ e. IsExchange e.made };
+}
+
+impl Exchange {
+    pub(crate) fn of(made: ExchangeMaker) -> Exchange
+        requires { IsExchange made }
+        ensures { result ≡ made }
+    {
+        Exchange { made }
+    }
+
+    /// Its settings.
+    pub fn settings(&self) -> Settings
+        ensures { result ≡ self.now.settings }
+    {
+        self.made.settings
+    }
+
+    /// How many goods it has, 1 to 32.
+    pub fn goods(&self) -> u8
+        ensures value { result ≡ length self.now.goods }
+        ensures lawful { IsExchange self.now }
+    {
+        self.made.goods.len()
+    }
+
+    /// How many bidders it has, 1 to 40.
+    pub fn bidders(&self) -> u8
+        ensures value { result ≡ length self.now.bidders }
+        ensures lawful { IsExchange self.now }
+    {
+        self.made.bidders.len()
+    }
+
+    /// The name of a good.
+    pub fn good_name(&self, good: u8) -> &Name
+        requires { good < length self.now.goods }
+        ensures { result.now ≡ slice_index_or (good_names self.now) good [] }
+    {
+        self.made.goods.name(good)
+    }
+
+    /// The name of a bidder.
+    pub fn bidder_name(&self, bidder: u8) -> &Name
+        requires { bidder < length self.now.bidders }
+        ensures { result.now ≡ slice_index_or (names_of self.now) bidder [] }
+    {
+        self.made.bidders.name(bidder)
+    }
+
+    /// How many units of a good a bidder owns.
+    pub fn owns(&self, bidder: u8, good: u8) -> u32
+        requires bidder { bidder < length self.now.bidders }
+        requires good { good < length self.now.goods }
+        ensures value { pos result ≡ owned_amount (market_of self.now) bidder good }
+        ensures fits { result ≤ 1000000 }
+    {
+        self.made.owns(bidder, good)
+    }
+
+    /// Whether what is bought of a good must equal what is sold of it.
+    pub fn is_exact(&self, good: u8) -> bool
+        requires { good < length self.now.goods }
+        ensures { result ≡ is_exact (exact_of self.now) good }
+    {
+        self.exact()[good as usize]
+    }
+
+    /// For each good whether what is bought of it must equal what is sold.
+    pub fn exact(&self) -> &[bool]
+        ensures { result.now ≡ exact_of self.now }
+    {
+        self.made.goods.exact()
+    }
+
+    /// The trees of the bidders.
+    pub fn trees(&self) -> &[Tree]
+        ensures value { result.now ≡ trees_of self.now }
+        ensures lawful { IsExchange self.now }
+    {
+        self.made.bidders.trees()
+    }
+
+    /// The opening bounds of the bidders.
+    pub fn bounds(&self) -> &[Bounds]
+        ensures value { result.now ≡ opening_bounds self.now }
+        ensures lawful { IsExchange self.now }
+    {
+        self.made.bidders.bounds()
+    }
+
+    /// The number of the good with this name, and None exactly where there is none.
+    pub fn find_good(&self, name: &str) -> Option<u8>
+        ensures { result ≡ position (bytes_eq name.now) (good_names self.now) }
+    {
+        self.made.find_good(name)
+    }
+
+    /// The number of the bidder with this name, and None exactly where there is none.
+    pub fn find_bidder(&self, name: &str) -> Option<u8>
+        ensures { result ≡ position (bytes_eq name.now) (names_of self.now) }
+    {
+        self.made.find_bidder(name)
+    }
+
+    /// Whether the units of these sets balance: at most 0 of each good in sum, and exactly 0 of each exact one. Else it
+    /// names the least good at fault, and the sum of its units. It takes no memory.
+    pub fn feasible(&self, sets: &Assignment) -> Result<(), TradeFault>
+        requires count { length sets.now ≡ length self.now.bidders }
+        requires satisfied { (b : ℕ) → b < length self.now.bidders → IsSatisfied (tree_of (trees_of self.now) b) (set_of sets.now b) }
+        ensures feasible { IsOk result ↔ IsFeasible (trees_of self.now) (exact_of self.now) sets.now }
+        ensures excess { IfErr result (λ fault. IsExcess (exact_of self.now) (total_units (trees_of self.now) sets.now) fault.good fault.excess) }
+    {
+        let sums = total_units(self.trees(), sets);
+        match first_excess(&sums, self.exact()) {
+            None => Ok(()),
+            Some(fault) => Err(fault),
+        }
+    }
+}

@@ -1,0 +1,9 @@
+pub mod Adding
+pub mod Bounding
+pub mod Children
+pub mod Counting
+pub mod Drafting
+pub mod Filling
+pub mod Growing
+pub mod Satisfied
+pub mod Storing

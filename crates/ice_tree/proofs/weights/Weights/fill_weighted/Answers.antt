@@ -1,0 +1,8 @@
+use Rattle.std.proofs.Common.{arith}
+use Rattle.ice_tree.proofs.Filling.{weighted_filled}
+use Rattle.ice_tree.proofs.weights.Weights.fill_weighted.Goals as goal
+
+pub returns-clause-value : goal.returns-clause-value
+returns-clause-value c =
+    weighted_filled c.args.weight c.loop-node.self c.args.bounds.now.lo c.args.bounds.now.hi c.loop-node.invariant.same c.len-node-end.ensures.bounds.hi_count
+    (λ k h. c.loop-node.invariant.filled k (omega arith))

@@ -1,0 +1,23 @@
+//! Trees of choose nodes and leaves, sets of their nodes, bounds and weights.
+#![tactic(auto)]
+
+mod assignment;
+mod bounds;
+mod faults;
+mod maker;
+mod rows;
+#[cfg(test)]
+mod tests;
+mod tree;
+mod units;
+mod weights;
+
+pub use assignment::Assignment;
+pub use bounds::Bounds;
+pub use faults::{BoundsFault, NoMemory, SatFault, TreeFault};
+pub use ice_defs::{Node, NodeKind, SatRule};
+pub use ice_set::NodeSet;
+pub use maker::TreeMaker;
+pub use tree::Tree;
+pub use units::Units;
+pub use weights::{AllWeights, Weights};
