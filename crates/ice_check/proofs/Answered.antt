@@ -7,6 +7,7 @@ use Rattle.ice_defs.specs.Bounds.{Bounds}
 use Rattle.ice_journal.specs.Records.{Record}
 use Rattle.ice_journal.specs.Journal.{LinesFault, grammar, unended, IsJournal, IsLinesFault}
 use Rattle.ice_journal.specs.Plain.{plain}
+use Rattle.ice_journal.proofs.Journals.{one_answer as bytes_tell}
 use Rattle.ice_section.specs.Laws.{SectionIsLawful, SectionRecords}
 use Rattle.ice_section.proofs.Whole.{section_is_lawful, section_records_are}
 use Rattle.ice_check.specs.declared.answer.Answer.{Answer}
@@ -117,3 +118,20 @@ module _ (lawful : SectionIsLawful) (described : SectionRecords) where
 
 pub end_answers : EndIsAnswer
 end_answers = end_is_answer section_is_lawful section_records_are
+
+-- bytes are one journal, or have one least line at fault
+ok_same : (j k : List Record) → (let a : Result (List Record) LinesFault = Ok j in a) ≡ Ok k → j ≡ k
+ok_same j k e = cc
+
+ok_err : (j : List Record) (fault : LinesFault) → (let a : Result (List Record) LinesFault = Ok j in a) ≡ Err fault → ⊥
+ok_err j fault e = cc
+
+err_same : (f g : LinesFault) → (let a : Result (List Record) LinesFault = Err f in a) ≡ Err g → f ≡ g
+err_same f g e = cc
+
+pub one_answer_of_bytes : OneAnswer
+one_answer_of_bytes =
+    one_answer
+    (λ bytes j k is is'. ok_same j k (bytes_tell bytes (Ok j) (Ok k) is is'))
+    (λ bytes j fault is f. ok_err j fault (bytes_tell bytes (Ok j) (Err fault) is f))
+    (λ bytes f g is is'. err_same f g (bytes_tell bytes (Err f) (Err g) is is'))

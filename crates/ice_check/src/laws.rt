@@ -33,3 +33,9 @@ pub fn checks_give_assigned()
 pub fn end_is_answer()
     ensures { EndIsAnswer }
 {}
+
+/// But for want of memory, bytes have one answer.
+#[tactic(auto, using(crate::proofs::Answered::one_answer_of_bytes))]
+pub fn bytes_have_one_answer()
+    ensures { OneAnswer }
+{}

@@ -1,5 +1,5 @@
 -- Sets that are spelled with one character per node.
-use Rattle.std.proofs.Common.{◌≡◌, ℕ, zero, suc, ◌+◌, ◌<◌, ◌≤◌, Bool, true, false, List, [], ◌∷◌, length, get_or, map, take, set, refl, sym, ap, ◌∙◌, arith}
+use Rattle.std.proofs.Common.{◌≡◌, ℕ, zero, suc, ◌<◌, Bool, List, [], ◌∷◌, length, get_or, map, take, set, refl, sym, ap, ◌∙◌, arith}
 use Rattle.ice_journal.specs.Spelling.{bit_byte}
 
 bit_at : (bits : List Bool) (i : ℕ) → i < length bits → (b : Bool) × (get_or (map bit_byte bits) i 0 ≡ bit_byte b)

@@ -1,8 +1,7 @@
 -- No field of a record has a space, so its fields are those between the spaces of its text.
-use Rattle.std.proofs.Common.{◌≡◌, ℕ, zero, suc, ◌+◌, ◌-◌, ◌<◌, ◌≤◌, ◌^◌, Bool, true, false, cond, ◌&&◌, eqb, ltb, List, [], ◌∷◌, ◌++◌, length, map, decimal, ℤ, pos, negsuc, neg_ℤ, unsigned_abs, ◌≤ℤ◌, refl, sym, ap, subst, ◌∙◌, arith}
-use Rattle.std.specs.List.{slice_split, onto_first, list_all, join_with_byte, AllByRecursion, flat_map}
+use Rattle.std.proofs.Common.{◌≡◌, ℕ, suc, ◌+◌, ◌-◌, ◌<◌, ◌≤◌, ◌^◌, Bool, true, false, ◌&&◌, ltb, List, [], ◌∷◌, ◌++◌, length, map, decimal, ℤ, pos, negsuc, neg_ℤ, unsigned_abs, refl, sym, ap, subst, ◌∙◌, arith}
+use Rattle.std.specs.List.{list_all, join_with_byte, AllByRecursion, flat_map}
 use Rattle.std.specs.Fmt.{signed_decimal}
-use Rattle.std.specs.Char.{digit_value}
 use Rattle.std.specs.Str.Parse.{AllDigits}
 use Rattle.std.proofs.lemmas.Bool.{ne_eqb, lt-ltb, ltb-true}
 use Rattle.std.proofs.lemmas.Bool.Decides.{nat_tests}
@@ -11,7 +10,7 @@ use Rattle.std.proofs.lemmas.Str.Parse.{digit_from_value}
 use Rattle.std.proofs.lemmas.Fmt.{decimal_is_IsNumeral_wide}
 use Rattle.std.proofs.lemmas.List.Concat.{flat_map-cons}
 use Rattle.ice_defs.specs.declared.Verdict.TheVariants as verdict
-use Rattle.ice_defs.specs.Name.{is_name_byte, is_name}
+use Rattle.ice_defs.specs.Name.{is_name_byte}
 use Rattle.ice_defs.specs.Exchange.{IsBetween}
 use Rattle.ice_defs.specs.Steps.{branch, leaf, dead}
 use Rattle.ice_defs.specs.Fraction.{Fraction}
@@ -19,7 +18,7 @@ use Rattle.ice_defs.specs.PricingLimit as limits
 use Rattle.ice_line.specs.Fields.{fields}
 use Rattle.ice_journal.specs.Records as line
 use Rattle.ice_journal.specs.Records.{Record, Change}
-use Rattle.ice_journal.specs.Ranges.{IsRecord, IsName, IsPlace, IsValue, IsTotal, IsMultiplier, IsDen, IsViolationField, IsFractionField, IsChange, Ascends}
+use Rattle.ice_journal.specs.Ranges.{IsRecord, IsName, IsValue, IsTotal, IsMultiplier, IsDen, IsViolationField, IsFractionField, IsChange}
 use Rattle.ice_journal.proofs.RecordParts.{some_field}
 use Rattle.ice_journal.specs.Spelling.{version_word, kind_word, end_word, stage_word, limit_word, bit_byte, fraction_text, counted, change_fields, fields_of, text_of}
 

@@ -1,6 +1,6 @@
 -- Bytes are the lines of one list of records, or have one least line at fault.
-use Rattle.std.proofs.Common.{◌≡◌, ℕ, suc, ◌+◌, ◌<◌, ◌≤◌, Bool, true, false, ltb, List, [], ◌∷◌, ◌++◌, length, Contains, refl, sym, ap, subst, ◌∙◌, append_assoc, arith, Result, Ok, Err}
-use Rattle.std.specs.List.{AllByRecursion, flat_map, join_with_byte}
+use Rattle.std.proofs.Common.{◌≡◌, ℕ, ◌<◌, ltb, List, [], ◌∷◌, ◌++◌, length, Contains, refl, sym, ap, ◌∙◌, append_assoc, arith, Result, Ok, Err}
+use Rattle.std.specs.List.{AllByRecursion, join_with_byte}
 use Rattle.std.proofs.lemmas.Bool.{ltb-true}
 use Rattle.std.proofs.lemmas.List.{append-nil}
 use Rattle.std.proofs.lemmas.List.Concat.{flat_map-cons}
@@ -8,7 +8,7 @@ use Rattle.std.proofs.lemmas.List.Elements.{Contains-append_right}
 use Rattle.ice_journal.specs.Records.{Record}
 use Rattle.ice_journal.specs.Ranges.{IsRecord}
 use Rattle.ice_journal.specs.Spelling.{fields_of, text_of, line_of}
-use Rattle.ice_journal.specs.Journal.{bytes_of, IsJournal, IsNoRecord, ComesTo, LinesFault, grammar, unended, IsLinesFault, IsJournalOf}
+use Rattle.ice_journal.specs.Journal.{bytes_of, IsJournal, IsNoRecord, ComesTo, LinesFault, grammar, unended, IsJournalOf}
 use Rattle.ice_journal.proofs.Clear.{IsClear, AreClear, is_clear, both, clear_record}
 use Rattle.ice_journal.proofs.OneSpelling.{one_spelling}
 

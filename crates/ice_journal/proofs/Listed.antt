@@ -1,5 +1,5 @@
 -- Lists whose elements are spelled one field each.
-use Rattle.std.proofs.Common.{◌≡◌, ℕ, zero, suc, ◌+◌, ◌<◌, ◌≤◌, ◌^◌, List, [], ◌∷◌, ◌++◌, length, map, decimal, ℤ, unsigned_abs, refl, sym, ap, ◌∙◌, arith}
+use Rattle.std.proofs.Common.{◌≡◌, ℕ, ◌≤◌, List, [], ◌∷◌, ◌++◌, length, map, refl, ap, ◌∙◌, arith}
 use Rattle.std.specs.List.{AllByRecursion}
 
 pub record Tail {A : Type 0} (P : A → Type 0) (g : A → List ℕ) (xs ys : List A) (fields rest : List (List ℕ)) : Type 0 where

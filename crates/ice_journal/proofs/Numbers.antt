@@ -1,5 +1,5 @@
 -- Numbers of 64 bits with a sign.
-use Rattle.std.proofs.Common.{◌≡◌, ◌<◌, ◌^◌, ℤ, unsigned_abs, arith}
+use Rattle.std.proofs.Common.{◌<◌, ◌^◌, ℤ, arith}
 use lib.Signed.{mag}
 use Rattle.std.specs.Fmt.{signed_decimal}
 use Rattle.ice_defs.specs.Exchange.{IsBetween}

@@ -1,10 +1,9 @@
 -- Each record has one spelling, and each text is the spelling of at most one record.
-use Rattle.std.proofs.Common.{◌≡◌, ℕ, zero, suc, ◌+◌, ◌-◌, ◌<◌, ◌≤◌, ◌^◌, Bool, true, false, cond, codes, append-nil, length-append, List, [], ◌∷◌, ◌++◌, length, map, decimal, ℤ, pos, negsuc, neg_ℤ, unsigned_abs, Option, Some, None, refl, sym, ap, subst, ◌∙◌, arith}
+use Rattle.std.proofs.Common.{◌≡◌, ℕ, suc, ◌-◌, ◌<◌, ◌≤◌, ◌^◌, Bool, true, false, cond, codes, append-nil, length-append, List, [], ◌∷◌, ◌++◌, length, map, decimal, ℤ, pos, negsuc, neg_ℤ, unsigned_abs, Option, Some, None, refl, sym, ap, subst, ◌∙◌, arith}
 use Rattle.std.specs.List.{join_with_byte, AllByRecursion, flat_map}
 use Rattle.std.specs.Fmt.{signed_decimal}
 use Rattle.std.specs.Int.{IsInRange}
 use Rattle.std.specs.Str.{bytes_eq}
-use Rattle.std.proofs.lemmas.Int.{ints}
 use Rattle.std.proofs.lemmas.List.Concat.{flat_map-cons}
 use Rattle.std.proofs.lemmas.List.Splits.{join_with_byte-slice_split}
 use Rattle.ice_defs.specs.declared.Verdict.{Verdict}
@@ -23,7 +22,7 @@ use Rattle.ice_journal.specs.Ranges.{IsRecord, IsValue, IsMultiplier, IsChange, 
 use Rattle.ice_journal.specs.Spelling.{version_word, kind_word, end_word, stage_word, limit_word, bit_byte, fraction_text, counted, change_fields, fields_of, text_of, verdict_fields}
 use Rattle.ice_journal.specs.Reading.{Finds}
 use Rattle.ice_journal.proofs.Clear.{abs_between, abs_from, fields_of_text}
-use Rattle.ice_journal.proofs.Listed.{IsOneToOne, front_of_all, Tail, front}
+use Rattle.ice_journal.proofs.Listed.{IsOneToOne, front}
 use Rattle.ice_journal.proofs.RecordParts.{Part, make, part_fields, in_row, row_of, fields_are}
 use Rattle.ice_journal.proofs.RecordParts as row
 

@@ -1,5 +1,5 @@
 -- The record that a line of the program is.
-use Rattle.std.specs.Prelude.{ℕ, ℤ, List, map, Option, Some, None}
+use Rattle.std.specs.Prelude.{ℕ, ℤ, List, map}
 use Rattle.arrayvec.specs.ArrayVec.{ArrayVec}
 use Rattle.ice_defs.specs.Fraction.{Fraction}
 use Rattle.ice_defs.specs.Round.{Submission}

@@ -1,6 +1,5 @@
 -- What it means to read a record, or a part of one, off its fields.
 use Rattle.std.specs.Prelude.{◌≡◌, List, ◌++◌, ℕ, Option, Some, None, option_map}
-use Rattle.ice_journal.specs.Records.{Record}
 use Rattle.ice_journal.specs.Ranges.{IsRecord}
 use Rattle.ice_journal.specs.Spelling.{fields_of}
 use Rattle.ice_journal.specs.declared.line.Line.{Line}

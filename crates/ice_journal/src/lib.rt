@@ -18,3 +18,6 @@ pub use line::{Change, EndWord, Kind, LimitKind, Line, LowestFraction, Stage, Ve
 pub use lines::{LinesEnd, read_lines};
 pub use record::read_record;
 pub use write::write_record;
+
+#[cfg(test)]
+mod tests;

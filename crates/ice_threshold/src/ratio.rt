@@ -1,6 +1,8 @@
 //! Small fractions that aren't in lowest terms.
 ghost use Rattle.std.specs.Prelude.{◌≡◌, ◌<◌, ◌≤◌, ◌*◌, ◌^◌, ◌*ℤ◌, pos, unsigned_abs};
 ghost use Rattle.ice_defs.specs.Fraction.{Fraction, AtMost, IsFraction, Equals};
+ghost use Rattle.ice_frac.specs.Lowest.{IsLowest};
+ghost use Rattle.ice_threshold.specs.Limits.{IsSmall};
 
 use ice_frac::Frac;
 use std::marker::Model;
@@ -52,6 +54,9 @@ pub(crate) fn fraction(num: i128, den: u64) -> Frac
     requires positive { 0 < den }
     ensures equal { Equals result (record { num = num; den = den }) }
     ensures proper { IsFraction result }
+    ensures lowest { IsLowest result }
+    ensures num_high { unsigned_abs result.num ≤ unsigned_abs num }
+    ensures den_high { result.den ≤ den }
 {
     match Frac::new(num, den as i128) {
         Some(fraction) => fraction,
@@ -64,6 +69,7 @@ impl Ratio {
     pub(crate) fn reduced(self) -> Frac
         ensures equal { Equals result self }
         ensures proper { IsFraction result }
+        ensures small { IsSmall result }
     {
         fraction(self.num, self.den)
     }

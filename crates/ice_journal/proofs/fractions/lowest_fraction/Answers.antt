@@ -1,10 +1,7 @@
-use Rattle.std.proofs.Common.{◌≡◌, ℕ, ◌≤◌, List, [], ◌∷◌, ◌++◌, Contains, ℤ, decimal, unsigned_abs, to_z, of_z, refl, sym, ap, subst, ◌∙◌, arith, rules}
+use Rattle.std.proofs.Common.{◌≡◌, decimal, unsigned_abs, to_z, of_z, sym, ◌∙◌, rules}
 use Rattle.std.specs.Int.{w64, IsGcd}
 use Rattle.std.proofs.lemmas.Bool.{false≢true}
 use Rattle.std.specs.Fmt.{signed_decimal}
-use Rattle.ice_defs.specs.Fraction.{Fraction}
-use Rattle.ice_journal.specs.Ranges.{IsFractionField}
-use Rattle.ice_journal.specs.Spelling.{fraction_text}
 use Rattle.ice_journal.proofs.Slashes.{has_slash, cut_fraction}
 use Rattle.ice_journal.proofs.fractions.lowest_fraction.Goals as goal
 

@@ -1,5 +1,4 @@
-use Rattle.std.proofs.Common.{◌≡◌, ◌+◌, suc, add-one, arith, rules}
-use Rattle.ice_journal.proofs.Bits.{not_bits, read_more}
+use Rattle.ice_journal.proofs.Bits.{not_bits}
 use Rattle.ice_journal.proofs.items.node_bits.Goals as goal
 
 pub returns-in_err-bit : goal.returns-in_err-bit

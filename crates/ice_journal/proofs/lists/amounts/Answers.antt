@@ -1,4 +1,4 @@
-use Rattle.std.proofs.Common.{◌≡◌, ◌++◌, ℕ, ◌≤◌, ap, sym, ◌∙◌, map, decimal, List, arith}
+use Rattle.std.proofs.Common.{◌≤◌, sym, ◌∙◌, decimal, arith}
 use Rattle.ice_line.proofs.Digits.{decimal_same}
 use Rattle.ice_journal.proofs.Listed.{front_of_all, no_element}
 use Rattle.ice_journal.proofs.lists.amounts.Goals as goal

@@ -1,11 +1,10 @@
-use Rattle.std.proofs.Common.{◌≡◌, ◌<◌, ◌≤◌, ◌++◌, ◌∷◌, [], ◌+◌, ℕ, suc, List, length, map, decimal, ap, sym, ◌∙◌, arith, rules, length-append}
+use Rattle.std.proofs.Common.{◌≡◌, ◌≤◌, ◌++◌, ◌∷◌, [], ℕ, List, length, map, ap, sym, ◌∙◌, arith}
 use Rattle.std.specs.List.{flat_map}
 use Rattle.std.proofs.lemmas.List.{map-append, length-map}
 use Rattle.std.proofs.lemmas.Bool.{false≢true}
-use Rattle.ice_journal.specs.Records as spec
 use Rattle.ice_journal.specs.Lines.{change_of, changes_of}
 use Rattle.ice_journal.specs.Spelling.{change_fields}
-use Rattle.ice_journal.proofs.Changed.{bad_change, fields_done, ascends_push, all_push, next_push, fields_push, next_good}
+use Rattle.ice_journal.proofs.Changed.{bad_change, fields_done, ascends_push, all_push, next_push, fields_push}
 use Rattle.ice_journal.proofs.lists.changes.Goals as goal
 
 pub returns-in_err-change : goal.returns-in_err-change

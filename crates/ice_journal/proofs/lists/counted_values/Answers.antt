@@ -1,5 +1,4 @@
-use Rattle.std.proofs.Common.{◌≡◌, ◌<◌, ◌++◌, ◌∷◌, List, ℕ, length, map, decimal, ap, sym, ◌∙◌, arith, rules}
-use Rattle.std.specs.Fmt.{signed_decimal}
+use Rattle.std.proofs.Common.{◌≡◌, ◌∷◌, List, ℕ, length, decimal, ap, ◌∙◌, arith}
 use Rattle.ice_journal.proofs.Counted.{bad_value, all_values}
 use Rattle.ice_journal.proofs.lists.counted_values.Goals as goal
 

@@ -1,4 +1,4 @@
-use Rattle.std.proofs.Common.{◌≡◌, ◌≤◌, ◌++◌, ◌∷◌, [], length, to_z, of_z, ap, sym, ◌∙◌, map, List, arith, rules}
+use Rattle.std.proofs.Common.{◌≡◌, ◌≤◌, ◌++◌, ◌∷◌, [], length, to_z, of_z, sym, ◌∙◌, arith, rules}
 use Rattle.std.specs.Int.{w64}
 use Rattle.std.specs.Fmt.{signed_decimal}
 use Rattle.std.specs.List.{AllByRecursion}
