@@ -277,6 +277,12 @@ fn files_at_fault_are_refused(rt: HostRuntime) -> Result<(), Fail> {
     let absent = call(alloc, &["check", "k"], b"")?;
     assert_eq!(rt; absent.output.as_slice(), b"unread 1\n".as_slice());
     assert_eq!(rt; absent.status, Status::ReadFault);
+    Ok(())
+}
+
+#[test]
+fn a_journal_over_its_limit_is_refused(rt: HostRuntime) -> Result<(), Fail> {
+    let alloc = rt.alloc();
     let long = vec![in alloc; b'x'; 134_217_729]?;
     let long = call(alloc, &["check", "j"], &long)?;
     assert_eq!(rt; long.output.as_slice(), b"refused 1 61 -\n".as_slice());
