@@ -14,9 +14,9 @@ use Rattle.ice_defs.specs.Exchange.{Exchange, trees_of}
 use Rattle.ice_journal.specs.Records.{Record}
 use Rattle.ice_journal.specs.Records as line
 use Rattle.ice_section.specs.Section.{Section, order, take_record, may_end}
-use Rattle.ice_section.specs.Refused.{Takes}
-use Rattle.ice_section.specs.declared.section.SectionFault.{SectionFault}
-use Rattle.ice_section.specs.declared.section.SectionFault.TheVariants as fault
+use Rattle.ice_section.specs.Refusal.{IsRefusal}
+use Rattle.ice_section.specs.declared.faults.SectionFault.{SectionFault}
+use Rattle.ice_section.specs.declared.faults.SectionFault.TheVariants as fault
 use Rattle.ice_check.specs.declared.rule.Rule.{Rule}
 use Rattle.ice_check.specs.declared.rule.Rule.TheVariants as rule
 use Rattle.ice_check.specs.declared.stage.Stage.{Stage}
@@ -29,14 +29,14 @@ use Rattle.ice_check.specs.Stages.{progress_of, IsWithin, IsBroken, IsClosed, se
 use Rattle.ice_check.proofs.Places.{section_refused, section_misplaced, set_miscounted, set_unsatisfied, sets_short, sets_balanced}
 
 -- what a section refuses
-pub section_fails : (number : ℕ) (s after : Section) (r : Record) (why : SectionFault) (x : Rule) → (may_end s && is_assign r) ≡ false → Takes s r after (Err why) → section_rule why ≡ Some x
+pub section_fails : (number : ℕ) (s : Section) (r : Record) (why : SectionFault) (x : Rule) → (may_end s && is_assign r) ≡ false → IsRefusal (take_record s r) why → section_rule why ≡ Some x
     → TakesOn (describing number s) r (failed (record { line = number; rule = x }))
-section_fails number s after r why x more taken is = by why taken is
+section_fails number s r why x more taken is = by why taken is
   where
     same : (y : Rule) → Some y ≡ Some x → y ≡ x
     same y e = cc
 
-    by : (why : SectionFault) → Takes s r after (Err why) → section_rule why ≡ Some x → TakesOn (describing number s) r (failed (record { line = number; rule = x }))
+    by : (why : SectionFault) → IsRefusal (take_record s r) why → section_rule why ≡ Some x → TakesOn (describing number s) r (failed (record { line = number; rule = x }))
     by fault.Order taken is = subst (λ (y : Rule). TakesOn (describing number s) r (failed (record { line = number; rule = y }))) (same rule.Order is) (section_misplaced number s r taken more)
     by fault.Count taken is = subst (λ (y : Rule). TakesOn (describing number s) r (failed (record { line = number; rule = y }))) (same rule.Exchange is) (section_refused number s r (ap is_refusal taken))
     by fault.NoGood taken is = subst (λ (y : Rule). TakesOn (describing number s) r (failed (record { line = number; rule = y }))) (same rule.Exchange is) (section_refused number s r (ap is_refusal taken))

@@ -11,8 +11,8 @@ use Rattle.ice_check.specs.declared.stage.Stage.{Stage}
 use Rattle.ice_check.specs.declared.stage.Stage.TheVariants as stage
 use Rattle.ice_check.specs.declared.rule.Rule.{Rule}
 use Rattle.ice_check.specs.declared.rule.Rule.TheVariants as rule
-use Rattle.ice_section.specs.declared.section.SectionFault.{SectionFault}
-use Rattle.ice_section.specs.declared.section.SectionFault.TheVariants as fault
+use Rattle.ice_section.specs.declared.faults.SectionFault.{SectionFault}
+use Rattle.ice_section.specs.declared.faults.SectionFault.TheVariants as fault
 use Rattle.ice_check.specs.State.{at_end, done}
 use Rattle.ice_check.specs.Progress.{Progress, nothing, other_kind, passing, failed, out_of_memory}
 use Rattle.ice_check.specs.Assigning.{describing, described_count, IsBounded, stating, stated, Stating, rule_of, AreBalanced, AreShort}

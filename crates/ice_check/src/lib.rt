@@ -3,7 +3,7 @@
 
 mod answer;
 pub mod laws;
-mod check;
+mod bytes;
 mod checker;
 mod lines;
 mod memory;
@@ -14,7 +14,7 @@ mod steps;
 mod value;
 
 pub use answer::{Answer, CheckEnd};
-pub use check::check;
+pub use bytes::check;
 pub use checker::Checker;
 pub use memory::NoMemory;
 pub use rule::Rule;

@@ -1,8 +1,8 @@
 //! Fractions in lowest terms.
 ghost use Rattle.std.specs.Prelude.{◌≡◌, ◌≢◌, ◌⊎◌, ◌↔◌, ◌<◌, ◌*◌, ◌^◌, pos, ◌<ℤ◌, unsigned_abs, IfOk, IfSome, IsNone};
 ghost use Rattle.std.specs.Result.{result_ok};
-ghost use Rattle.std.specs.Ordering.{nat_cmp};
-ghost use Rattle.ice_defs.specs.Fraction.{Fraction, Equals, plus, less, times, negated};
+ghost use Rattle.std.specs.Ordering.{nat_cmp, MatchOrdering};
+ghost use Rattle.ice_defs.specs.Fraction.{Fraction, Equals, Below, plus, less, times, negated};
 ghost use Rattle.ice_defs.specs.Frac.{lowest, add, sub, mul, div, reciprocal};
 ghost use Rattle.ice_frac.specs.Lowest.{IsLowest};
 ghost use Rattle.ice_frac.specs.Order.{order_of};
@@ -167,7 +167,8 @@ impl Frac {
 
     /// The order of two fractions, exact for every pair.
     pub fn cmp(&self, other: &Frac) -> Ordering
-        ensures { result ≡ order_of self.now other.now }
+        ensures order { result ≡ order_of self.now other.now }
+        ensures ranked { MatchOrdering result (Below self.now other.now) (Equals self.now other.now) (Below other.now self.now) }
     {
         let left = self.num.unsigned_abs();
         let right = other.num.unsigned_abs();

@@ -10,3 +10,4 @@ pub mod Journals
 pub mod Counted
 pub mod Numerators
 pub mod Joined
+pub mod Packed

@@ -1,5 +1,7 @@
-ghost use Rattle.std.specs.Prelude.{◌≡◌, ℕ, List, Result};
-ghost use Rattle.ice_journal.specs.Records.{Record};
+ghost use Rattle.std.specs.Prelude.{◌≡◌, ℕ, List, ◌∷◌, Result};
+ghost use Rattle.ice_journal.specs.Records.{Kind, Record, version_1};
+ghost use Rattle.ice_journal.specs.Records as line;
+ghost use Rattle.ice_journal.specs.Plain.{plain, packed, goods_in, AreOfVersion1};
 ghost use Rattle.ice_journal.specs.Ranges.{IsRecord};
 ghost use Rattle.ice_journal.specs.Spelling.{text_of};
 ghost use Rattle.ice_journal.specs.Journal.{LinesFault, IsJournalOf};
@@ -12,4 +14,9 @@ pub fn texts_tell_records()
 /// Bytes are the lines of one list of records, or have one least line at fault, and never both.
 pub fn bytes_tell_journals()
     ensures { (bytes : List ℕ) (a b : Result (List Record) LinesFault) → IsJournalOf bytes a → IsJournalOf bytes b → a ≡ b }
+{}
+
+/// A journal of version 1 comes back from version 2.
+pub fn packed_journals_come_back()
+    ensures { (kind : Kind) (records : List Record) → AreOfVersion1 (goods_in records) records → plain (packed (line.head version_1 kind ∷ records)) ≡ line.head version_1 kind ∷ records }
 {}

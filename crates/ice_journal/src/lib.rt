@@ -13,7 +13,7 @@ mod rows;
 mod words;
 mod write;
 
-pub use laws::{bytes_tell_journals, texts_tell_records};
+pub use laws::{bytes_tell_journals, packed_journals_come_back, texts_tell_records};
 pub use line::{Change, EndWord, Kind, LimitKind, Line, LowestFraction, Stage, Version};
 pub use lines::{LinesEnd, read_lines};
 pub use record::read_record;

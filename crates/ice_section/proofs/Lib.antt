@@ -13,3 +13,4 @@ pub mod Reaching
 pub mod Carrying
 pub mod Holding
 pub mod Noding
+pub mod Filing

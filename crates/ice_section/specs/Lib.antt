@@ -5,3 +5,5 @@ pub mod Laws
 pub mod Kept
 pub mod Refusal
 pub mod LineFile
+pub mod FileSteps
+pub mod FileStates

@@ -25,3 +25,14 @@ pub enum SectionFault {
     #[error("no memory is left")]
     NoMemory,
 }
+
+/// Why a file in line form is refused.
+#[derive(Clone, Copy, Debug, Error, PartialEq, Eq)]
+pub enum LineFileFault {
+    /// The fault with this number, at this line, counted from 1.
+    #[error("line {line} is refused with the number {number}")]
+    Fault { number: u8, line: u64 },
+    /// There is no memory left.
+    #[error("no memory is left")]
+    NoMemory,
+}

@@ -2,9 +2,14 @@
 #![tactic(auto)]
 
 mod draft;
+mod exchange_file;
 mod faults;
 pub mod laws;
+mod prices_file;
+mod record_lines;
 mod section;
 
-pub use faults::{NoMemory, SectionFault};
+pub use exchange_file::read_exchange_lines;
+pub use faults::{LineFileFault, NoMemory, SectionFault};
+pub use prices_file::read_prices_lines;
 pub use section::Section;

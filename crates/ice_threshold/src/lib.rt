@@ -6,5 +6,5 @@ mod laws;
 mod payments;
 mod ratio;
 
-pub use laws::{cut_down_is_threshold, cut_is_threshold};
+pub use laws::{cut_down_is_threshold, cut_is_threshold, least_passes, passing_is_least};
 pub use payments::{NoMemory, Payments, threshold};

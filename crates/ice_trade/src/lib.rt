@@ -15,3 +15,6 @@ pub use exchange::Exchange;
 pub use faults::{MakeFault, NoMemory, TradeFault};
 pub use ice_terms::{Name, Prices, Settings};
 pub use maker::ExchangeMaker;
+
+#[cfg(test)]
+mod tests;

@@ -11,5 +11,5 @@ returns-clause-after c =
     let s = c.args.section in
     let n = c.args.number in
     subst (λ (x : Stating). TakesOn (describing n s) records.assign (passing (stating (suc n) x.exchange x.sets))) (sym c.in_ok-new.ensures.made)
-    (subst (λ (ex : Exchange). TakesOn (describing n s) records.assign (passing (stating (suc n) ex []))) (sym c.in_ok-exchange.ensures)
+    (subst (λ (ex : Exchange). TakesOn (describing n s) records.assign (passing (stating (suc n) ex []))) (sym c.in_ok-exchange.ensures.exchange)
     (section_ends n s c.requires.within.1 c.requires.complete))

@@ -1,0 +1,4 @@
+pub mod Products
+pub mod CostSums
+pub mod NetSums
+pub mod Modest

@@ -1,0 +1,30 @@
+-- Weighted values are modest.
+use Rattle.std.proofs.Common.{ℕ, ◌-◌, ◌<◌, ◌≤◌, ◌≡◌, length, pos, neg_ℤ, ◌≤ℤ◌, arith}
+use Rattle.std.proofs.lemmas.Int.{ints}
+use Rattle.ice_defs.specs.Set.{weight_of}
+use Rattle.ice_defs.specs.Bounds.{Bounds}
+use Rattle.ice_defs.specs.Weighing.{weighted_list}
+use Rattle.ice_defs.specs.Lawful.{AreBounds}
+use Rattle.ice_tree.proofs.Filling.{times-within, length-weighted_list, get_or-weighted_list}
+use Rattle.ice_net.specs.Net.{AreModest}
+
+pub weighted-modest : (weight nodes : ℕ) (b : Bounds) → weight ≤ 100 → AreBounds nodes b → AreModest (weighted_list weight b.lo b.hi)
+weighted-modest weight nodes b few are = record {
+  low = λ n h. (within n (omega (arith, length-weighted_list weight b.lo b.hi same, h))).0;
+  high = λ n h. (within n (omega (arith, length-weighted_list weight b.lo b.hi same, h))).1;
+}
+  where
+    same : length b.hi ≡ length b.lo
+    same = omega (arith, are.lo_count, are.hi_count)
+
+    within : (n : ℕ) → n < length b.lo
+        → (neg_ℤ (pos 1000000000000) ≤ℤ weight_of (weighted_list weight b.lo b.hi) n) × (weight_of (weighted_list weight b.lo b.hi) n ≤ℤ pos 1000000000000)
+    within n h =
+        let l : n < nodes = omega (arith, are.lo_count, h) in
+        let low = are.low n l in
+        let ordered = are.ordered n l in
+        let high = are.high n l in
+        let is = get_or-weighted_list weight b.lo b.hi n same h in
+        let (a, c) = times-within weight (weight_of b.lo n) few low (omega (arith, ints, ordered, high)) in
+        let (d, e) = times-within (100 - weight) (weight_of b.hi n) (omega arith) (omega (arith, ints, low, ordered)) high in
+        (omega (arith, ints, is, a, d), omega (arith, ints, is, c, e))

@@ -1,0 +1,164 @@
+//! Exchange files in line form.
+ghost use Rattle.std.specs.Prelude.{◌≡◌, ◌+◌, ◌<◌, ◌≤◌, ◌^◌, suc, [], ◌∷◌, List, IfOk, IfErr, OnOk, Ok as Found, Err as Refused, length};
+ghost use Rattle.ice_journal.specs.Records.{Record};
+ghost use Rattle.ice_journal.specs.Lines.{record_of};
+ghost use Rattle.ice_journal.specs.Ranges.{IsRecord};
+ghost use Rattle.ice_section.specs.LineFile.{is_exchange_end, IsExchangeOfLines};
+ghost use Rattle.ice_section.specs.FileSteps.{is_exchange_head, IsBegun, exchange_after};
+ghost use Rattle.ice_section.specs.FileStates.{so_far, IsNumberOf, IsFaultOf, IsFaultFrom};
+
+use crate::faults::{LineFileFault, NoMemory, SectionFault};
+use crate::record_lines::next_record;
+use crate::section::Section;
+use ice_journal::{EndWord, Kind, Line, Version};
+use ice_trade::Exchange;
+use std::alloc::Global;
+
+/// What of an exchange file was read.
+#[derive(Clone, Copy)]
+pub(crate) enum Stage {
+    Head,
+    Section,
+    End,
+    Failed { number: u8, line: u64 },
+}
+
+/// An exchange file, as far as its records were taken.
+#[derive(Drop)]
+pub(crate) struct ExchangeFile {
+    pub(crate) stage: Stage,
+    pub(crate) section: Section,
+}
+
+fn is_exchange_head(line: &Line) -> bool
+    ensures { result ≡ is_exchange_head (record_of line.now) }
+{
+    matches!(
+        line,
+        Line::Head {
+            version: Version::One,
+            kind: Kind::Exchange
+        }
+    )
+}
+
+fn is_exchange_end(line: &Line) -> bool
+    ensures { result ≡ is_exchange_end (record_of line.now) }
+{
+    matches!(line, Line::End(EndWord::Exchange))
+}
+
+// The number of a fault of the section, and None for want of memory.
+fn fault_number(fault: SectionFault) -> Option<u8>
+    ensures { IsNumberOf fault result }
+{
+    match fault {
+        SectionFault::Order | SectionFault::Count => Some(50),
+        SectionFault::NoGood => Some(5),
+        SectionFault::Maker { number } => Some(number),
+        SectionFault::NoMemory => None,
+    }
+}
+
+impl ExchangeFile {
+    // Takes the next record, after so many lines. Want of memory alone ends it: a fault is kept, since a later line at fault comes before it.
+    fn take(&mut self, lines: u64, next: &Line) -> Result<(), NoMemory>
+        requires few { lines < 2 ^ 63 }
+        requires lawful { IsRecord (record_of next.now) }
+        requires begun { IsBegun lines (so_far self.old) self.old.section }
+        ensures begun { OnOk result (IsBegun (suc lines) (so_far self.new) self.new.section) }
+        ensures taken { OnOk result ((rest : List Record) → exchange_after lines (so_far self.old) (record_of next.now ∷ rest) ≡ exchange_after (suc lines) (so_far self.new) rest) }
+    {
+        let line = lines + 1;
+        match self.stage {
+            Stage::Head => {
+                self.stage = if is_exchange_head(next) {
+                    Stage::Section
+                } else {
+                    Stage::Failed {
+                        number: 50,
+                        line: 1,
+                    }
+                };
+            }
+            Stage::Section => {
+                if is_exchange_end(next) {
+                    self.stage = Stage::End;
+                } else if let Err(fault) = self.section.take(next) {
+                    let Some(number) = fault_number(fault) else {
+                        return Err(NoMemory);
+                    };
+                    self.stage = Stage::Failed { number, line };
+                }
+            }
+            Stage::End => {
+                let line = if self.section.may_end() { line } else { lines };
+                self.stage = Stage::Failed { number: 50, line };
+            }
+            Stage::Failed { .. } => {}
+        }
+        Ok(())
+    }
+
+    // What the file gives where it ends after so many lines.
+    fn finish(self, lines: u64) -> Result<Exchange, LineFileFault>
+        requires { lines < 2 ^ 63 }
+        ensures exchange { IfOk result (λ exchange. exchange_after lines (so_far self) [] ≡ Found exchange) }
+        ensures fault { IfErr result (IsFaultOf (exchange_after lines (so_far self) [])) }
+    {
+        let ExchangeFile { stage, section } = self;
+        match stage {
+            Stage::Head => Err(LineFileFault::Fault {
+                number: 50,
+                line: 1,
+            }),
+            Stage::Section => Err(LineFileFault::Fault {
+                number: 50,
+                line: lines + 1,
+            }),
+            Stage::End => {
+                if !section.may_end() {
+                    return Err(LineFileFault::Fault {
+                        number: 50,
+                        line: lines,
+                    });
+                }
+                match section.finish() {
+                    Ok(exchange) => Ok(exchange),
+                    Err(NoMemory) => Err(LineFileFault::NoMemory),
+                }
+            }
+            Stage::Failed { number, line } => Err(LineFileFault::Fault { number, line }),
+        }
+    }
+}
+
+/// The exchange that a file in line form describes.
+///
+/// It refuses at the least line that is no record (number 50), or at a last line without a newline (51), before every other fault. Then the records are taken in turn, and the first fault counts: a record that may not stand there, owned amounts that are not as many as the goods, or a missing record, at the line after the last (50); a node of a good that is not there (5); and what a maker refuses, with its number, at the line that was read last.
+pub fn read_exchange_lines(alloc: Global, bytes: &[u8]) -> Result<Exchange, LineFileFault>
+    ensures exchange { IfOk result (λ exchange. IsExchangeOfLines bytes.now (Found exchange)) }
+    ensures fault { IfErr result (IsFaultFrom (IsExchangeOfLines bytes.now)) }
+{
+    let Ok(section) = Section::new(alloc) else {
+        return Err(LineFileFault::NoMemory);
+    };
+    let mut file = ExchangeFile {
+        stage: Stage::Head,
+        section,
+    };
+    let mut rest = bytes;
+    let mut lines: u64 = 0;
+    while !rest.is_empty() {
+        let (record, after) = match next_record(rest) {
+            Ok(next) => next,
+            Err(bad) => return Err(bad.at(lines + 1)),
+        };
+        let Ok(()) = file.take(lines, &record) else {
+            return Err(LineFileFault::NoMemory);
+        };
+        lines += 1;
+        rest = after;
+    }
+    file.finish(lines)
+}
