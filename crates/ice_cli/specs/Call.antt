@@ -1,0 +1,53 @@
+-- A call of the program: its words, what the outside told, and what came of it.
+use Rattle.std.specs.Prelude.{ℕ, ◌<◌, ◌≤◌, ◌≡◌, List, ◌++◌, length, codes, Option, Some, None}
+use Rattle.ice_edge.specs.declared.status.Status.{Status}
+use Rattle.ice_edge.specs.Edge.{Rose}
+use Rattle.ice_defs.specs.FileFault.{FileFault}
+
+-- what a shelf tells of a name: nothing, or that no file has it, or its bytes; the counts before and after the call; and the text that the call appended to the sink
+pub record Call : Type 0 where
+  pub words : List (List ℕ)
+  pub holds : List ℕ → Option (Option (List ℕ))
+  pub faults : List ℕ → ℕ
+  pub faults_after : List ℕ → ℕ
+  pub overlong : List ℕ → ℕ → ℕ
+  pub overlong_after : List ℕ → ℕ → ℕ
+  pub sink_faults : ℕ
+  pub sink_faults_after : ℕ
+  pub text : List ℕ
+  pub status : Status
+
+abbrev pub IsTold : Call → List ℕ → List ℕ → Type 0
+IsTold call name bytes = call.holds name ≡ Some (Some bytes)
+
+-- the shelf's count of faults for this name rose in the call
+abbrev pub FaultRose : Call → List ℕ → Type 0
+FaultRose call name = Rose (call.faults name) (call.faults_after name)
+
+abbrev pub OverlongRose : Call → List ℕ → ℕ → Type 0
+OverlongRose call name limit = Rose (call.overlong name limit) (call.overlong_after name limit)
+
+abbrev pub SinkFaultRose : Call → Type 0
+SinkFaultRose call = Rose call.sink_faults call.sink_faults_after
+
+-- the most bytes of a journal
+abbrev pub journal_limit : ℕ
+journal_limit = 134217728
+
+-- what is told is a file, its bytes are within the limit, and this holds of them
+abbrev pub OfTold : ℕ → (List ℕ → Type 0) → Option (Option (List ℕ)) → Type 0
+OfTold limit P None = Unit {0}
+OfTold limit P (Some None) = ⊥
+OfTold limit P (Some (Some bytes)) = (length bytes ≤ limit) × P bytes
+
+abbrev pub OfFile : Call → List ℕ → ℕ → (List ℕ → Type 0) → Type 0
+OfFile call name limit P = OfTold limit P (call.holds name)
+
+-- a file is refused: it is too long, and the count of that rose; or its bytes, which are those that are told, have this fault
+pub data IsRefused (call : Call) (name : List ℕ) (limit : ℕ) (HasFault : List ℕ → FileFault → Type 0) : FileFault → Type 0 where
+  too_long : OverlongRose call name limit → ((bytes : List ℕ) → IsTold call name bytes → limit < length bytes)
+      → IsRefused call name limit HasFault (record { number = 61; place = codes "-" })
+  at_fault : {fault : FileFault} (bytes : List ℕ) → HasFault bytes fault → OfFile call name limit (λ told. told ≡ bytes) → IsRefused call name limit HasFault fault
+
+abbrev pub IsPrefix : {X : Type 0} → List X → List X → Type 0
+IsPrefix {X} xs ys = (rest : List X) × (ys ≡ xs ++ rest)

@@ -1,0 +1,12 @@
+-- The commands, and the words that each is called by.
+use Rattle.std.specs.Prelude.{ℕ, ◌≡◌, List, [], ◌∷◌, codes}
+
+-- the words after the program's name; a file is named by any text
+pub data Command : Type 0 where
+  check : (journal : List ℕ) → Command
+
+abbrev pub words_of : Command → List (List ℕ)
+words_of (check journal) = codes "check" ∷ journal ∷ []
+
+abbrev pub IsCommand : List (List ℕ) → Command → Type 0
+IsCommand words c = words ≡ words_of c

@@ -1,0 +1,59 @@
+-- Lines of output that are no records.
+use Rattle.std.specs.Prelude.{ℕ, List, [], ◌∷◌, ◌++◌, codes, decimal}
+use Rattle.std.specs.Fmt.{signed_decimal}
+use Rattle.std.specs.List.{join_with_byte}
+use Rattle.ice_defs.specs.FileFault.{FileFault}
+use Rattle.ice_journal.specs.Records as line
+use Rattle.ice_journal.specs.Spelling.{line_of, fraction_text}
+use Rattle.ice_check.specs.declared.Rule.{Rule}
+use Rattle.ice_check.specs.declared.Rule.TheVariants as rule
+use Rattle.ice_check.specs.Checks.{Failure}
+use Rattle.ice_check.specs.Theorems.{Yes, of_assigned, of_regret, of_session}
+
+-- fields with a space between each two, and a newline
+abbrev pub line_text : List (List ℕ) → List ℕ
+line_text fields = join_with_byte 32 fields ++ 10 ∷ []
+
+abbrev pub rule_word : Rule → List ℕ
+rule_word rule.Closed = codes "closed"
+rule_word rule.Order = codes "order"
+rule_word rule.Short = codes "short"
+rule_word rule.Exchange = codes "exchange"
+rule_word rule.Count = codes "count"
+rule_word rule.Parent = codes "parent"
+rule_word rule.Few = codes "few"
+rule_word rule.Many = codes "many"
+rule_word rule.Fixing = codes "fixing"
+rule_word rule.Excess = codes "excess"
+rule_word rule.Value = codes "value"
+rule_word rule.Near = codes "near"
+rule_word rule.Sign = codes "sign"
+rule_word rule.Fixed = codes "fixed"
+rule_word rule.Above = codes "above"
+rule_word rule.Alive = codes "alive"
+rule_word rule.Regret = codes "regret"
+rule_word rule.Prices = codes "prices"
+rule_word rule.Violation = codes "violation"
+rule_word rule.Accuracy = codes "accuracy"
+rule_word rule.Balance = codes "balance"
+rule_word rule.Verdict = codes "verdict"
+rule_word rule.Threshold = codes "threshold"
+rule_word rule.Payment = codes "payment"
+
+abbrev pub yes_line : Yes → List ℕ
+yes_line (of_assigned value) = line_text (codes "yes" ∷ signed_decimal value ∷ [])
+yes_line (of_regret amount) = line_text (codes "yes" ∷ signed_decimal amount ∷ [])
+yes_line (of_session amount surplus) = line_text (codes "yes" ∷ signed_decimal amount ∷ fraction_text surplus ∷ [])
+
+abbrev pub no_line : Failure → List ℕ
+no_line failure = line_text (codes "no" ∷ decimal failure.line ∷ rule_word failure.rule ∷ [])
+
+abbrev pub words_line : List ℕ
+words_line = codes "words refused" ++ 10 ∷ []
+
+-- a fault of the file with this number
+abbrev pub refused_line : ℕ → FileFault → List ℕ
+refused_line file fault = line_of (line.refused file fault.number fault.place)
+
+abbrev pub unread_line : ℕ → List ℕ
+unread_line file = line_of (line.unread file)
