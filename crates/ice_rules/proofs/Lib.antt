@@ -1,0 +1,5 @@
+pub mod Multiples
+pub mod Gaps
+pub mod Losses
+pub mod Reflected
+pub mod Unrefused

@@ -1,0 +1,13 @@
+//! The activity rules: whether new bounds of a bidder are tight enough.
+#![tactic(auto)]
+
+mod gains;
+mod judging;
+mod profiles;
+mod rules;
+
+pub use gains::loss;
+pub use ice_best::Scratch;
+pub use ice_defs::Verdict;
+pub use judging::judge;
+pub use rules::{improvement, mrpar};
