@@ -16,16 +16,16 @@ use Rattle.ice_rules.specs.Centre.{IsAsGoodAsAny}
 use Rattle.ice_rules.proofs.Multiples.{times_less, times_swap}
 
 -- f 0, f 1, .., f (n - 1)
-tabulated : (ℕ → ℤ) → ℕ → List ℤ
+pub tabulated : (ℕ → ℤ) → ℕ → List ℤ
 tabulated f zero = []
 tabulated f (suc n) = f 0 ∷ tabulated (λ k. f (suc k)) n
 
-length-tabulated : (f : ℕ → ℤ) (n : ℕ) → length (tabulated f n) ≡ n
+pub length-tabulated : (f : ℕ → ℤ) (n : ℕ) → length (tabulated f n) ≡ n
 unfolding tabulated
 length-tabulated f zero = refl
 length-tabulated f (suc n) = omega (arith, length-tabulated (λ k. f (suc k)) n)
 
-weight_of-tabulated : (f : ℕ → ℤ) (n k : ℕ) → k < n → weight_of (tabulated f n) k ≡ f k
+pub weight_of-tabulated : (f : ℕ → ℤ) (n k : ℕ) → k < n → weight_of (tabulated f n) k ≡ f k
 unfolding tabulated
 weight_of-tabulated f zero k h = absurd (omega arith)
 weight_of-tabulated f (suc n) zero h = refl

@@ -3,6 +3,7 @@
 
 mod gains;
 mod judging;
+mod laws;
 mod profiles;
 mod rules;
 
@@ -10,4 +11,5 @@ pub use gains::loss;
 pub use ice_best::Scratch;
 pub use ice_defs::Verdict;
 pub use judging::judge;
+pub use laws::exact_bids_are_accepted;
 pub use rules::{improvement, mrpar};
