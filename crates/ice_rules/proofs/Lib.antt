@@ -1,0 +1,7 @@
+pub mod Multiples
+pub mod Gaps
+pub mod Losses
+pub mod Reflected
+pub mod Unrefused
+pub mod Found
+pub mod Exact

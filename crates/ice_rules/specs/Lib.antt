@@ -1,0 +1,3 @@
+pub mod Profiles
+pub mod Centre
+pub mod Laws

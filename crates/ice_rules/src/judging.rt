@@ -1,0 +1,93 @@
+//! The verdict on new bounds.
+ghost use Rattle.std.specs.Prelude.{◌≡◌, ◌<◌, ◌≤◌, length, IsTrue, MatchOption, ℕ, ◌<ℤ◌, ◌⊎◌};
+ghost use Rattle.std.specs.List.{list_all};
+ghost use Rattle.ice_defs.specs.Set.{IsSatisfied, weight_of};
+ghost use Rattle.ice_defs.specs.Making.{is_value};
+ghost use Rattle.ice_defs.specs.Judging.{IsLeastNode, IsCrossedAt, IsLoosenedAt, IsJudged};
+
+use crate::rules::{improvement, mrpar};
+use ice_defs::Verdict;
+use ice_net::Scratch;
+use ice_terms::Prices;
+use ice_tree::{Bounds, NodeSet, Tree};
+
+/// The least node whose lower value is above its upper one.
+fn first_crossed(lo: &[i64], hi: &[i64]) -> Option<u16>
+    requires few { length lo.now ≤ 200 }
+    requires same { length hi.now ≡ length lo.now }
+    ensures { MatchOption result ((n : ℕ) → ¬ IsCrossedAt (record { lo = lo.now; hi = hi.now }) n) (IsLeastNode (IsCrossedAt (record { lo = lo.now; hi = hi.now }))) }
+{
+    for node in 0..lo.len() {
+        if hi[node] < lo[node] {
+            return Some(node as u16);
+        }
+    }
+    None
+}
+
+/// Whether new values reach beyond the old bounds of the node.
+fn is_loosened(old: &Bounds, node: u16, lo: i64, hi: i64) -> bool
+    requires { node < length old.now.lo }
+    ensures yes { IsTrue result → (lo <ℤ weight_of old.now.lo node) ⊎ (weight_of old.now.hi node <ℤ hi) }
+    ensures no { (lo <ℤ weight_of old.now.lo node) ⊎ (weight_of old.now.hi node <ℤ hi) → IsTrue result }
+{
+    lo < old.lo(node) || old.hi(node) < hi
+}
+
+/// The least node whose values reach beyond the old bounds.
+fn first_loosened(old: &Bounds, lo: &[i64], hi: &[i64]) -> Option<u16>
+    requires few { length lo.now ≤ 200 }
+    requires same { length hi.now ≡ length lo.now }
+    requires old { length old.now.lo ≡ length lo.now }
+    ensures { MatchOption result ((n : ℕ) → ¬ IsLoosenedAt old.now (record { lo = lo.now; hi = hi.now }) n) (IsLeastNode (IsLoosenedAt old.now (record { lo = lo.now; hi = hi.now }))) }
+{
+    for node in 0..lo.len() {
+        if is_loosened(old, node as u16, lo[node], hi[node]) {
+            return Some(node as u16);
+        }
+    }
+    None
+}
+
+/// The verdict on new lower and upper values of a bidder, of which there is one for each node, inside the value limits:
+/// the first of these that holds. `Crossed` at the least node whose lower value is above its upper one, `Loosened` at
+/// the least node whose values reach beyond the old bounds, `Mrpar` where the first rule fails at the new bounds,
+/// `Improve` where the second one does, and else `Accepted`.
+///
+/// The provisional set is satisfied. Takes no memory.
+pub fn judge(
+    tree: &Tree,
+    old: &Bounds,
+    lo: &[i64],
+    hi: &[i64],
+    set: &NodeSet,
+    prices: &Prices,
+    improve: i64,
+    scratch: &mut Scratch,
+) -> Verdict
+    requires satisfied { IsSatisfied tree.now set.now }
+    requires old { length old.now.lo ≡ length tree.now }
+    requires lo_nodes { length lo.now ≡ length tree.now }
+    requires hi_nodes { length hi.now ≡ length tree.now }
+    requires lo_values { IsTrue (list_all is_value lo.now) }
+    requires hi_values { IsTrue (list_all is_value hi.now) }
+    ensures { IsJudged tree.now prices.now improve set.now old.now (record { lo = lo.now; hi = hi.now }) result }
+{
+    let _nodes = tree.nodes();
+    if let Some(node) = first_crossed(lo, hi) {
+        return Verdict::Crossed { node };
+    }
+    if let Some(node) = first_loosened(old, lo, hi) {
+        return Verdict::Loosened { node };
+    }
+    let Ok(new) = tree.set_bounds(lo, hi) else {
+        unreachable!()
+    };
+    if !mrpar(tree, &new, set, prices, scratch) {
+        return Verdict::Mrpar;
+    }
+    if !improvement(tree, old, &new, set, prices, improve, scratch) {
+        return Verdict::Improve;
+    }
+    Verdict::Accepted
+}
