@@ -1,0 +1,5 @@
+pub mod Products
+pub mod Costs
+pub mod Nets
+pub mod Above
+pub mod Totals
