@@ -3,3 +3,5 @@ pub mod Costs
 pub mod Nets
 pub mod Above
 pub mod Totals
+pub mod Fixings
+pub mod Modest

@@ -6,6 +6,8 @@ use Rattle.ice_defs.specs.Fixing.{Fixing}
 use Rattle.ice_defs.specs.Trade.{tree_of, weights_of, fixing_of}
 use Rattle.ice_defs.specs.Bound.{Multipliers}
 use Rattle.ice_defs.specs.Log.{HasWrongSign}
+use Rattle.ice_defs.specs.Bounds.{Bounds, bounds_of}
+use Rattle.ice_defs.specs.Lawful.{AreBounds}
 
 -- each weight is at most 100,000,000,000 in size
 pub record AreModest (w : Weights) : Type 0 where
@@ -27,3 +29,8 @@ pub record AreFixingsOf (ts : List Tree) (xs : List Fixing) : Type 0 where
 pub record AreMultipliersOf (exact : List Bool) (m : Multipliers) : Type 0 where
   pub same_length : length m ≡ length exact
   pub signs : ¬ HasWrongSign exact m
+
+-- one pair of bounds per tree
+pub record AreBoundsOf (ts : List Tree) (bounds : List Bounds) : Type 0 where
+  pub same_length : length bounds ≡ length ts
+  pub each : (b : ℕ) → b < length ts → AreBounds (length (tree_of ts b)) (bounds_of bounds b)
