@@ -1,0 +1,32 @@
+-- A passing log closes all sides, and each of its steps stands in one.
+use Rattle.std.proofs.Common.{ℕ, suc, ◌+◌, ◌≡◌, Bool, List, [], ◌∷◌, length, Result, Ok, Err, ℤ, refl, arith, ap, sym, ◌∙◌}
+use Rattle.ice_defs.specs.declared.Mark.TheVariants.{Must, Never}
+use Rattle.ice_defs.specs.Tree.{Tree}
+use Rattle.ice_defs.specs.Set.{Weights}
+use Rattle.ice_defs.specs.Steps.{Step, branch, leaf, dead, Side, with_mark, sides_after, placed}
+use Rattle.ice_defs.specs.Log.{Reads, branches, is_dead_leaf, closes, is_dead}
+use Rattle.ice_refute.specs.Laws.{open_after, LogCloses}
+
+-- the steps that a side takes leave the other sides
+record IsTaken (side : Side) (sides : List Side) (log left : List Step) : Type 0 where
+  closed : open_after (side ∷ sides) log ≡ open_after sides left
+  placed_all : length (placed (side ∷ sides) log) + length left ≡ length (placed sides left) + length log
+
+placed-empty : (log : List Step) → length (placed [] log) ≡ 0
+placed-empty [] = refl
+placed-empty (step ∷ log) = refl
+
+module _ (ts : List Tree) (exact : List Bool) (ws : List Weights) (target : ℤ) where
+  taken : {side : Side} {log left : List Step} → Reads ts exact ws target side log (Ok left) → (sides : List Side) → IsTaken side sides log left
+  taken (branches {side = side} {b = b} {n = n} free must never) sides =
+      let first = taken must (with_mark side b n Never ∷ sides) in
+      let second = taken never sides in
+      record { closed = first.closed ∙ second.closed; placed_all = omega (arith, first.placed_all, second.placed_all) }
+  taken (is_dead_leaf signs is) sides = record { closed = refl; placed_all = omega arith }
+  taken (closes signs is small) sides = record { closed = refl; placed_all = omega arith }
+  taken (is_dead is) sides = record { closed = refl; placed_all = omega arith }
+
+pub log_closes : LogCloses
+log_closes ts exact ws target start log passes =
+    let all = taken ts exact ws target passes [] in
+    (all.closed, omega (arith, all.placed_all))

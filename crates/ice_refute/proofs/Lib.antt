@@ -1,0 +1,9 @@
+pub mod Refutes
+pub mod Same
+pub mod Reading
+pub mod Kept
+pub mod Counting
+pub mod Closing
+pub mod Copying
+pub mod Opening
+pub mod Standing

@@ -1,0 +1,6 @@
+pub mod Code
+pub mod Passing
+pub mod Waiting
+pub mod Moving
+pub mod Faults
+pub mod Laws

@@ -1,0 +1,1 @@
+//! Logs of a small market.

@@ -1,0 +1,111 @@
+//! A walk through a log, step by step.
+ghost use Rattle.std.specs.Prelude.{◌≡◌, ◌<◌, ◌≤◌, ◌↔◌, [], ◌∷◌, length, sum, IsTrue, IfOk, OnOk, IfErr, OnErr};
+ghost use Rattle.ice_defs.specs.Steps.{sides_after};
+ghost use Rattle.ice_bound.specs.Conditions.{AreWeightsOf};
+ghost use Rattle.ice_refute.specs.Code.{step_of, CountsGoods};
+ghost use Rattle.ice_refute.specs.Passing.{PassesAt, HasFault};
+ghost use Rattle.ice_refute.specs.Waiting.{nodes_of, first_side};
+
+use crate::copy::copy_fixings;
+use crate::fault::{LogFault, NoMemory};
+use crate::judge::judge;
+use crate::sides::advance;
+use crate::step::Step;
+use ice_best::Fixings;
+use ice_bound::Desk;
+use ice_tree::{AllWeights, Tree};
+use std::alloc::Global;
+use std::marker::Model;
+
+/// A walk through the steps of a log, which need not lie in memory. It is seen as the list of its open sides, the next
+/// one first, and the numbers of nodes of the trees that it is made for. At most 2,001 sides are ever open.
+#[derive(Drop)]
+pub struct Walk {
+    marks: Fixings,
+    branches: Vec<(u8, u16)>,
+    is_open: bool,
+}
+
+impl Model for Walk {
+    ghost use Rattle.std.specs.Prelude.{◌≤◌, sum, vec_capacity};
+    ghost use Rattle.ice_refute.specs.Waiting.{WalkView, open_sides, nodes_of, AreKept};
+
+    ghost Value = { WalkView };
+
+    ghost view = { λ w. record { sides = open_sides w.is_open w.marks w.branches.items; nodes = nodes_of w.marks } };
+
+    ghost invariant = { λ w. record { kept : AreKept w.marks w.branches.items; few : sum (nodes_of w.marks) ≤ 2000; room : 2000 ≤ vec_capacity w.branches } };
+}
+
+impl Walk {
+    /// A walk for these trees, with no open side. The trees have at most 2,000 nodes together. Takes all the memory that
+    /// the walk needs.
+    pub fn new(alloc: Global, trees: &[Tree]) -> Result<Walk, NoMemory>
+        requires { sum (nodes_of trees.now) ≤ 2000 }
+        ensures closed { IfOk result (λ walk. walk.sides ≡ []) }
+        ensures nodes { IfOk result (λ walk. walk.nodes ≡ nodes_of trees.now) }
+    {
+        let Ok(marks) = Fixings::free(alloc, trees) else {
+            return Err(NoMemory);
+        };
+        let Ok(branches) = Vec::with_capacity(alloc, 2000) else {
+            return Err(NoMemory);
+        };
+        Ok(Walk {
+            marks,
+            branches,
+            is_open: false,
+        })
+    }
+
+    /// Leaves the start as the one open side. Takes no memory.
+    pub fn begin(&mut self, start: &Fixings)
+        requires few { length start.now ≤ 40 }
+        requires nodes { nodes_of start.now ≡ self.old.nodes }
+        ensures side { self.new.sides ≡ start.now ∷ [] }
+        ensures nodes { self.new.nodes ≡ self.old.nodes }
+    {
+        self.branches.clear();
+        copy_fixings(&mut self.marks, start);
+        self.is_open = true;
+    }
+
+    /// Takes the next step, at the first open side. A branch that passes puts its Must side and then its Never side in
+    /// the place of that side; a leaf or a dead step that passes takes it away. A step at fault changes nothing, and its
+    /// fault has step number 0.
+    ///
+    /// A side is open, a leaf has one multiplier per good, and weights are at most 100,000,000,000 in size. Takes no
+    /// memory.
+    pub fn step(
+        &mut self,
+        trees: &[Tree],
+        weights: &AllWeights,
+        target: i128,
+        step: &Step,
+        desk: &mut Desk,
+    ) -> Result<(), LogFault>
+        requires few { length trees.now ≤ 40 }
+        requires weights { AreWeightsOf trees.now weights.now }
+        requires nodes { self.old.nodes ≡ nodes_of trees.now }
+        requires opened { 0 < length self.old.sides }
+        requires goods { CountsGoods (length desk.old.room) (step_of step.now) }
+        ensures ok { OnOk result (PassesAt trees.now desk.old.room weights.now target (first_side self.old.sides) (step_of step.now)) }
+        ensures sides { OnOk result (self.new.sides ≡ sides_after self.old.sides (step_of step.now)) }
+        ensures fault { IfErr result (HasFault trees.now desk.old.room weights.now target (first_side self.old.sides) (step_of step.now)) }
+        ensures unchanged { OnErr result (self.new ≡ self.old) }
+        ensures nodes { self.new.nodes ≡ self.old.nodes }
+        ensures exact { desk.new.room ≡ desk.old.room }
+        ensures marks { desk.new.marks ≡ desk.old.marks }
+    {
+        judge(trees, weights, target, step, &self.marks, &mut desk.room)?;
+        self.is_open = advance(step, &mut self.marks, &mut self.branches);
+        Ok(())
+    }
+
+    /// Whether no side is open.
+    pub fn is_closed(&self) -> bool
+        ensures { IsTrue result ↔ (self.now.sides ≡ []) }
+    {
+        !self.is_open
+    }
+}
