@@ -24,7 +24,9 @@ fn feed_all(checker: &mut Checker, bytes: &[u8]) -> Result<(), CheckEnd>
         let Some(line) = read_record(text) else {
             return Err(CheckEnd::Grammar { line: read + 1 });
         };
-        checker.feed(&line)?;
+        let Ok(()) = checker.feed(&line) else {
+            return Err(CheckEnd::NoMemory);
+        };
         rest = after;
         read += 1;
     }
@@ -37,7 +39,9 @@ fn feed_all(checker: &mut Checker, bytes: &[u8]) -> Result<(), CheckEnd>
 pub fn check(alloc: Global, bytes: &[u8]) -> Result<Answer, CheckEnd>
     ensures { AnswersBytes bytes.now result }
 {
-    let mut checker = Checker::new(alloc)?;
+    let Ok(mut checker) = Checker::new(alloc) else {
+        return Err(CheckEnd::NoMemory);
+    };
     match feed_all(&mut checker, bytes) {
         Ok(()) => checker.finish(),
         Err(end) => {
