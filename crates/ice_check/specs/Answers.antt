@@ -45,6 +45,10 @@ abbrev pub EndIsAnswer : Type 0
 EndIsAnswer = (bytes : List ℕ) (journal : List Record) (p : Progress) (answer : Result Answer CheckEnd)
     → IsJournal bytes journal → Leads nothing journal p → EndsWith p answer → AnswersBytes bytes answer
 
+-- the records of the bytes lead here
+abbrev pub HoldsJournal : List ℕ → Progress → Type 0
+HoldsJournal bytes p = OfJournal bytes (λ journal. Leads nothing journal p)
+
 -- but for want of memory, bytes have one answer
 abbrev pub OneAnswer : Type 0
 OneAnswer = (bytes : List ℕ) (one other : Result Answer CheckEnd) → AnswersBytes bytes one → AnswersBytes bytes other → one ≢ Err NoMemory → other ≢ Err NoMemory → one ≡ other

@@ -1,4 +1,3 @@
-use crate::memory::NoMemory;
 use crate::rule::Rule;
 
 /// What the checker answers of a journal of a kind that it checks.
@@ -20,10 +19,4 @@ pub enum CheckEnd {
     /// Every line is a record, and the first is no head of a kind that is checked, or there is no line.
     OtherKind,
     NoMemory,
-}
-
-impl From<NoMemory> for CheckEnd {
-    fn from(_: NoMemory) -> CheckEnd {
-        CheckEnd::NoMemory
-    }
 }

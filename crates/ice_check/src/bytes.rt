@@ -1,5 +1,8 @@
 //! The check of the bytes of a journal.
-ghost use Rattle.ice_check.specs.Answers.{AnswersBytes};
+ghost use Rattle.std.specs.Prelude.{MatchResult, Err};
+ghost use Rattle.ice_check.specs.Answers.{AnswersBytes, HoldsJournal};
+ghost use Rattle.ice_check.specs.Progress.{nothing};
+ghost use Rattle.std.specs.Prelude.{◌≡◌};
 
 use crate::answer::{Answer, CheckEnd};
 use crate::checker::Checker;
@@ -7,13 +10,11 @@ use ice_journal::read_record;
 use ice_line::split_line;
 use std::alloc::Global;
 
-/// Checks the bytes of a journal.
-///
-/// `Grammar` or `Unended` is answered exactly where a line is no record or the last one has no newline, and names the least such line. Else `OtherKind` is answered exactly where there is no line, or the first is no head of an assign journal. Else the answer is `Assign` exactly where every test passes, with the value of the sets at lower bounds, or `No` with the first failed test. `NoMemory` is answered where memory runs out.
-pub fn check(alloc: Global, bytes: &[u8]) -> Result<Answer, CheckEnd>
-    ensures { AnswersBytes bytes.now result }
+/// Feeds the records of the bytes to a checker that has taken none.
+fn feed_all(checker: &mut Checker, bytes: &[u8]) -> Result<(), CheckEnd>
+    requires { checker.old ≡ nothing }
+    ensures { MatchResult result (λ _. HoldsJournal bytes.now checker.new) (λ end. AnswersBytes bytes.now (Err end)) }
 {
-    let mut checker = Checker::new(alloc)?;
     let mut rest = bytes;
     let mut read = 0u64;
     while !rest.is_empty() {
@@ -23,9 +24,29 @@ pub fn check(alloc: Global, bytes: &[u8]) -> Result<Answer, CheckEnd>
         let Some(line) = read_record(text) else {
             return Err(CheckEnd::Grammar { line: read + 1 });
         };
-        checker.feed(&line)?;
+        let Ok(()) = checker.feed(&line) else {
+            return Err(CheckEnd::NoMemory);
+        };
         rest = after;
         read += 1;
     }
-    checker.finish()
+    Ok(())
+}
+
+/// Checks the bytes of a journal.
+///
+/// `Grammar` or `Unended` is answered exactly where a line is no record or the last one has no newline, and names the least such line. Else `OtherKind` is answered exactly where there is no line, or the first is no head of an assign journal. Else the answer is `Assign` exactly where every test passes, with the value of the sets at lower bounds, or `No` with the first failed test. `NoMemory` is answered where memory runs out.
+pub fn check(alloc: Global, bytes: &[u8]) -> Result<Answer, CheckEnd>
+    ensures { AnswersBytes bytes.now result }
+{
+    let Ok(mut checker) = Checker::new(alloc) else {
+        return Err(CheckEnd::NoMemory);
+    };
+    match feed_all(&mut checker, bytes) {
+        Ok(()) => checker.finish(),
+        Err(end) => {
+            checker.discard();
+            Err(end)
+        }
+    }
 }

@@ -7,7 +7,6 @@ ghost use Rattle.ice_check.specs.Answers.{EndsWith};
 
 use crate::answer::{Answer, CheckEnd};
 use crate::memory::NoMemory;
-use crate::rule::Rule;
 use crate::stage::Stage;
 use ice_journal::Line;
 use std::alloc::Global;
@@ -56,7 +55,8 @@ impl Checker {
         ensures ready { IsTrue (is_ready self.old) → IsOk result }
     {
         let stage = mem::replace(&mut self.stage, Stage::OutOfMemory);
-        self.stage = stage.after(self.alloc, self.next_line, line)?;
+        let next = stage.after(self.alloc, self.next_line, line)?;
+        mem::replace(&mut self.stage, next).discard();
         self.next_line = self.next_line.saturating_add(1);
         Ok(())
     }
@@ -75,17 +75,23 @@ impl Checker {
     pub fn finish(self) -> Result<Answer, CheckEnd>
         ensures { EndsWith self result }
     {
-        match self.stage {
-            Stage::Begin | Stage::OtherKind => Err(CheckEnd::OtherKind),
-            Stage::Done(stated) => Ok(Answer::Assign {
-                value: stated.value(),
-            }),
-            Stage::Failed { line, rule } => Ok(Answer::No { line, rule }),
-            Stage::OutOfMemory => Err(CheckEnd::NoMemory),
-            Stage::Describing(_) | Stage::Stating(_) | Stage::AwaitsEnd(_) => Ok(Answer::No {
-                line: self.next_line,
-                rule: Rule::Short,
-            }),
-        }
+        let Checker {
+            alloc: _,
+            next_line,
+            stage,
+        } = self;
+        let answer = stage.answer(next_line);
+        stage.discard();
+        answer
+    }
+
+    /// Drops the checker.
+    pub(crate) fn discard(self) {
+        let Checker {
+            alloc: _,
+            next_line: _,
+            stage,
+        } = self;
+        stage.discard();
     }
 }

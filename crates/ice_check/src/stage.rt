@@ -3,12 +3,14 @@ ghost use Rattle.std.specs.Prelude.{◌≡◌, suc, IsTrue, IfOk, IsOk, IsErr};
 ghost use Rattle.ice_journal.specs.Lines.{record_of};
 ghost use Rattle.ice_journal.specs.Ranges.{IsRecord};
 ghost use Rattle.ice_check.specs.Progress.{out_of_memory, is_ready, IsAfter};
+ghost use Rattle.ice_check.specs.Answers.{EndsWith};
 ghost use Rattle.ice_check.specs.Stages.{progress_of, IsWithin};
 
+use crate::answer::{Answer, CheckEnd};
 use crate::memory::NoMemory;
 use crate::rule::Rule;
 use crate::stated::Stated;
-use crate::steps::{begin, describe, end, state};
+use crate::steps::{begin, describe, end, pass_end, state};
 use ice_journal::Line;
 use ice_section::Section;
 use std::alloc::Global;
@@ -50,12 +52,33 @@ impl Stage {
             Stage::Describing(section) => describe(alloc, number, section, line),
             Stage::Stating(stated) => Ok(state(number, stated, line)),
             Stage::AwaitsEnd(stated) => Ok(end(number, stated, line)),
-            Stage::Done(_) => Ok(Stage::Failed {
-                line: number,
-                rule: Rule::Order,
-            }),
+            Stage::Done(stated) => Ok(pass_end(number, stated, line)),
             Stage::Failed { line, rule } => Ok(Stage::Failed { line, rule }),
             Stage::OutOfMemory => Err(NoMemory),
         }
     }
+
+    /// What the tests find, where the records so far are the whole journal and the line with this number would be the next.
+    pub(crate) fn answer(&self, number: u64) -> Result<Answer, CheckEnd>
+        ensures { EndsWith (progress_of number self.now) result }
+    {
+        match self {
+            Stage::Begin | Stage::OtherKind => Err(CheckEnd::OtherKind),
+            Stage::Done(stated) => Ok(Answer::Assign {
+                value: stated.value(),
+            }),
+            Stage::Failed { line, rule } => Ok(Answer::No {
+                line: *line,
+                rule: *rule,
+            }),
+            Stage::OutOfMemory => Err(CheckEnd::NoMemory),
+            Stage::Describing(_) | Stage::Stating(_) | Stage::AwaitsEnd(_) => Ok(Answer::No {
+                line: number,
+                rule: Rule::Short,
+            }),
+        }
+    }
+
+    /// Drops the stage.
+    pub(crate) fn discard(self) {}
 }

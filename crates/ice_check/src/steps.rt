@@ -192,3 +192,14 @@ pub(crate) fn end(number: u64, stated: Stated, line: &Line) -> Stage
         }
     }
 }
+
+/// A record after the end.
+pub(crate) fn pass_end(number: u64, stated: Stated, line: &Line) -> Stage
+    ensures after { IsAfter (progress_of number (Stage.Done stated)) (record_of line.now) (progress_of (suc number) result) }
+    ensures within { IsWithin (suc number) result }
+{
+    Stage::Failed {
+        line: number,
+        rule: Rule::Order,
+    }
+}

@@ -1,6 +1,6 @@
 use Rattle.std.proofs.Common.{length}
 use Rattle.ice_check.proofs.Reading.{HasRead}
-use Rattle.ice_check.proofs.bytes.check.Given as goal
+use Rattle.ice_check.proofs.bytes.feed_all.Given as goal
 
 abbrev pub invariant-loop-rest : goal.invariant-loop-rest
 invariant-loop-rest l = HasRead l.bytes l.rest l.read l.checker

@@ -1,0 +1,7 @@
+use Rattle.ice_check.proofs.Answered.{end_answers}
+use Rattle.ice_check.proofs.bytes.check.Goals as goal
+
+pub returns-in-Ok-feed_all : goal.returns-in-Ok-feed_all
+returns-in-Ok-feed_all c =
+    let (journal, is, leads) = c.in-Ok-feed_all.ensures in
+    end_answers c.args.bytes.now journal c.feed_all.new.checker c.finish.result is leads c.finish.ensures
