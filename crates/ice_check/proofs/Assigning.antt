@@ -143,16 +143,26 @@ in_sets before s found (line.set x) after kind (section, described, said, room, 
         → IsStanding (before ++ line.set x ∷ []) after
     by true last h = is_after (before ++ line.set x ∷ []) _ after h (record {
       kind = kind;
-      place = (section, described, set_added before section found.sets x said, record {
-        same_length = length-append found.sets (x ∷ []) ∙ omega (arith, eqb-true (suc (length found.sets)) (bidder_count s) last);
-        satisfied = λ b l. sets b (omega (arith, length-append found.sets (x ∷ []), eqb-true (suc (length found.sets)) (bidder_count s) last));
-        balanced = λ g l. covered _ _ _ (λ no. subst (λ b. ¬ IsSomeAnd (cond b (Some (record { group = assign_group; stated = with_set found x })) None) (λ (c : Complete). (g : ℕ) × (g < goods_at s) × ¬ IsCovered (is_exact (exact_at s) g) (total_units (trees_at s) c.stated.sets g) (pos 0))) last (pass rule.Excess) (g, l, no));
-      });
+      place = (
+        section,
+        described,
+        set_added before section found.sets x said,
+        record {
+          same_length = length-append found.sets (x ∷ []) ∙ omega (arith, eqb-true (suc (length found.sets)) (bidder_count s) last);
+          satisfied = λ b l. sets b (omega (arith, length-append found.sets (x ∷ []), eqb-true (suc (length found.sets)) (bidder_count s) last));
+          balanced = λ g l. covered _ _ _ (λ no. subst (λ b. ¬ IsSomeAnd (cond b (Some (record { group = assign_group; stated = with_set found x })) None) (λ (c : Complete). (g : ℕ) × (g < goods_at s) × ¬ IsCovered (is_exact (exact_at s) g) (total_units (trees_at s) c.stated.sets g) (pos 0))) last (pass rule.Excess) (g, l, no));
+        },
+      );
     })
     by false more h = is_after (before ++ line.set x ∷ []) _ after h (record {
       kind = kind;
-      place = (section, described, set_added before section found.sets x said,
-        omega (arith, length-append found.sets (x ∷ []), eqb-false (suc (length found.sets)) (bidder_count s) more), sets);
+      place = (
+        section,
+        described,
+        set_added before section found.sets x said,
+        omega (arith, length-append found.sets (x ∷ []), eqb-false (suc (length found.sets)) (bidder_count s) more),
+        sets,
+      );
     })
 in_sets before s found other after kind at is pass = absurd (none-some after is)
 

@@ -111,9 +111,10 @@ one_set_stated ex sets taken x h room is = record {
 -- the next bidder's set, where the value of a list of sets is given by its parts
 pub next_set : (ex : Exchange) (sets : Assignment) (taken : ℕ) (x : NodeSet) (now : Stating) → AreStated ex sets taken → record { exchange = ex; sets = take taken sets } ≡ now
     → length now.sets < length (trees_of now.exchange) → IsSatisfied (tree_of (trees_of now.exchange) (length now.sets)) x → (taken < length (trees_of ex)) × IsSatisfied (tree_of (trees_of ex) taken) x
-next_set ex sets taken x now h view room is =
-    (subst (λ n. n < length (trees_of ex)) count (subst (λ (s : Stating). length s.sets < length (trees_of s.exchange)) (sym view) room),
-      subst (λ n. IsSatisfied (tree_of (trees_of ex) n) x) count (subst (λ (s : Stating). IsSatisfied (tree_of (trees_of s.exchange) (length s.sets)) x) (sym view) is))
+next_set ex sets taken x now h view room is = (
+  subst (λ n. n < length (trees_of ex)) count (subst (λ (s : Stating). length s.sets < length (trees_of s.exchange)) (sym view) room),
+  subst (λ n. IsSatisfied (tree_of (trees_of ex) n) x) count (subst (λ (s : Stating). IsSatisfied (tree_of (trees_of s.exchange) (length s.sets)) x) (sym view) is),
+)
   where
     count : length (take taken sets) ≡ taken
     count = length-take-le taken sets h.taken_there

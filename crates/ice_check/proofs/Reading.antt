@@ -53,23 +53,32 @@ few_read bytes rest count p h = omega (arith, h.count_is, lines_count h.records,
 -- the next line is no record
 pub grammar_fault : (bytes rest text after : List ℕ) (count : ℕ) (p : Progress) → HasRead bytes rest count p → rest ≡ text ++ 10 ∷ after → ¬ Contains text 10 → IsNoRecord text
     → IsLinesFault bytes (grammar (count + 1))
-grammar_fault bytes rest text after count p h parts one_line no_record = (text, after, record {
-  before = h.records;
-  lawful = h.lawful;
-  number_is = omega (arith, h.count_is);
-  bytes_are = h.bytes_are ∙ ap (λ (l : List ℕ). bytes_of h.records ++ l) parts;
-  one_line = one_line;
-}, no_record)
+grammar_fault bytes rest text after count p h parts one_line no_record = (
+  text,
+  after,
+  record {
+    before = h.records;
+    lawful = h.lawful;
+    number_is = omega (arith, h.count_is);
+    bytes_are = h.bytes_are ∙ ap (λ (l : List ℕ). bytes_of h.records ++ l) parts;
+    one_line = one_line;
+  },
+  no_record,
+)
 
 -- the next line has no newline
 pub unended_fault : (bytes rest : List ℕ) (count : ℕ) (p : Progress) → HasRead bytes rest count p → ¬ Contains rest 10 → 0 < length rest → IsLinesFault bytes (unended (count + 1))
-unended_fault bytes rest count p h one_line some = (rest, record {
-  before = h.records;
-  lawful = h.lawful;
-  number_is = omega (arith, h.count_is);
-  bytes_are = h.bytes_are ∙ ap (λ (l : List ℕ). bytes_of h.records ++ l) (sym (append-nil rest));
-  one_line = one_line;
-}, some)
+unended_fault bytes rest count p h one_line some = (
+  rest,
+  record {
+    before = h.records;
+    lawful = h.lawful;
+    number_is = omega (arith, h.count_is);
+    bytes_are = h.bytes_are ∙ ap (λ (l : List ℕ). bytes_of h.records ++ l) (sym (append-nil rest));
+    one_line = one_line;
+  },
+  some,
+)
 
 pub all_read : (bytes rest : List ℕ) (count : ℕ) (p : Progress) (h : HasRead bytes rest count p) → rest ≡ [] → IsJournal bytes h.records
 all_read bytes rest count p h none = record { lawful = h.lawful; spelled = h.bytes_are ∙ ap (λ (l : List ℕ). bytes_of h.records ++ l) none ∙ append-nil (bytes_of h.records) }

@@ -69,10 +69,10 @@ lows_of_bidders goods [] rest each none = none
 lows_of_bidders goods (b ∷ bidders) rest each none =
     ap lows (append_assoc (bidder_records b) (flat_map bidder_records bidders) rest)
     ∙ ap (λ (l : Lows). let x : Lows = record { first = []; later = l.first ∷ l.later } in x)
-      (lows_of_nodes (kind_of b.tree) (λ n. length (children_of b.tree n)) (weight_of b.bounds.lo) (weight_of b.bounds.hi) (numbers_below (length b.tree)) (flat_map bidder_records bidders ++ rest)
-      ∙ ap (λ (l : Lows). let x : Lows = record { first = map (weight_of b.bounds.lo) (numbers_below (length b.tree)) ++ l.first; later = l.later } in x) (lows_of_bidders goods bidders rest each.1 none)
-      ∙ ap (λ (w : Weights). let x : Lows = record { first = w; later = map (λ b. b.bounds.lo) bidders } in x)
-        (append-nil (map (weight_of b.bounds.lo) (numbers_below (length b.tree))) ∙ weights_all b.bounds.lo (length b.tree) each.0.bounds.lo_count))
+    (lows_of_nodes (kind_of b.tree) (λ n. length (children_of b.tree n)) (weight_of b.bounds.lo) (weight_of b.bounds.hi) (numbers_below (length b.tree)) (flat_map bidder_records bidders ++ rest)
+    ∙ ap (λ (l : Lows). let x : Lows = record { first = map (weight_of b.bounds.lo) (numbers_below (length b.tree)) ++ l.first; later = l.later } in x) (lows_of_bidders goods bidders rest each.1 none)
+    ∙ ap (λ (w : Weights). let x : Lows = record { first = w; later = map (λ b. b.bounds.lo) bidders } in x)
+    (append-nil (map (weight_of b.bounds.lo) (numbers_below (length b.tree))) ∙ weights_all b.bounds.lo (length b.tree) each.0.bounds.lo_count))
 
 lows_of_goods : (goods : List Good) (rest : List Record) → lows (map good_record goods ++ rest) ≡ lows rest
 lows_of_goods [] rest = refl
@@ -142,7 +142,7 @@ value_of_assigned a right = ap (λ (s : Assignment). total_value s (lows (assign
     lower =
         ap (λ (rs : List Record). (lows rs).later) (regrouped a)
         ∙ ap (λ (l : Lows). l.later) (lows_of_goods a.exchange.goods (flat_map bidder_records a.exchange.bidders ++ (line.assign ∷ (map line.set a.sets ++ line.end assign_end ∷ [])))
-          ∙ lows_of_bidders (length a.exchange.goods) a.exchange.bidders (line.assign ∷ (map line.set a.sets ++ line.end assign_end ∷ [])) right.exchange.bidders (lows_of_sets a.sets))
+        ∙ lows_of_bidders (length a.exchange.goods) a.exchange.bidders (line.assign ∷ (map line.set a.sets ++ line.end assign_end ∷ [])) right.exchange.bidders (lows_of_sets a.sets))
         ∙ mapped a.exchange.bidders
       where
         mapped : (bidders : List Bidder) → map (λ (b : Bidder). b.bounds.lo) bidders ≡ lower_weights (map (λ (b : Bidder). b.bounds) bidders)

@@ -1,5 +1,5 @@
 -- Sums over the first sets, and the lower values of the bidders of an exchange.
-use Rattle.std.proofs.Common.{◌≡◌, ◌<◌, ◌≤◌, ℕ, zero, suc, List, [], ◌∷◌, length, map,  take, ℤ, refl, sym, ◌∙◌, ap, arith}
+use Rattle.std.proofs.Common.{◌≡◌, ◌<◌, ◌≤◌, ℕ, zero, suc, List, [], ◌∷◌, length, map, take, ℤ, refl, sym, ◌∙◌, ap, arith}
 use Rattle.std.specs.List.{AllByRecursion}
 use Rattle.std.proofs.lemmas.List.{length-map, length-take-le, get_or-take}
 use Rattle.ice_defs.specs.Sum.{sum_below}
@@ -13,7 +13,7 @@ use Rattle.ice_defs.proofs.Sums.{sum_below-same}
 pub total_of_taken : (sets : Assignment) (ws : List Weights) (n : ℕ) → n ≤ length sets → sum_below (λ b. value (set_of sets b) (weights_of ws b)) n ≡ total_value (take n sets) ws
 total_of_taken sets ws n h =
     sum_below-same (λ b. value (set_of sets b) (weights_of ws b)) (λ b. value (set_of (take n sets) b) (weights_of ws b)) n
-      (λ b l. ap (λ s. value s (weights_of ws b)) (sym (get_or-take n sets b [] l)))
+    (λ b l. ap (λ s. value s (weights_of ws b)) (sym (get_or-take n sets b [] l)))
     ∙ ap (sum_below (λ b. value (set_of (take n sets) b) (weights_of ws b))) (sym (length-take-le n sets h))
 
 lower_count : (goods : ℕ) (bidders : List Bidder) (b : ℕ) → AllByRecursion (IsBidder goods) bidders → b < length bidders

@@ -2,9 +2,9 @@
 #![tactic(auto)]
 
 mod answer;
-pub mod laws;
 mod bytes;
 mod checker;
+pub mod laws;
 mod lines;
 mod memory;
 mod rule;

@@ -83,7 +83,12 @@ fn describe_more(number: u64, mut section: Section, line: &Line) -> Result<Stage
 }
 
 /// A record while the exchange is being described.
-pub(crate) fn describe(alloc: Global, number: u64, section: Section, line: &Line) -> Result<Stage, NoMemory>
+pub(crate) fn describe(
+    alloc: Global,
+    number: u64,
+    section: Section,
+    line: &Line,
+) -> Result<Stage, NoMemory>
     requires within { IsWithin number (Stage.Describing section) }
     requires lawful { IsRecord (record_of line.now) }
     ensures after { IfOk result (λ next. IsAfter (progress_of number (Stage.Describing section)) (record_of line.now) (progress_of (suc number) next)) }

@@ -28,7 +28,7 @@ returns-else-is_full-clause-after c =
     let sets = c.args.stated.sets in
     let x = c.args.set.now in
     let not_full = λ (e : length (sets ++ x ∷ []) ≡ length (trees_of ex)).
-        true≢false (subst (λ b. b ≡ false) (c.is_full.ensures.1 (subst (λ (s : Stating). length s.sets ≡ length (trees_of s.exchange)) (sym c.put.ensures) e)) c.if-is_full.false) in
+    true≢false (subst (λ b. b ≡ false) (c.is_full.ensures.1 (subst (λ (s : Stating). length s.sets ≡ length (trees_of s.exchange)) (sym c.put.ensures) e)) c.if-is_full.false) in
     subst (λ (s : Stating). TakesOn (stating n ex sets) (records.set x) (passing (stating (suc n) s.exchange s.sets))) (sym c.put.ensures)
     (set_on n ex sets x (record { count = c.requires.satisfied.same_length; bidder = c.requires.within.1 }) (set_fault-none (tree_of (trees_of ex) (length sets)) x c.requires.satisfied)
-      (λ e. not_full (omega (arith, e, length-append sets (x ∷ [])))))
+    (λ e. not_full (omega (arith, e, length-append sets (x ∷ [])))))
