@@ -60,11 +60,7 @@ fn leave(marks: &mut Fixings, branches: &mut Vec<(u8, u16)>) -> bool
 }
 
 /// Goes on behind a step that passes. False comes exactly where no side is open then.
-pub(crate) fn advance(
-    step: &Step,
-    marks: &mut Fixings,
-    branches: &mut Vec<(u8, u16)>,
-) -> bool
+pub(crate) fn advance(step: &Step, marks: &mut Fixings, branches: &mut Vec<(u8, u16)>) -> bool
     requires kept { AreKept marks.old branches.old.items }
     requires room { 2000 ≤ vec_capacity branches.old }
     requires passes { CanBranch marks.old (step_of step.now) }
