@@ -6,7 +6,9 @@ use Rattle.ice_defs.specs.Set.{NodeSet, has, IsSatisfied, Weights, weight_of}
 use Rattle.ice_defs.specs.Bounds.{Bounds, IsInside}
 use Rattle.ice_defs.specs.Prices.{Prices}
 use Rattle.ice_defs.specs.Rules.{net_at, IsBestThroughout, IsAhead, IsLoss, IsMrpar, GainsMore, Improves}
-use Rattle.ice_defs.specs.Judging.{IsNarrowed, IsLoosenedAt}
+use Rattle.ice_defs.specs.declared.Verdict.{Verdict}
+use Rattle.ice_defs.specs.declared.Verdict.TheVariants.{Accepted, Loosened, Crossed, Mrpar, Improve, Repeated, UnknownBidder, WrongCount}
+use Rattle.ice_defs.specs.Judging.{IsNarrowed, IsJudged}
 use Rattle.ice_net.specs.Net.{IsBestNet}
 use Rattle.ice_rules.specs.Profiles.{AreAgainst, AreInFavour}
 use Rattle.ice_rules.specs.Laws.{ExactBidIsAccepted}
@@ -86,15 +88,31 @@ narrowed old v inside = record {
     tight n h (inl less) = omega (arith, ints, less, inside.low n h, one_time (weight_of old.lo n))
     tight n h (inr less) = omega (arith, ints, less, inside.high n h, one_time (weight_of old.hi n))
 
-pub exact_bid_is_accepted : ExactBidIsAccepted
+pub exact_is_accepted : (t : Tree) (p : Prices) (improve : ℤ) (s : NodeSet) (old : Bounds) (v : Weights) → IsSatisfied t s → length v ≡ length t → IsInside 1 old v
+    → IsJudged t p improve s old (record { lo = v; hi = v }) Accepted
 unfolding exact
-exact_bid_is_accepted t p improve s old v tree positive required sat size inside =
+exact_is_accepted t p improve s old v sat size inside =
     let (best, ok, most) = greatest_there t s sat (net_at t p 1 v) in
     let is : IsBestNet t v 1 p best (net_at t p 1 v best) = record { satisfied = ok; has = refl; greatest = most } in
-    let (was, is_was) = loss_there t p old s (omega (arith, inside.same_length, size)) (ordered_inside) sat in
+    let (was, is_was) = loss_there t p old s (omega (arith, inside.same_length, size)) ordered_inside sat in
     (narrowed old v inside, mrpar t p s sat v size best is, improves t p s sat v size best is old was improve is_was)
   where
     ordered_inside : AreOrdered old
     ordered_inside n h =
         let l : n < length v = omega (arith, inside.same_length, h) in
         omega (arith, ints, inside.low n l, inside.high n l, one_time (weight_of old.lo n), one_time (weight_of old.hi n))
+
+pub exact_bid_is_accepted : ExactBidIsAccepted
+exact_bid_is_accepted t p improve s old v tree positive required sat size inside = exact_is_accepted t p improve s old v sat size inside
+
+-- where new bounds are accepted there is no other verdict
+pub accepted_alone : (t : Tree) (p : Prices) (improve : ℤ) (s : NodeSet) (old new : Bounds) (verdict : Verdict) → IsJudged t p improve s old new verdict
+    → IsJudged t p improve s old new Accepted → verdict ≡ Accepted
+accepted_alone t p improve s old new Accepted judged accepted = refl
+accepted_alone t p improve s old new (Crossed n) judged accepted = absurd (accepted.0.uncrossed n judged.0)
+accepted_alone t p improve s old new (Loosened n) judged accepted = absurd (accepted.0.tight n judged.1.0)
+accepted_alone t p improve s old new Mrpar judged accepted = absurd (judged.1 accepted.1)
+accepted_alone t p improve s old new Improve judged accepted = absurd (judged.2 accepted.2)
+accepted_alone t p improve s old new Repeated judged accepted = absurd judged
+accepted_alone t p improve s old new UnknownBidder judged accepted = absurd judged
+accepted_alone t p improve s old new WrongCount judged accepted = absurd judged

@@ -2,6 +2,7 @@
 ghost use Rattle.std.specs.Prelude.{◌≡◌, ◌<◌, ◌≤◌, length, IsTrue, MatchOption, ℕ, ◌<ℤ◌, ◌⊎◌};
 ghost use Rattle.std.specs.List.{list_all};
 ghost use Rattle.ice_defs.specs.Set.{IsSatisfied, weight_of};
+ghost use Rattle.ice_defs.specs.Bounds.{IsInside};
 ghost use Rattle.ice_defs.specs.Making.{is_value};
 ghost use Rattle.ice_defs.specs.Judging.{IsLeastNode, IsCrossedAt, IsLoosenedAt, IsJudged};
 
@@ -49,13 +50,8 @@ fn first_loosened(old: &Bounds, lo: &[i64], hi: &[i64]) -> Option<u16>
     None
 }
 
-/// The verdict on new lower and upper values of a bidder, of which there is one for each node, inside the value limits:
-/// the first of these that holds. `Crossed` at the least node whose lower value is above its upper one, `Loosened` at
-/// the least node whose values reach beyond the old bounds, `Mrpar` where the first rule fails at the new bounds,
-/// `Improve` where the second one does, and else `Accepted`.
-///
-/// The provisional set is satisfied. Takes no memory.
-pub fn judge(
+/// The first verdict that holds.
+fn first_that_holds(
     tree: &Tree,
     old: &Bounds,
     lo: &[i64],
@@ -90,4 +86,33 @@ pub fn judge(
         return Verdict::Improve;
     }
     Verdict::Accepted
+}
+
+/// The verdict on new lower and upper values of a bidder, of which there is one for each node, inside the value limits:
+/// the first of these that holds. `Crossed` at the least node whose lower value is above its upper one, `Loosened` at
+/// the least node whose values reach beyond the old bounds, `Mrpar` where the first rule fails at the new bounds,
+/// `Improve` where the second one does, and else `Accepted`. A bid that states its true values exactly, inside the old
+/// bounds, is accepted.
+///
+/// The provisional set is satisfied. Takes no memory.
+pub fn judge(
+    tree: &Tree,
+    old: &Bounds,
+    lo: &[i64],
+    hi: &[i64],
+    set: &NodeSet,
+    prices: &Prices,
+    improve: i64,
+    scratch: &mut Scratch,
+) -> Verdict
+    requires satisfied { IsSatisfied tree.now set.now }
+    requires old { length old.now.lo ≡ length tree.now }
+    requires lo_nodes { length lo.now ≡ length tree.now }
+    requires hi_nodes { length hi.now ≡ length tree.now }
+    requires lo_values { IsTrue (list_all is_value lo.now) }
+    requires hi_values { IsTrue (list_all is_value hi.now) }
+    ensures judged { IsJudged tree.now prices.now improve set.now old.now (record { lo = lo.now; hi = hi.now }) result }
+    ensures exact { hi.now ≡ lo.now → IsInside 1 old.now lo.now → result ≡ Verdict.Accepted }
+{
+    first_that_holds(tree, old, lo, hi, set, prices, improve, scratch)
 }

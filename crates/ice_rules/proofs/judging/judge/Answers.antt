@@ -1,44 +1,21 @@
-use Rattle.std.proofs.Common.{◌≡◌, true, false, refl, sym, subst, rules, to_z, of_z}
+use Rattle.std.proofs.Common.{◌≡◌, sym, subst, rules, to_z, of_z}
 use Rattle.std.proofs.lemmas.Int.{to_z-of_z}
 use mir.Syntax.{w64}
 use mir.Val.{SFits}
-use Rattle.std.specs.Prelude.{None, Some}
-use Rattle.ice_defs.specs.Rules.{IsMrpar, Improves}
-use Rattle.ice_rules.proofs.Unrefused.{unrefused}
+use Rattle.ice_defs.specs.declared.Verdict.TheVariants.{Accepted}
+use Rattle.ice_defs.specs.Judging.{IsJudged}
+use Rattle.ice_rules.proofs.Exact.{exact_is_accepted, accepted_alone}
 use Rattle.ice_rules.proofs.judging.judge.Goals as goal
 
-pub unreachable-requires : goal.unreachable-requires
-unreachable-requires c =
-    let fine = unrefused _ c.args.lo.now c.args.hi.now c.requires.lo_nodes c.requires.hi_nodes c.requires.lo_values c.requires.hi_values c.in_default.ensures in
-    let due = c.in_default-set_bounds.ensures.refused in
-    cc (fine, due)
-
-pub returns-then-not-mrpar : goal.returns-then-not-mrpar
-returns-then-not-mrpar c = (
-  record { uncrossed = c.in_default.ensures; tight = c.in_default-first_loosened.ensures },
-  λ m.
-      let h : false ≡ true = c.if-not-mrpar.ensures.1 (subst (λ b. IsMrpar c.args.tree.now c.args.prices.now c.args.set.now b) (sym c.in-Ok.ensures.made) m) in
-      absurd (cc),
-)
-
-pub returns-then-not-improvement : goal.returns-then-not-improvement
-returns-then-not-improvement c =
+pub returns-clause-judged : goal.returns-clause-judged
+returns-clause-judged c =
     let fits : SFits w64 c.args.improve = search rules in
-    let back : to_z w64 (of_z w64 c.args.improve) ≡ c.args.improve = to_z-of_z w64 c.args.improve fits in (
-      record { uncrossed = c.in_default.ensures; tight = c.in_default-first_loosened.ensures },
-      subst (λ b. IsMrpar c.args.tree.now c.args.prices.now c.args.set.now b) c.in-Ok.ensures.made (c.if-not-mrpar.ensures.0 refl),
-      λ i.
-          let made = subst (λ b. Improves c.args.tree.now c.args.prices.now c.args.set.now c.args.old.now b c.args.improve) (sym c.in-Ok.ensures.made) i in
-          let h : false ≡ true = c.if-not-improvement.ensures.1 (subst (λ z. Improves c.args.tree.now c.args.prices.now c.args.set.now c.args.old.now c.in-Ok.new z) (sym back) made) in
-          absurd (cc),
-    )
+    let back : to_z w64 (of_z w64 c.args.improve) ≡ c.args.improve = to_z-of_z w64 c.args.improve fits in
+    subst (λ z. IsJudged c.args.tree.now c.args.prices.now z c.args.set.now c.args.old.now (record { lo = c.args.lo.now; hi = c.args.hi.now }) c.first_that_holds.result) back c.first_that_holds.ensures
 
-pub returns : goal.returns
-returns c =
-    let fits : SFits w64 c.args.improve = search rules in
-    let back : to_z w64 (of_z w64 c.args.improve) ≡ c.args.improve = to_z-of_z w64 c.args.improve fits in (
-      record { uncrossed = c.in_default.ensures; tight = c.in_default-first_loosened.ensures },
-      subst (λ b. IsMrpar c.args.tree.now c.args.prices.now c.args.set.now b) c.in-Ok.ensures.made (c.if-not-mrpar.ensures.0 refl),
-      subst (λ b. Improves c.args.tree.now c.args.prices.now c.args.set.now c.args.old.now b c.args.improve) c.in-Ok.ensures.made
-          (subst (λ z. Improves c.args.tree.now c.args.prices.now c.args.set.now c.args.old.now c.in-Ok.new z) back (c.if-not-improvement.ensures.0 refl)),
-    )
+pub returns-clause-exact : goal.returns-clause-exact
+returns-clause-exact c = λ same inside.
+    accepted_alone c.args.tree.now c.args.prices.now c.args.improve c.args.set.now c.args.old.now (record { lo = c.args.lo.now; hi = c.args.hi.now }) c.first_that_holds.result
+    (returns-clause-judged c)
+    (subst (λ h. IsJudged c.args.tree.now c.args.prices.now c.args.improve c.args.set.now c.args.old.now (record { lo = c.args.lo.now; hi = h }) Accepted) (sym same)
+    (exact_is_accepted c.args.tree.now c.args.prices.now c.args.improve c.args.set.now c.args.old.now c.args.lo.now c.requires.satisfied c.requires.lo_nodes inside))
