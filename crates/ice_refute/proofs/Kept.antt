@@ -2,7 +2,7 @@
 use Rattle.std.proofs.Common.{ℕ, zero, suc, ◌+◌, ◌<◌, ◌≤◌, ◌≡◌, ◌≢◌, Bool, true, false, cond, List, [], ◌∷◌, ◌++◌, length, map, reverse, get_or, set, sum, refl, arith, ap, sym, ◌∙◌, subst, ◌⊎◌, inl, inr, get_or-set_same, get_or-set_other, length-append}
 use Rattle.std.specs.Prelude.{sum_by}
 use Rattle.std.proofs.lemmas.Bool.{cases_lt, cases_eq}
-use Rattle.std.proofs.lemmas.List.{length-set, set-set, set-get_or, get_or_push, get_or_append_left, reverse-append}
+use Rattle.std.proofs.lemmas.List.{length-set, set-set, set-get_or, get_or_push, get_or_append_left, reverse-append, length-reverse}
 use Rattle.std.proofs.lemmas.List.Sums.{sum_by-set, sum_by-cons}
 use Rattle.ice_defs.specs.declared.Mark.{Mark}
 use Rattle.ice_defs.specs.declared.Mark.TheVariants.{Free, Must, Never}
@@ -185,3 +185,20 @@ also_waits-other Free second sides ne = refl
 pub waiting_less : (marks : Side) (branches : List (ℕ × ℕ)) (place : ℕ × ℕ) → mark_of (fixing_of marks place.0) place.1 ≢ Must
     → waiting marks (reverse (branches ++ place ∷ [])) ≡ waiting (with_mark marks place.0 place.1 Free) (reverse branches)
 waiting_less marks branches place ne = ap (waiting marks) (reverse_push branches place) ∙ also_waits-other (mark_of (fixing_of marks place.0) place.1) _ _ ne
+
+-- at most one side waits for each branch
+length-also_waits : (mark : Mark) (second : Side) (sides : List Side) → length (also_waits mark second sides) ≤ suc (length sides)
+length-also_waits Must second sides = omega arith
+length-also_waits Never second sides = omega arith
+length-also_waits Free second sides = omega arith
+
+length-waiting : (marks : Side) (branches : List (ℕ × ℕ)) → length (waiting marks branches) ≤ length branches
+length-waiting marks [] = omega arith
+length-waiting marks (place ∷ outer) =
+    let rest = waiting (with_mark marks place.0 place.1 Free) outer in
+    omega (arith, length-also_waits (mark_of (fixing_of marks place.0) place.1) (with_mark marks place.0 place.1 Never) rest, length-waiting (with_mark marks place.0 place.1 Free) outer)
+
+-- so few sides are open
+pub few_sides : (is_open : Bool) (marks : Side) (branches : List (ℕ × ℕ)) → AreKept marks branches → length (open_sides is_open marks branches) ≤ 2001
+few_sides true marks branches kept = omega (arith, kept.room, length-waiting marks (reverse branches), length-reverse branches)
+few_sides false marks branches kept = omega arith

@@ -92,6 +92,7 @@ impl Walk {
         ensures ok { OnOk result (PassesAt trees.now desk.old.room weights.now target (first_side self.old.sides) (step_of step.now)) }
         ensures sides { OnOk result (self.new.sides ≡ sides_after self.old.sides (step_of step.now)) }
         ensures fault { IfErr result (HasFault trees.now desk.old.room weights.now target (first_side self.old.sides) (step_of step.now)) }
+        ensures few { OnOk result (length self.new.sides ≤ 2001) }
         ensures unchanged { OnErr result (self.new ≡ self.old) }
         ensures nodes { self.new.nodes ≡ self.old.nodes }
         ensures exact { desk.new.room ≡ desk.old.room }

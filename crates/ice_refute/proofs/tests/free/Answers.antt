@@ -1,0 +1,7 @@
+use Rattle.std.proofs.Common.{ap, ◌∙◌}
+use Rattle.ice_refute.specs.Waiting.{nodes_of}
+use Rattle.ice_refute.proofs.Copying.{nodes_of-free}
+use Rattle.ice_refute.proofs.tests.free.Goals as goal
+
+pub returns-in-Ok : goal.returns-in-Ok
+returns-in-Ok c = ap nodes_of c.in-Ok.ensures ∙ nodes_of-free c.args.trees.now
