@@ -1,5 +1,5 @@
 -- A bound is above every feasible assignment that meets the fixings.
-use Rattle.std.proofs.Common.{ℕ, ◌<◌, ◌≤◌, ◌≡◌, Bool, true, false, List, length, get_or, ℤ, pos, ◌+ℤ◌, ◌-ℤ◌, ◌*ℤ◌, ◌≤ℤ◌, ◌<ℤ◌, refl, arith, ap, sym, ◌∙◌, subst}
+use Rattle.std.proofs.Common.{ℕ, ◌<◌, ◌≤◌, ◌≡◌, Bool, true, false, List, length, ℤ, pos, ◌+ℤ◌, ◌*ℤ◌, ◌≤ℤ◌, refl, arith, ap, ◌∙◌}
 use Rattle.std.proofs.lemmas.Int.{ints, by_lt_z}
 use Rattle.std.proofs.Math.IntN.{*ℤ-zero}
 use Rattle.ice_defs.specs.Sum.{sum_below}
@@ -16,7 +16,7 @@ use Rattle.ice_bound.specs.Multipliers.{multiplier_of}
 use Rattle.ice_bound.specs.Conditions.{AreMultipliersOf}
 use Rattle.ice_bound.specs.Answer.{IsAnswer, IsAboveAll}
 use Rattle.ice_bound.specs.Laws.{BoundIsSound, DeadHasNone}
-use Rattle.ice_bound.proofs.Products.{sum_below-times, times_not_positive}
+use Rattle.ice_defs.proofs.Products.{sum_below-times, times_not_positive}
 
 module _ (ts : List Tree) (exact : List Bool) (ws : List Weights) (m : Multipliers) (xs : List Fixing) (a : Assignment)
     (goods : length m ≡ length exact) (signs : ¬ HasWrongSign exact m) (feasible : IsFeasible ts exact a) (meets : MeetsAll a xs) where

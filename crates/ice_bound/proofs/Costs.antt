@@ -1,7 +1,6 @@
 -- What a node costs, good by good.
-use Rattle.std.proofs.Common.{ℕ, ◌<◌, ◌≤◌, ◌≡◌, Bool, true, false, cond, eqb, length, get_or, ℤ, pos, ◌*ℤ◌, neg_ℤ, refl, arith, ap, sym, ◌∙◌, ◌⊎◌, inl, inr, subst}
-use Rattle.std.proofs.lemmas.Int.{ints}
-use Rattle.std.proofs.lemmas.Bool.{cases_lt, cases_eq, eq-eqb, ne_eqb}
+use Rattle.std.proofs.Common.{ℕ, ◌<◌, ◌≤◌, ◌≡◌, Bool, true, false, cond, eqb, length, ℤ, pos, ◌*ℤ◌, neg_ℤ, arith, ap, sym, ◌∙◌, ◌⊎◌, inl, inr}
+use Rattle.std.proofs.lemmas.Bool.{cases_lt, cases_eq}
 use Rattle.std.proofs.lemmas.List.{get_or_past}
 use Rattle.std.proofs.Math.IntN.{*ℤ-zero, zero-*ℤ}
 use Rattle.ice_defs.specs.declared.NodeKind.{NodeKind}
@@ -12,7 +11,7 @@ use Rattle.ice_defs.specs.Bound.{Multipliers}
 use Rattle.ice_defs.proofs.Sums.{sum_below-same, sum_below-zero, sum_below-single, at_other, at_same}
 use Rattle.ice_bound.specs.Multipliers.{multiplier_of}
 use Rattle.ice_bound.specs.Net.{node_cost}
-use Rattle.ice_bound.proofs.Products.{times_neg}
+use Rattle.ice_defs.proofs.Products.{times_neg}
 
 -- units u of one good cost its multiplier times u
 one_good : (m : Multipliers) (good : ℕ) (u : ℤ) → sum_below (λ g. multiplier_of m g *ℤ cond (eqb good g) u (pos 0)) (length m) ≡ multiplier_of m good *ℤ u

@@ -1,4 +1,3 @@
-pub mod Products
 pub mod Costs
 pub mod Nets
 pub mod Above

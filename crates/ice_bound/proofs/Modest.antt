@@ -1,19 +1,18 @@
 -- Weights that are filled from bounds meet the conditions of bounds.
-use Rattle.std.proofs.Common.{ℕ, ◌+◌, ◌-◌, ◌*◌, ◌<◌, ◌≤◌, ◌≡◌, Bool, true, false, cond, List, [], length, map, replicate, ℤ, pos, neg_ℤ, ◌+ℤ◌, ◌*ℤ◌, ◌≤ℤ◌, refl, arith, ap, sym, ◌∙◌, subst}
+use Rattle.std.proofs.Common.{ℕ, ◌-◌, ◌*◌, ◌<◌, ◌≤◌, ◌≡◌, Bool, true, false, cond, List, [], length, map, replicate, ℤ, pos, neg_ℤ, ◌*ℤ◌, ◌≤ℤ◌, arith, ap, sym, ◌∙◌, subst}
 use Rattle.std.proofs.lemmas.Int.{ints}
 use Rattle.std.proofs.lemmas.List.{length-map, get_or-map, length-replicate}
 use Rattle.std.proofs.Math.IntN.{*ℤ_comm}
-use Rattle.ice_defs.specs.declared.Mark.TheVariants.{Free}
 use Rattle.ice_defs.specs.Tree.{Tree}
 use Rattle.ice_defs.specs.Set.{has, Weights, weight_of}
-use Rattle.ice_defs.specs.Trade.{Assignment, tree_of, set_of, weights_of}
+use Rattle.ice_defs.specs.Trade.{Assignment, tree_of, set_of}
 use Rattle.ice_defs.specs.Bounds.{Bounds, bounds_of}
 use Rattle.ice_defs.specs.Lawful.{AreBounds}
 use Rattle.ice_defs.specs.Weighing.{weighted, weighted_list, perturbed_list, lower_weights, weighted_weights, perturbed_weights}
 use Rattle.ice_tree.proofs.Filling.{length-weighted_list, get_or-weighted_list, length-perturbed_list, get_or-perturbed_list, weights_of-lower, weights_of-weighted, weights_of-perturbed, length-lower, length-weighted, length-perturbed}
 use Rattle.ice_tree.specs.Alike.{AreAlike}
-use Rattle.ice_bound.specs.Conditions.{AreModest, AreWeightsOf, AreFixingsOf, AreBoundsOf}
-use Rattle.ice_bound.proofs.Products.{times-low, times-high}
+use Rattle.ice_bound.specs.Conditions.{AreModest, AreWeightsOf, AreBoundsOf}
+use Rattle.ice_defs.proofs.Products.{times-low, times-high}
 
 -- weights of 0 for the trees are alike with their bounds
 pub zeros_alike : (ts : List Tree) (bounds : List Bounds) → AreBoundsOf ts bounds → AreAlike (map (λ t. replicate (length t) (pos 0)) ts) bounds

@@ -1,17 +1,16 @@
 -- The net of a set is its value at the net weights.
-use Rattle.std.proofs.Common.{ℕ, zero, suc, ◌*◌, ◌^◌, ◌<◌, ◌≤◌, ◌≡◌, Bool, true, false, cond, length, get_or, ℤ, pos, ◌+ℤ◌, ◌-ℤ◌, ◌*ℤ◌, neg_ℤ, ◌≤ℤ◌, refl, arith, ap, sym, ◌∙◌, subst}
+use Rattle.std.proofs.Common.{ℕ, zero, suc, ◌*◌, ◌^◌, ◌<◌, ◌≤◌, ◌≡◌, Bool, true, false, cond, length, ℤ, pos, ◌+ℤ◌, ◌-ℤ◌, ◌*ℤ◌, neg_ℤ, ◌≤ℤ◌, refl, arith, ap, sym, ◌∙◌, subst}
 use Rattle.std.proofs.lemmas.Int.{ints}
-use Rattle.std.proofs.Math.IntN.{*ℤ-zero}
 use Rattle.ice_defs.specs.Sum.{sum_below}
 use Rattle.ice_defs.specs.Tree.{Tree, kind_of}
-use Rattle.ice_defs.specs.Set.{NodeSet, has, Weights, weight_of, AllSmall, IsSmall, value, leaf_units, units}
+use Rattle.ice_defs.specs.Set.{NodeSet, has, Weights, weight_of, AllSmall, IsSmall, value, leaf_units}
 use Rattle.ice_defs.specs.Fixing.{Fixing}
 use Rattle.ice_defs.specs.Greatest.{IsGreatest}
 use Rattle.ice_defs.specs.Bound.{Multipliers, cost, net, IsOpen}
 use Rattle.ice_defs.proofs.Sums.{sum_below-same, sum_below-add, sum_below-swap}
 use Rattle.ice_bound.specs.Multipliers.{multiplier_of}
 use Rattle.ice_bound.specs.Net.{node_cost, AreNetWeights}
-use Rattle.ice_bound.proofs.Products.{sum_below-times}
+use Rattle.ice_defs.proofs.Products.{sum_below-times}
 use Rattle.ice_bound.proofs.Costs.{costs-inside}
 
 -- the cost of a set is that of its nodes

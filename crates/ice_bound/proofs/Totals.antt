@@ -1,5 +1,5 @@
 -- The sum of the bidders' greatest nets, one bidder after another.
-use Rattle.std.proofs.Common.{ℕ, zero, suc, ◌+◌, ◌^◌, neg_ℤ, ◌*ℤ◌, ◌≤ℤ◌, ◌<ℤ◌, ◌<◌, ◌≤◌, ◌≡◌, ◌≢◌, Bool, true, false, cond, eqb, List, length, ℤ, pos, ◌+ℤ◌, refl, arith, ap, sym, ◌∙◌, subst, below_more}
+use Rattle.std.proofs.Common.{ℕ, ◌+◌, ◌^◌, neg_ℤ, ◌*ℤ◌, ◌≤ℤ◌, ◌<ℤ◌, ◌<◌, ◌≤◌, ◌≡◌, ◌≢◌, cond, eqb, List, length, ℤ, pos, ◌+ℤ◌, refl, arith, ap, sym, ◌∙◌, subst, below_more}
 use Rattle.std.proofs.lemmas.Int.{ints}
 use Rattle.std.proofs.lemmas.Bool.{eq-eqb, ne_eqb}
 use mir.Syntax.{w128}

@@ -1,6 +1,6 @@
 -- Bytes have one answer, and it is the one that the progress of their records ends with.
-use Rattle.std.proofs.Common.{◌≡◌, ℕ, ℤ, List, [], ◌∷◌, refl, sym, ◌∙◌, ap, subst}
-use Rattle.std.specs.Prelude.{◌≢◌, Option, Some, None, Result, Ok, Err}
+use Rattle.std.proofs.Common.{◌≡◌, ℕ, ℤ, List, refl, sym, ◌∙◌, ap, subst}
+use Rattle.std.specs.Prelude.{Option, Some, None, Result, Ok, Err}
 use Rattle.ice_defs.specs.Trade.{total_value}
 use Rattle.ice_defs.specs.Weighing.{lower_weights}
 use Rattle.ice_defs.specs.Bounds.{Bounds}
@@ -16,11 +16,11 @@ use Rattle.ice_check.specs.declared.answer.CheckEnd.{CheckEnd}
 use Rattle.ice_check.specs.declared.answer.CheckEnd.TheVariants.{Grammar, Unended, OtherKind, NoMemory}
 use Rattle.ice_check.specs.declared.rule.Rule.{Rule}
 use Rattle.ice_check.specs.declared.rule.Rule.TheVariants as rule
-use Rattle.ice_check.specs.State.{done, State}
+use Rattle.ice_check.specs.State.{State}
 use Rattle.ice_check.specs.Checks.{Failure, IsChecked, FirstFailure}
-use Rattle.ice_check.specs.Progress.{Progress, nothing, other_kind, passing, failed, out_of_memory, Leads}
+use Rattle.ice_check.specs.Progress.{nothing, other_kind, passing, failed, out_of_memory, Leads}
 use Rattle.ice_check.specs.Theorems.{of_assigned, IsYes, assigned_at}
-use Rattle.ice_check.specs.Answers.{OfJournal, AnswersJournal, AnswersBytes, EndsWith, EndIsAnswer, OneAnswer}
+use Rattle.ice_check.specs.Answers.{AnswersJournal, AnswersBytes, EndsWith, EndIsAnswer, OneAnswer}
 use Rattle.ice_check.proofs.Single.{same_failure}
 use Rattle.ice_check.proofs.Leading.{finds}
 use Rattle.ice_check.proofs.Said.{value_said, value_of_assigned}

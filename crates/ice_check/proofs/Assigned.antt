@@ -1,6 +1,6 @@
 -- An assign journal that passes each test states a lawful exchange and a feasible assignment of it.
 use Rattle.std.proofs.Common.{◌≡◌, Bool, true, false, cond, List, [], ◌∷◌, ◌++◌, map, refl, sym, ◌∙◌, ap, subst}
-use Rattle.std.specs.Prelude.{Option, Some, None, IsTrue, Ok}
+use Rattle.std.specs.Prelude.{None}
 use Rattle.std.specs.List.{AllByRecursion}
 use Rattle.std.proofs.lemmas.List.{append_assoc, append-nil}
 use Rattle.std.proofs.lemmas.Bool.{false≢true}
@@ -9,15 +9,13 @@ use Rattle.ice_journal.specs.Records.{Record, Version, version_1, version_2, Kin
 use Rattle.ice_journal.specs.Records as line
 use Rattle.ice_journal.specs.Ranges.{IsRecord}
 use Rattle.ice_journal.specs.Plain.{plain}
-use Rattle.ice_section.specs.Section.{exchange_in}
-use Rattle.ice_section.specs.Described.{section_records}
 use Rattle.ice_section.specs.Laws.{SectionIsLawful, SectionRecords}
 use Rattle.ice_section.proofs.Whole.{section_is_lawful, section_records_are}
-use Rattle.ice_check.specs.State.{Place, done, State, begun, exchange_at}
-use Rattle.ice_check.specs.Checks.{is_checked, Tested, passes, is_short, list_fails, fails, goes_on, Checks}
-use Rattle.ice_check.specs.Theorems.{HasKind, Says, IsRightAssigned, assigned_at, AreAssigned, DoneIsAssigned, ChecksGiveAssigned}
+use Rattle.ice_check.specs.State.{Place, done, State, begun}
+use Rattle.ice_check.specs.Checks.{is_checked, Tested, passes, goes_on}
+use Rattle.ice_check.specs.Theorems.{Says, IsRightAssigned, assigned_at, AreAssigned, DoneIsAssigned, ChecksGiveAssigned}
 use Rattle.ice_check.specs.Written.{assigned_records}
-use Rattle.ice_check.specs.Progress.{Progress, nothing, other_kind, passing, failed, TakesOn, passes_on, fails_at, list_fails_at, after_head, Leads, stays, goes}
+use Rattle.ice_check.specs.Progress.{Progress, nothing, other_kind, passing, passes_on, fails_at, list_fails_at, after_head, Leads, stays, goes}
 use Rattle.ice_check.proofs.Leading.{failed_passes, other_passes}
 use Rattle.ice_check.proofs.Assigning.{IsAt, IsStanding, standing_more}
 

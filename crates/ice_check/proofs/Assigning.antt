@@ -1,7 +1,7 @@
 -- What the records of an assign journal say so far, where each test of them passes.
-use Rattle.std.proofs.Common.{◌≡◌, ◌<◌, ◌≤◌, ℕ, suc, Bool, true, false, cond, eqb, ltb, List, [], ◌∷◌, ◌++◌, length, map, get_or, pos, refl, sym, ◌∙◌, ap, subst, arith, ◌⊎◌, inl, inr, length-append}
-use Rattle.std.specs.Prelude.{Option, Some, None, option_map, Result, Ok, Err, IsTrue, IsSomeAnd}
-use Rattle.std.proofs.lemmas.Bool.{and_parts, ltb-true, cases_lt, cases_eq, eqb-true, eqb-false, true≢false, false_from_ne_true}
+use Rattle.std.proofs.Common.{◌≡◌, ◌<◌, ◌≤◌, ℕ, suc, Bool, true, false, cond, eqb, List, [], ◌∷◌, ◌++◌, length, map, pos, refl, sym, ◌∙◌, ap, subst, arith, ◌⊎◌, inl, inr, length-append}
+use Rattle.std.specs.Prelude.{Some, None, option_map, Result, Ok, Err, IsTrue, IsSomeAnd}
+use Rattle.std.proofs.lemmas.Bool.{and_parts, ltb-true, cases_lt, cases_eq, eqb-true, eqb-false}
 use Rattle.std.proofs.lemmas.Option.{none-some}
 use Rattle.std.proofs.lemmas.List.{length-map, map-append, append_assoc, get_or_append_left, get_or_at}
 use Rattle.ice_defs.specs.declared.SatRule.{SatRule}
@@ -9,19 +9,18 @@ use Rattle.ice_defs.specs.declared.SatRule.TheVariants.{Parent, Few, Many}
 use Rattle.ice_defs.specs.Tree.{Tree}
 use Rattle.ice_defs.specs.Set.{NodeSet, IsSatisfied}
 use Rattle.ice_defs.specs.Trade.{Assignment, tree_of, set_of, IsFeasible, is_exact, IsCovered, total_units}
-use Rattle.ice_defs.specs.Group.{Group, assign_group, final_group, rival_group, provisional_group, without_group}
+use Rattle.ice_defs.specs.Group.{assign_group}
 use Rattle.ice_defs.specs.Bounds.{Bounds}
 use Rattle.ice_defs.specs.Exchange.{Bidder, opening_bounds}
 use Rattle.ice_defs.specs.SetFault.{set_fault}
-use Rattle.ice_journal.specs.Records.{Record, Kind, assign_kind, EndWord, assign_end}
+use Rattle.ice_journal.specs.Records.{Record, assign_kind, assign_end}
 use Rattle.ice_journal.specs.Records as line
 use Rattle.ice_section.specs.Section.{Section, SectionFault, order, count, no_good, maker, no_section, take_record, may_end, exchange_in}
 use Rattle.ice_section.specs.Taking.{unless_fault, take_records}
 use Rattle.ice_check.specs.declared.rule.Rule.{Rule}
 use Rattle.ice_check.specs.declared.rule.Rule.TheVariants as rule
-use Rattle.ice_check.specs.Fields.{is_assign, is_end, set_in}
-use Rattle.ice_check.specs.State.{Stated, Place, at_section, at_sets, at_end, done, State, exchange_at, trees_at, exact_at, goods_at}
-use Rattle.ice_check.specs.Next.{go_to, next, next_at, from_section, after_section, section_ended, with_set, bidder_count, after_sets, to_line}
+use Rattle.ice_check.specs.State.{Stated, Place, at_section, at_sets, at_end, done, State, trees_at, exact_at, goods_at}
+use Rattle.ice_check.specs.Next.{go_to, next, from_section, after_section, section_ended, with_set, bidder_count, after_sets, to_line}
 use Rattle.ice_check.specs.Tests.{Fails, is_refusal, Complete}
 use Rattle.ice_check.proofs.Faultless.{satisfied_without_fault, no_fault, covered}
 

@@ -1,9 +1,9 @@
 -- How many records a section has.
-use Rattle.std.proofs.Common.{◌≡◌, ◌<◌, ◌≤◌, ◌+◌, ℕ, zero, suc, Bool, true, false, not, cond, ltb, leb, eqb, ◌&&◌, ◌||◌, List, [], ◌∷◌, ◌++◌, length, ℤ, refl, sym, ◌∙◌, ap, subst, arith, lit≤, length-append}
+use Rattle.std.proofs.Common.{◌≡◌, ◌<◌, ◌≤◌, ◌+◌, ℕ, suc, Bool, true, false, not, cond, ltb, leb, eqb, ◌&&◌, ◌||◌, List, [], ◌∷◌, ◌++◌, length, ℤ, refl, sym, ap, subst, arith, lit≤, length-append}
 use Rattle.std.specs.Prelude.{Option, Some, None, is_some, is_none, int_lt, Result, Ok, Err}
 use Rattle.std.specs.List.{list_any}
 use Rattle.std.specs.Str.{bytes_eq}
-use Rattle.std.proofs.lemmas.Bool.{true≢false, false≢true, eqb-false, leb-false, ltb-false, or_parts}
+use Rattle.std.proofs.lemmas.Bool.{true≢false, eqb-false, leb-false, ltb-false, or_parts}
 use Rattle.std.proofs.lemmas.Option.{none-some}
 use Rattle.std.proofs.lemmas.List.Sums.{sum_by_push}
 use Rattle.ice_defs.specs.declared.NodeKind.{NodeKind}
@@ -14,7 +14,7 @@ use Rattle.ice_defs.specs.Name.{is_name}
 use Rattle.ice_defs.specs.Bounds.{no_bounds}
 use Rattle.ice_journal.specs.Records.{Record}
 use Rattle.ice_journal.specs.Records as line
-use Rattle.ice_section.specs.Section.{Section, SectionFault, OpenNode, Draft, order, count, no_good, maker, take_record, take_settings, take_good, take_bidder, take_node, take_node_at, take_node_of, unless_refused, unless_unmade, go_on, add_bidder, with_node, parent_under, open_after, names_no_good}
+use Rattle.ice_section.specs.Section.{Section, SectionFault, OpenNode, Draft, order, count, no_good, take_record, take_good, take_bidder, take_node_at, take_node_of, unless_refused, unless_unmade, go_on, add_bidder, with_node, parent_under, open_after, names_no_good}
 use Rattle.ice_check.specs.Assigning.{draft_count, described_count, IsBounded}
 
 -- one more record, within the bounds

@@ -1,14 +1,14 @@
 -- Where the progress of the tests leads: to the first failed test of the records, or to none.
-use Rattle.std.proofs.Common.{◌≡◌, Bool, true, false, cond, List, [], ◌∷◌, ◌++◌, refl, sym, ◌∙◌, ap, subst}
+use Rattle.std.proofs.Common.{◌≡◌, Bool, true, false, cond, List, [], ◌∷◌, ◌++◌, refl, sym, ◌∙◌, subst}
 use Rattle.std.proofs.lemmas.Bool.{true≢false}
 use Rattle.std.proofs.lemmas.List.{append-nil}
 use Rattle.std.specs.Prelude.{◌≢◌, ◌-◌, Option, Some, None}
 use Rattle.ice_journal.specs.Records.{Record, Version, Kind}
 use Rattle.ice_journal.specs.Records as line
 use Rattle.ice_check.specs.declared.rule.Rule.TheVariants as rule
-use Rattle.ice_check.specs.State.{done, State, begun}
-use Rattle.ice_check.specs.Checks.{Failure, Tested, passes, is_short, list_fails, fails, goes_on, is_checked, IsChecked, FirstFailure}
-use Rattle.ice_check.specs.Progress.{Progress, nothing, other_kind, passing, failed, out_of_memory, TakesOn, passes_on, fails_at, list_fails_at, IsAfter, Leads, stays, goes, Finds, after_head}
+use Rattle.ice_check.specs.State.{State, begun}
+use Rattle.ice_check.specs.Checks.{Failure, Tested, passes, is_short, list_fails, fails, goes_on, is_checked, IsChecked}
+use Rattle.ice_check.specs.Progress.{Progress, nothing, other_kind, passing, failed, out_of_memory, passes_on, fails_at, list_fails_at, IsAfter, Leads, stays, goes, Finds, after_head}
 
 -- one more record
 pub leads_more : (p q end : Progress) (records : List Record) (r : Record) → Leads p records q → IsAfter q r end → Leads p (records ++ r ∷ []) end

@@ -1,7 +1,7 @@
 -- What a record makes of the tests at each place of an assign journal.
-use Rattle.std.proofs.Common.{◌≡◌, ◌≢◌, ◌<◌, ◌≤◌, ℕ, suc, Bool, true, false, cond, eqb, List, [], ◌∷◌, ◌++◌, length, ℤ, pos, refl, sym, ◌∙◌, ap, subst, arith, ◌⊎◌, inl, inr}
+use Rattle.std.proofs.Common.{◌≡◌, ◌≢◌, ◌<◌, ◌≤◌, ℕ, suc, Bool, true, false, cond, eqb, [], ◌∷◌, ◌++◌, length, pos, refl, sym, ◌∙◌, ap, subst, arith, ◌⊎◌, inl, inr}
 use Rattle.std.specs.Prelude.{◌||◌, ◌&&◌, is_none, nat_lt, ◌+◌, Option, Some, None, is_some, option_map, Result, Ok, Err, IsTrue, IsSome, IsSomeAnd}
-use Rattle.std.proofs.lemmas.Bool.{and_parts, ltb-true, eqb-true, eqb-false, eq-eqb, ne_eqb, true≢false, false≢true}
+use Rattle.std.proofs.lemmas.Bool.{and_parts, ltb-true, eqb-true, eq-eqb, ne_eqb, true≢false, false≢true}
 use Rattle.std.proofs.lemmas.Option.{none-some}
 use Rattle.ice_defs.specs.declared.SatRule.{SatRule}
 use Rattle.ice_defs.specs.declared.SatRule.TheVariants.{Parent, Few, Many}
@@ -15,14 +15,13 @@ use Rattle.ice_journal.specs.Records as line
 use Rattle.ice_section.specs.Section.{Section, SectionFault, order, count, no_good, maker, take_record, may_end, exchange_in, settings_in, Draft}
 use Rattle.ice_check.specs.declared.rule.Rule.{Rule}
 use Rattle.ice_check.specs.declared.rule.Rule.TheVariants as rule
-use Rattle.ice_check.specs.State.{Place, at_section, at_sets, at_end, done, State, weights_at}
+use Rattle.ice_check.specs.State.{at_sets, at_end, done, State, weights_at}
 use Rattle.ice_check.specs.Fields.{set_in, is_assign, is_end, is_spent, is_limit, is_round_stop}
 use Rattle.ice_check.specs.Next.{next, to_line, after_sets, go_to, from_section, section_ended, if_true}
-use Rattle.ice_check.specs.Tests.{Fails, FailsFirst, place_of, is_refusal, Complete, is_valued, ended_list}
-use Rattle.ice_check.specs.Checks.{Failure}
-use Rattle.ice_check.specs.Progress.{Progress, passing, failed, TakesOn, passes_on, fails_at, list_fails_at}
+use Rattle.ice_check.specs.Tests.{Fails, place_of, is_refusal, Complete, is_valued, ended_list}
+use Rattle.ice_check.specs.Progress.{passing, failed, TakesOn, passes_on, fails_at}
 use Rattle.ice_check.proofs.Single.{some_same}
-use Rattle.ice_check.specs.Assigning.{describing, section_of, described, stating, stated, rule_of, AreBalanced, AreShort, IsBounded, draft_count}
+use Rattle.ice_check.specs.Assigning.{describing, section_of, stating, stated, rule_of, AreBalanced, AreShort, IsBounded, draft_count}
 
 -- ---- a set
 

@@ -1,6 +1,6 @@
 -- What the stages of the checker make of a record.
-use Rattle.std.proofs.Common.{◌≡◌, ◌≢◌, ◌<◌, ◌≤◌, ◌+◌, ℕ, suc, Bool, true, false, cond, List, [], ◌∷◌, ◌++◌, length, map, get_or, take, set, replicate, refl, sym, ◌∙◌, ap, subst, arith, ◌⊎◌, inl, inr}
-use Rattle.std.specs.Prelude.{◌&&◌, is_some, Option, Some, None, Result, Ok, Err}
+use Rattle.std.proofs.Common.{◌≡◌, ◌<◌, ◌≤◌, ◌+◌, ℕ, suc, Bool, true, false, cond, [], ◌∷◌, ◌++◌, length, map, take, set, replicate, refl, sym, ◌∙◌, ap, subst, arith, ◌⊎◌, inl, inr}
+use Rattle.std.specs.Prelude.{◌&&◌, is_some, Some, None}
 use Rattle.std.proofs.lemmas.Bool.{cases_order}
 use Rattle.std.proofs.lemmas.Option.{none-some}
 use Rattle.std.proofs.lemmas.List.{get_or-set_other, get_or-set_same, get_or-map, length-set, length-map, length-replicate, length-take-le}
@@ -13,7 +13,7 @@ use Rattle.ice_defs.specs.Trade.{Assignment, tree_of, set_of}
 use Rattle.ice_defs.specs.Exchange.{Exchange, trees_of}
 use Rattle.ice_journal.specs.Records.{Record}
 use Rattle.ice_journal.specs.Records as line
-use Rattle.ice_section.specs.Section.{Section, order, take_record, may_end}
+use Rattle.ice_section.specs.Section.{Section, take_record, may_end}
 use Rattle.ice_section.specs.Refusal.{IsRefusal}
 use Rattle.ice_section.specs.declared.faults.SectionFault.{SectionFault}
 use Rattle.ice_section.specs.declared.faults.SectionFault.TheVariants as fault
@@ -23,7 +23,7 @@ use Rattle.ice_check.specs.declared.stage.Stage.{Stage}
 use Rattle.ice_check.specs.declared.stage.Stage.TheVariants as stage
 use Rattle.ice_check.specs.Fields.{is_assign}
 use Rattle.ice_check.specs.Tests.{is_refusal}
-use Rattle.ice_check.specs.Progress.{Progress, passing, failed, TakesOn}
+use Rattle.ice_check.specs.Progress.{failed, TakesOn}
 use Rattle.ice_check.specs.Assigning.{describing, stating, stated, Stating, rule_of, AreStated, IsBounded, described_count}
 use Rattle.ice_check.specs.Stages.{progress_of, IsWithin, IsBroken, IsClosed, section_rule}
 use Rattle.ice_check.proofs.Places.{section_refused, section_misplaced, set_miscounted, set_unsatisfied, sets_short, sets_balanced}

@@ -1,13 +1,12 @@
 -- The records that are read so far, and where the tests of them have come.
-use Rattle.std.proofs.Common.{◌≡◌, ◌<◌, ◌≤◌, ◌+◌, ℕ, List, [], ◌∷◌, ◌++◌, length, Contains, refl, sym, ◌∙◌, ap, subst, arith, length-append, append_assoc}
-use Rattle.std.specs.Prelude.{Result, Ok, Err}
+use Rattle.std.proofs.Common.{◌≡◌, ◌<◌, ◌≤◌, ◌+◌, ℕ, List, [], ◌∷◌, ◌++◌, length, Contains, refl, sym, ◌∙◌, ap, arith, length-append, append_assoc}
 use Rattle.std.specs.List.{AllByRecursion}
 use Rattle.std.proofs.lemmas.List.{append-nil}
 use Rattle.std.proofs.lemmas.Grind.{flat_map-append}
 use Rattle.ice_journal.specs.Records.{Record}
 use Rattle.ice_journal.specs.Ranges.{IsRecord}
 use Rattle.ice_journal.specs.Spelling.{text_of, line_of}
-use Rattle.ice_journal.specs.Journal.{bytes_of, IsJournal, IsNoRecord, ComesTo, grammar, unended, IsLinesFault}
+use Rattle.ice_journal.specs.Journal.{bytes_of, IsJournal, IsNoRecord, grammar, unended, IsLinesFault}
 use Rattle.ice_check.specs.Progress.{Progress, nothing, IsAfter, Leads, stays}
 use Rattle.ice_check.proofs.Leading.{leads_more}
 

@@ -1,10 +1,9 @@
 -- The value that an assign journal says is a function of its records.
-use Rattle.std.proofs.Common.{◌≡◌, ◌≤◌, ℕ, zero, suc, Bool, true, false, List, [], ◌∷◌, ◌++◌, length, map, get_or, take, ℤ, pos, refl, sym, ◌∙◌, ap, arith}
+use Rattle.std.proofs.Common.{◌≡◌, ◌≤◌, ℕ, zero, suc, Bool, true, false, List, [], ◌∷◌, ◌++◌, length, map, take, ℤ, pos, refl, sym, ◌∙◌, ap, arith}
 use Rattle.std.specs.Prelude.{if◌then◌else◌}
-use Rattle.std.specs.List.{AllByRecursion, filter_map, flat_map}
+use Rattle.std.specs.List.{AllByRecursion, flat_map}
 use Rattle.std.proofs.lemmas.List.{map-append, append_assoc, append-nil}
 use Rattle.std.proofs.Math.Seq.{take-suc, take-length}
-use Rattle.std.proofs.lemmas.List.Elements.{filter_map-append}
 use Rattle.ice_defs.specs.declared.NodeKind.{NodeKind}
 use Rattle.ice_defs.specs.declared.NodeKind.TheVariants.{Choose, Buy, Sell}
 use Rattle.ice_defs.specs.Sum.{numbers_below}
@@ -12,15 +11,13 @@ use Rattle.ice_defs.specs.Tree.{kind_of, children_of}
 use Rattle.ice_defs.specs.Set.{Weights, weight_of}
 use Rattle.ice_defs.specs.Trade.{Assignment, total_value}
 use Rattle.ice_defs.specs.Weighing.{lower_weights}
-use Rattle.ice_defs.specs.Exchange.{Good, Bidder, Exchange, opening_bounds}
+use Rattle.ice_defs.specs.Exchange.{Good, Bidder, opening_bounds}
 use Rattle.ice_defs.specs.Lawful.{IsBidder}
 use Rattle.ice_defs.specs.Session.{Assigned}
 use Rattle.ice_journal.specs.Records.{Record, assign_end}
 use Rattle.ice_journal.specs.Records as line
-use Rattle.ice_journal.specs.Plain.{plain}
 use Rattle.ice_section.specs.Section.{good_record, node_record}
-use Rattle.ice_section.specs.Described.{bidder_records, section_records}
-use Rattle.ice_check.specs.Fields.{set_in}
+use Rattle.ice_section.specs.Described.{bidder_records}
 use Rattle.ice_check.specs.Written.{assigned_records}
 use Rattle.ice_check.specs.Theorems.{IsRightAssigned}
 

@@ -5,7 +5,7 @@ use Rattle.ice_defs.specs.Exchange.{Exchange}
 use Rattle.ice_defs.specs.Sale.{all_sets, satisfied_sets, greatest_sale}
 use Rattle.ice_defs.specs.Steps.{branch, leaf}
 use Rattle.ice_defs.specs.Fraction.{whole}
-use Rattle.ice_journal.specs.Records.{Record, version_1, version_2, assign_kind, session_kind, assign_end, closed_end, open_end}
+use Rattle.ice_journal.specs.Records.{Record, version_1, version_2, assign_kind, session_kind, assign_end, closed_end}
 use Rattle.ice_journal.specs.Records as line
 use Rattle.ice_section.specs.Described.{section_records}
 use Rattle.ice_check.specs.State.{Place, done, State, begun}

@@ -6,12 +6,12 @@ use Rattle.ice_defs.specs.Set.{IsSatisfied}
 use Rattle.ice_defs.specs.Trade.{Assignment, tree_of, set_of, is_exact, IsCovered, total_units}
 use Rattle.ice_defs.specs.Exchange.{Exchange, trees_of, exact_of, opening_bounds}
 use Rattle.ice_defs.specs.Group.{assign_group}
-use Rattle.ice_journal.specs.Records.{version_1, assign_kind, assign_end}
+use Rattle.ice_journal.specs.Records.{version_1, assign_kind}
 use Rattle.ice_defs.specs.Making.{node_count}
 use Rattle.ice_section.specs.Section.{Draft, Section}
 use Rattle.ice_check.specs.declared.rule.Rule.{Rule}
 use Rattle.ice_check.specs.declared.rule.Rule.TheVariants as rule
-use Rattle.ice_check.specs.State.{Place, at_sets, at_end, done, State, begun}
+use Rattle.ice_check.specs.State.{Place, at_sets, State, begun}
 
 -- the records of the section are read, and this line is next
 abbrev pub describing : ℕ → Section → State

@@ -1,10 +1,9 @@
 -- What the stages of the checker stand for.
-use Rattle.std.specs.Prelude.{ℕ, suc, ◌+◌, ◌<◌, ◌≤◌, ◌≡◌, ◌≢◌, length, Option, Some, None}
+use Rattle.std.specs.Prelude.{ℕ, ◌+◌, ◌<◌, ◌≤◌, ◌≡◌, ◌≢◌, length, Option, Some, None}
 use Rattle.ice_defs.specs.declared.SatRule.{SatRule}
 use Rattle.ice_defs.specs.Tree.{Tree}
 use Rattle.ice_defs.specs.Set.{NodeSet, IsSatisfied}
 use Rattle.ice_defs.specs.SetFault.{set_fault}
-use Rattle.ice_defs.specs.Trade.{Assignment}
 use Rattle.ice_defs.specs.Exchange.{Exchange, trees_of}
 use Rattle.ice_journal.specs.Records.{assign_end}
 use Rattle.ice_check.specs.declared.stage.Stage.{Stage}

@@ -9,7 +9,7 @@ use Rattle.ice_defs.specs.Lawful.{IsExchange}
 use Rattle.ice_defs.specs.Session.{Assigned, Regretted, Session}
 use Rattle.ice_defs.specs.Right.{IsSettled, IsRight}
 use Rattle.ice_defs.specs.Headline.{Headline}
-use Rattle.ice_journal.specs.Records.{Record, Kind, assign_kind, regret_kind, session_kind}
+use Rattle.ice_journal.specs.Records.{Record, Kind, assign_kind}
 use Rattle.ice_journal.specs.Records as line
 use Rattle.ice_journal.specs.Ranges.{IsRecord}
 use Rattle.ice_journal.specs.Plain.{plain}

@@ -1,3 +1,4 @@
+pub mod Products
 pub mod Sums
 mod Worked
 mod WorkedBound

@@ -1,11 +1,10 @@
 -- A journal of version 1 comes back from version 2.
-use Rattle.std.proofs.Common.{◌≡◌, ℕ, zero, suc, ◌+◌, ◌<◌, ◌≤◌, Bool, true, false, ◌&&◌, cond, List, [], ◌∷◌, ◌++◌, length, set, replicate, ℤ, pos, ◌≤ℤ◌, refl, sym, ap, subst, ◌∙◌, arith, append_assoc, length-append}
+use Rattle.std.proofs.Common.{◌≡◌, ℕ, zero, suc, ◌+◌, Bool, true, false, ◌&&◌, cond, List, [], ◌∷◌, ◌++◌, length, set, ℤ, refl, sym, ap, subst, ◌∙◌, arith, append_assoc, length-append}
 use Rattle.std.specs.Prelude.{int_le}
 use Rattle.std.proofs.lemmas.Int.{ints}
-use Rattle.std.proofs.lemmas.List.{append-nil}
 use Rattle.ice_defs.specs.Bound.{Multipliers}
 use Rattle.ice_defs.specs.Steps.{branch, leaf, dead}
-use Rattle.ice_journal.specs.Records.{Kind, version_1, version_2, Change, Record}
+use Rattle.ice_journal.specs.Records.{Kind, version_1, Record}
 use Rattle.ice_journal.specs.Records as line
 use Rattle.ice_journal.specs.Plain.{changed, goods_in, all_zero, plain_records, plain, changes_from, packed_records, packed, AreOfVersion1}
 

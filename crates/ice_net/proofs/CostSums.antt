@@ -10,7 +10,7 @@ use Rattle.ice_defs.specs.Set.{leaf_units}
 use Rattle.ice_defs.specs.Prices.{Prices, price_of}
 use Rattle.ice_defs.proofs.Sums.{sum_below-same, sum_below-zero, sum_below-single, at_other, at_same}
 use Rattle.ice_net.specs.Net.{node_cost}
-use Rattle.ice_net.proofs.Products.{times_neg}
+use Rattle.ice_defs.proofs.Products.{times_neg}
 
 -- units u of one good cost its price times u
 one_good : (p : Prices) (good : ℕ) (u : ℤ) → sum_below (λ g. price_of p g *ℤ cond (eqb good g) u (pos 0)) (length p.nums) ≡ price_of p good *ℤ u

@@ -1,4 +1,3 @@
-pub mod Products
 pub mod CostSums
 pub mod NetSums
 pub mod Modest

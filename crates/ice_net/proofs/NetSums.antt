@@ -13,7 +13,7 @@ use Rattle.ice_defs.specs.Prices.{Prices, price_of, cost_of}
 use Rattle.ice_defs.specs.Rules.{net_at}
 use Rattle.ice_defs.proofs.Sums.{sum_below-same, sum_below-add, sum_below-swap}
 use Rattle.ice_net.specs.Net.{node_cost, AreNetWeights, IsBestNet}
-use Rattle.ice_net.proofs.Products.{sum_below-times}
+use Rattle.ice_defs.proofs.Products.{sum_below-times}
 use Rattle.ice_net.proofs.CostSums.{costs-inside}
 
 -- the cost of a set is that of its nodes

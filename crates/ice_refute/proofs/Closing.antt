@@ -1,9 +1,9 @@
 -- A passing log closes all sides, and each of its steps stands in one.
-use Rattle.std.proofs.Common.{ℕ, suc, ◌+◌, ◌≡◌, Bool, List, [], ◌∷◌, length, Result, Ok, Err, ℤ, refl, arith, ap, sym, ◌∙◌}
-use Rattle.ice_defs.specs.declared.Mark.TheVariants.{Must, Never}
+use Rattle.std.proofs.Common.{◌+◌, ◌≡◌, Bool, List, [], ◌∷◌, length, Ok, ℤ, refl, arith, ◌∙◌}
+use Rattle.ice_defs.specs.declared.Mark.TheVariants.{Never}
 use Rattle.ice_defs.specs.Tree.{Tree}
 use Rattle.ice_defs.specs.Set.{Weights}
-use Rattle.ice_defs.specs.Steps.{Step, branch, leaf, dead, Side, with_mark, sides_after, placed}
+use Rattle.ice_defs.specs.Steps.{Step, Side, with_mark, placed}
 use Rattle.ice_defs.specs.Log.{Reads, branches, is_dead_leaf, closes, is_dead}
 use Rattle.ice_refute.specs.Laws.{open_after, LogCloses}
 

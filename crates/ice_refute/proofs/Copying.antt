@@ -1,13 +1,11 @@
 -- Fixings with the same numbers of nodes, and copies of them.
-use Rattle.std.proofs.Common.{ℕ, zero, suc, ◌+◌, ◌<◌, ◌≡◌, ◌≢◌, List, [], ◌∷◌, length, map, replicate, get_or, set, refl, arith, ap, sym, ◌∙◌, ◌⊎◌, inl, inr, subst, below_more, get_or-set_same, get_or-set_other}
+use Rattle.std.proofs.Common.{ℕ, zero, suc, ◌+◌, ◌<◌, ◌≡◌, ◌≢◌, List, [], ◌∷◌, length, map, replicate, get_or, set, refl, arith, ap, sym, ◌∙◌, ◌⊎◌, inl, inr, below_more, get_or-set_same, get_or-set_other}
 use Rattle.std.proofs.lemmas.Bool.{cases_eq}
 use Rattle.std.proofs.lemmas.List.{ext_get_or, length-map, length-set, length-replicate}
-use Rattle.ice_defs.specs.declared.Mark.{Mark}
 use Rattle.ice_defs.specs.declared.Mark.TheVariants.{Free}
 use Rattle.ice_defs.specs.Tree.{Tree}
 use Rattle.ice_defs.specs.Fixing.{Fixing, mark_of}
 use Rattle.ice_defs.specs.Trade.{fixing_of}
-use Rattle.ice_defs.specs.Steps.{Step, branch, leaf, dead, Side}
 use Rattle.ice_bound.specs.Conditions.{AreFixingsOf}
 use Rattle.ice_refute.specs.Waiting.{nodes_of}
 

@@ -1,12 +1,11 @@
 -- A passing log over n free nodes has fewer than 2^n branch steps.
-use Rattle.std.proofs.Common.{ℕ, zero, suc, ◌+◌, ◌*◌, ◌^◌, ◌<◌, ◌≤◌, ◌≡◌, Bool, List, [], ◌∷◌, length, Result, Ok, Err, ℤ, refl, arith, ap, sym, ◌∙◌, subst}
+use Rattle.std.proofs.Common.{ℕ, zero, suc, ◌+◌, ◌*◌, ◌^◌, ◌<◌, ◌≤◌, ◌≡◌, Bool, List, length, Ok, ℤ, refl, arith, ap, ◌∙◌}
 use Rattle.ice_defs.specs.declared.Mark.{Mark}
-use Rattle.ice_defs.specs.declared.Mark.TheVariants.{Free, Must, Never}
+use Rattle.ice_defs.specs.declared.Mark.TheVariants.{Must, Never}
 use Rattle.ice_defs.specs.Tree.{Tree}
 use Rattle.ice_defs.specs.Set.{Weights}
-use Rattle.ice_defs.specs.Fixing.{mark_of}
 use Rattle.ice_defs.specs.Trade.{fixing_of}
-use Rattle.ice_defs.specs.Steps.{Step, branch, leaf, dead, Side, with_mark, branch_count}
+use Rattle.ice_defs.specs.Steps.{Step, branch, Side, with_mark, branch_count}
 use Rattle.ice_defs.specs.Log.{IsFreeNode, Reads, branches, is_dead_leaf, closes, is_dead}
 use Rattle.ice_bound.specs.Conditions.{AreFixingsOf}
 use Rattle.ice_bound.proofs.Fixings.{marked_fixings}

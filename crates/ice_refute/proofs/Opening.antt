@@ -1,12 +1,12 @@
 -- Steps at the first open side of a walk.
-use Rattle.std.proofs.Common.{ℕ, ◌+◌, ◌<◌, ◌≡◌, Bool, true, false, cond, List, [], ◌∷◌, length, reverse, ℤ, refl, arith, ap, sym, ◌∙◌, subst}
+use Rattle.std.proofs.Common.{ℕ, ◌<◌, ◌≡◌, Bool, true, false, List, length, ℤ, refl, arith, ap}
 use Rattle.ice_defs.specs.Tree.{Tree}
 use Rattle.ice_defs.specs.Set.{Weights}
 use Rattle.ice_defs.specs.Steps.{Step, branch, leaf, dead, Side}
 use Rattle.ice_bound.specs.Conditions.{AreFixingsOf}
 use Rattle.ice_refute.specs.Moving.{CanBranch}
 use Rattle.ice_refute.specs.Passing.{PassesAt}
-use Rattle.ice_refute.specs.Waiting.{open_sides, waiting, first_side}
+use Rattle.ice_refute.specs.Waiting.{open_sides, first_side}
 
 -- a branch that passes is at a node that is there
 pub can_branch : (ts : List Tree) (exact : List Bool) (ws : List Weights) (target : ℤ) (side : Side) (step : Step) → AreFixingsOf ts side → PassesAt ts exact ws target side step → CanBranch side step

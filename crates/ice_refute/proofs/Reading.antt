@@ -1,11 +1,11 @@
 -- Reading the open sides one after another.
-use Rattle.std.proofs.Common.{ℕ, ◌<◌, ◌≡◌, Bool, List, [], ◌∷◌, length, drop, Result, Ok, Err, ℤ, ◌⊎◌, inl, inr, refl, arith, ap, sym, subst, length-drop}
+use Rattle.std.proofs.Common.{ℕ, ◌<◌, ◌≡◌, Bool, List, [], ◌∷◌, length, drop, Result, Ok, Err, ℤ, inl, inr, arith, ap, sym, subst, length-drop}
 use Rattle.ice_defs.specs.declared.Mark.TheVariants.{Must, Never}
 use Rattle.ice_defs.specs.Tree.{Tree}
 use Rattle.ice_defs.specs.Set.{Weights}
-use Rattle.ice_defs.specs.Bound.{Multipliers, IsBound}
+use Rattle.ice_defs.specs.Bound.{Multipliers}
 use Rattle.ice_defs.specs.Steps.{Step, branch, leaf, dead, Side, with_mark, sides_after}
-use Rattle.ice_defs.specs.Log.{HasDead, IsFreeNode, Fault, short, fixed, sign, above, not_dead, Reads, ends, branches, stops, is_fixed, has_sign, is_dead_leaf, closes, is_above, is_dead, is_alive, Passes}
+use Rattle.ice_defs.specs.Log.{IsFreeNode, Fault, short, fixed, sign, above, not_dead, Reads, ends, branches, stops, is_fixed, has_sign, is_dead_leaf, closes, is_above, is_dead, is_alive, Passes}
 use Rattle.ice_refute.specs.declared.fault.LogFault.{LogFault}
 use Rattle.ice_refute.specs.declared.fault.LogFault.TheVariants as faults
 use Rattle.ice_refute.specs.Passing.{PassesAt, HasFault}

@@ -1,5 +1,5 @@
 -- Where reading a side leaves steps, no feasible assignment that meets the side is above the target.
-use Rattle.std.proofs.Common.{ℕ, ◌<◌, ◌≤◌, ◌≡◌, Bool, true, false, List, [], ◌∷◌, length, get_or, set, Result, Ok, Err, ℤ, pos, ◌≤ℤ◌, refl, arith, ap, sym, ◌∙◌, subst, ◌⊎◌, inl, inr, get_or-set_same, get_or-set_other}
+use Rattle.std.proofs.Common.{ℕ, ◌<◌, ◌≤◌, ◌≡◌, Bool, true, false, List, [], length, get_or, set, Ok, ℤ, ◌≤ℤ◌, arith, sym, subst, ◌⊎◌, inl, inr, get_or-set_same, get_or-set_other}
 use Rattle.std.specs.List.{AllByRecursion}
 use Rattle.std.proofs.lemmas.Int.{ints}
 use Rattle.std.proofs.lemmas.Bool.{cases_lt, cases_eq, cases_Bool}
@@ -10,8 +10,8 @@ use Rattle.ice_defs.specs.Tree.{Tree}
 use Rattle.ice_defs.specs.Set.{NodeSet, has, Weights}
 use Rattle.ice_defs.specs.Fixing.{Fixing, Agrees, Meets}
 use Rattle.ice_defs.specs.Trade.{Assignment, set_of, fixing_of, total_value, IsFeasible, MeetsAll}
-use Rattle.ice_defs.specs.Steps.{Step, branch, leaf, dead, Side, with_mark}
-use Rattle.ice_defs.specs.Log.{Fault, Reads, branches, is_dead_leaf, closes, is_dead}
+use Rattle.ice_defs.specs.Steps.{Step, Side, with_mark}
+use Rattle.ice_defs.specs.Log.{Reads, branches, is_dead_leaf, closes, is_dead}
 use Rattle.ice_bound.proofs.Above.{bound-ge, none_dead}
 use Rattle.ice_refute.specs.Code.{CountsGoods}
 use Rattle.ice_refute.specs.Laws.{LogRefutes}

@@ -1,5 +1,5 @@
 -- The loop over the steps of a log.
-use Rattle.std.proofs.Common.{ℕ, suc, ◌+◌, ◌<◌, ◌≤◌, ◌≡◌, Bool, true, false, List, [], ◌∷◌, length, map, get_or, drop, reverse, ℤ, refl, arith, ap, sym, ◌∙◌, subst, drop-cons, length-drop, add-one}
+use Rattle.std.proofs.Common.{ℕ, suc, ◌+◌, ◌<◌, ◌≤◌, ◌≡◌, Bool, true, false, List, [], ◌∷◌, length, get_or, drop, reverse, ℤ, ap, sym, ◌∙◌, subst, drop-cons, add-one}
 use Rattle.std.specs.List.{AllByRecursion}
 use Rattle.std.proofs.lemmas.List.{drop-map, length-map}
 use Rattle.std.proofs.Math.ListN.{drop_of_length-le}

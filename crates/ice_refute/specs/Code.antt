@@ -1,5 +1,5 @@
 -- A step of the code as a step of the definitions.
-use Rattle.std.specs.Prelude.{ℕ, ◌≡◌, Bool, List, length, map}
+use Rattle.std.specs.Prelude.{ℕ, ◌≡◌, List, length, map}
 use Rattle.ice_defs.specs.Steps as steps
 use Rattle.ice_refute.specs.declared.step.Step.{Step}
 use Rattle.ice_refute.specs.declared.step.Step.TheVariants.{Branch, Leaf, Dead}

@@ -1,5 +1,5 @@
 -- The open sides, as they are kept: the marks of the first one, and the branches that led to it, each the number of a bidder and of a node.
-use Rattle.std.specs.Prelude.{ℕ, ◌+◌, ◌<◌, ◌≤◌, ◌≡◌, Bool, true, false, if◌then◌else◌, List, [], ◌∷◌, length, map, reverse, slice_index_or, sum_by}
+use Rattle.std.specs.Prelude.{ℕ, ◌+◌, ◌<◌, ◌≤◌, Bool, true, false, if◌then◌else◌, List, [], ◌∷◌, length, map, reverse, slice_index_or, sum_by}
 use Rattle.ice_defs.specs.declared.Mark.{Mark}
 use Rattle.ice_defs.specs.declared.Mark.TheVariants.{Free, Must, Never}
 use Rattle.ice_defs.specs.Sum.{count_below}

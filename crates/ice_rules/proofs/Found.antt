@@ -1,5 +1,5 @@
 -- Among the satisfied sets of a tree there is a greatest one.
-use Rattle.std.proofs.Common.{ℕ, zero, suc, ◌≡◌, Bool, true, false, IsTrue, List, [], ◌∷◌, length, ℤ, ◌≤ℤ◌, refl, arith, ◌⊎◌, inl, inr}
+use Rattle.std.proofs.Common.{ℕ, zero, suc, ◌≡◌, Bool, true, false, IsTrue, [], ◌∷◌, length, ℤ, ◌≤ℤ◌, refl, arith, ◌⊎◌, inl, inr}
 use Rattle.std.proofs.lemmas.Int.{ints, by_lt_z}
 use Rattle.ice_defs.specs.Tree.{Tree}
 use Rattle.ice_defs.specs.Set.{NodeSet, IsSatisfied}

@@ -8,7 +8,7 @@ use Rattle.ice_defs.specs.Bounds.{Bounds, IsInside}
 use Rattle.ice_defs.specs.Prices.{Prices}
 use Rattle.ice_defs.specs.Rules.{net_at, IsAhead, IsBestThroughout, IsLoss, IsMrpar, GainsMore, Improves}
 use Rattle.ice_net.specs.Net.{IsBestNet}
-use Rattle.ice_net.proofs.Products.{times-le}
+use Rattle.ice_defs.proofs.Products.{times-le}
 use Rattle.ice_rules.specs.Profiles.{AreAgainst, AreInFavour}
 use Rattle.ice_rules.specs.Centre.{IsAsGoodAsAny}
 use Rattle.ice_rules.proofs.Multiples.{times_less, one_time, times-lt, times_cancel}

@@ -1,16 +1,15 @@
 -- A set that is best at the centre of the bounds is as good as any that is best throughout.
-use Rattle.std.proofs.Common.{ℕ, zero, suc, ◌<◌, ◌≤◌, ◌≡◌, Bool, true, false, cond, List, [], ◌∷◌, length, ℤ, pos, ◌+ℤ◌, ◌-ℤ◌, ◌*ℤ◌, ◌≤ℤ◌, refl, arith, ap, sym, ◌∙◌}
+use Rattle.std.proofs.Common.{ℕ, zero, suc, ◌<◌, ◌≤◌, ◌≡◌, Bool, true, false, cond, List, [], ◌∷◌, length, ℤ, pos, ◌+ℤ◌, ◌-ℤ◌, ◌*ℤ◌, ◌≤ℤ◌, refl, arith, ap}
 use Rattle.std.proofs.lemmas.Int.{ints}
 use Rattle.std.proofs.Math.IntN.{*ℤ-zero}
-use Rattle.ice_defs.specs.Sum.{sum_below}
 use Rattle.ice_defs.specs.Tree.{Tree}
-use Rattle.ice_defs.specs.Set.{NodeSet, has, IsSatisfied, Weights, weight_of, value, units}
+use Rattle.ice_defs.specs.Set.{NodeSet, has, Weights, weight_of, value, units}
 use Rattle.ice_defs.specs.Bounds.{Bounds, IsInside}
 use Rattle.ice_defs.specs.Prices.{Prices, cost_of}
-use Rattle.ice_defs.specs.Rules.{net_at, IsBestThroughout}
+use Rattle.ice_defs.specs.Rules.{net_at}
 use Rattle.ice_defs.proofs.Sums.{sum_below-same, sum_below-add}
 use Rattle.ice_net.specs.Net.{IsBestNet}
-use Rattle.ice_net.proofs.Products.{times_add, times-le, sum_below-times}
+use Rattle.ice_defs.proofs.Products.{times_add, times-le, sum_below-times}
 use Rattle.ice_rules.specs.Profiles.{AreCentre}
 use Rattle.ice_rules.specs.Centre.{IsAsGoodAsAny}
 use Rattle.ice_rules.proofs.Multiples.{times_less, times_swap}

@@ -1,6 +1,6 @@
 -- Values that are in range and not crossed are bounds.
-use Rattle.std.proofs.Common.{ℕ, zero, suc, ◌<◌, ◌≡◌, Bool, true, false, List, [], ◌∷◌, length, ℤ, ◌≤ℤ◌, ◌<ℤ◌, IsTrue, refl, arith}
-use Rattle.std.specs.Prelude.{int_lt, ◌==◌, Option, None}
+use Rattle.std.proofs.Common.{ℕ, suc, ◌<◌, ◌≡◌, true, false, List, [], ◌∷◌, length, ℤ, ◌≤ℤ◌, ◌<ℤ◌, IsTrue, refl, arith}
+use Rattle.std.specs.Prelude.{int_lt, ◌==◌, None}
 use Rattle.std.specs.List.{list_all}
 use Rattle.std.proofs.lemmas.Bool.{eq-eqb}
 use Rattle.std.proofs.lemmas.Int.{ints, by_lt_z}

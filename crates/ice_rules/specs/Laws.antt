@@ -1,5 +1,5 @@
 -- A law of verdicts.
-use Rattle.std.specs.Prelude.{ℕ, ◌<◌, ◌≡◌, length, ℤ, pos, ◌≤ℤ◌}
+use Rattle.std.specs.Prelude.{◌<◌, ◌≡◌, length, ℤ, pos, ◌≤ℤ◌}
 use Rattle.ice_defs.specs.declared.Verdict.TheVariants.{Accepted}
 use Rattle.ice_defs.specs.Tree.{Tree, IsTree}
 use Rattle.ice_defs.specs.Set.{NodeSet, IsSatisfied, Weights}

@@ -6,7 +6,7 @@ use Rattle.ice_defs.specs.declared.Node.{Node}
 use Rattle.ice_defs.specs.declared.NodeKind.{NodeKind}
 use Rattle.ice_defs.specs.declared.NodeKind.TheVariants.{Choose, Buy, Sell}
 use Rattle.ice_defs.specs.Tree.{children_of}
-use Rattle.ice_defs.specs.Making.{node_refusal, close_refusal, TreeDraft, innermost, is_complete, draft_refusal}
+use Rattle.ice_defs.specs.Making.{node_refusal, close_refusal, innermost, is_complete, draft_refusal}
 use Rattle.ice_defs.specs.Making as making
 use Rattle.ice_defs.specs.Exchange.{Bidder}
 use Rattle.ice_tree.specs.Making.{Making, IsLeaf, kind_close_refusal, draft_close_refusal}

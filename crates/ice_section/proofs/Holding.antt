@@ -6,7 +6,6 @@ use Rattle.ice_defs.specs.Bounds.{no_bounds}
 use Rattle.ice_defs.specs.Making.{good_refusal}
 use Rattle.ice_defs.specs.Exchange.{Settings, AreSettings, Good, Exchange}
 use Rattle.ice_trade.specs.Parts.{no_exchange, with_good}
-use Rattle.ice_journal.specs.Records.{Record}
 use Rattle.ice_journal.specs.Records as line
 use Rattle.ice_journal.specs.Ranges.{IsName, IsRecord}
 use Rattle.ice_section.specs.Section.{unless_refused, good_record}

@@ -3,7 +3,7 @@ use Rattle.std.specs.Prelude.{ℕ, suc, ◌≡◌, ◌==◌, Bool, true, false, 
 use Rattle.ice_defs.specs.FileFault.{FileFault, at_line}
 use Rattle.ice_defs.specs.Exchange.{Exchange}
 use Rattle.ice_defs.specs.Prices.{Prices}
-use Rattle.ice_journal.specs.Records.{Record, Version, version_1, version_2, Kind, assign_kind, regret_kind, session_kind, exchange_kind, prices_kind, EndWord, assign_end, exchange_end, prices_end, regret_end, closed_end, open_end, spent_end, limit_end}
+use Rattle.ice_journal.specs.Records.{Record, version_1, exchange_kind, prices_kind, exchange_end, prices_end}
 use Rattle.ice_journal.specs.Records as line
 use Rattle.ice_journal.specs.Journal.{LinesFault, grammar, unended, IsJournalOf}
 use Rattle.ice_section.specs.Section.{Section, SectionFault, order, count, no_good, maker, no_section, take_record, may_end, exchange_in}

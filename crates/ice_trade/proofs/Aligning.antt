@@ -1,8 +1,7 @@
 -- Lists that count the same things, as one list of records.
-use Rattle.std.proofs.Common.{ℕ, suc, ◌+◌, ◌≡◌, Bool, ◌||◌, List, [], ◌∷◌, ◌++◌, map, length, refl, arith, ap, sym, ◌∙◌}
+use Rattle.std.proofs.Common.{ℕ, suc, ◌+◌, ◌≡◌, Bool, ◌||◌, List, [], ◌∷◌, ◌++◌, map, length, refl, arith, ap}
 use Rattle.std.specs.List.{list_any}
 use Rattle.std.proofs.lemmas.List.Sums.{sum_by_push}
-use Rattle.std.proofs.lemmas.List.{length_push}
 use Rattle.ice_defs.specs.Tree.{Tree}
 use Rattle.ice_defs.specs.Bounds.{Bounds}
 use Rattle.ice_defs.specs.Exchange.{Good, Bidder}

@@ -1,5 +1,5 @@
 -- How a maker keeps its bidders.
-use Rattle.std.specs.Prelude.{ℕ, ◌≤◌, ◌≡◌, List, length, vec_len, vec_capacity}
+use Rattle.std.specs.Prelude.{◌≤◌, ◌≡◌, List, length, vec_capacity}
 use Rattle.ice_defs.specs.Exchange.{Bidder}
 use Rattle.ice_defs.specs.Making.{node_count}
 use Rattle.ice_trade.specs.declared.bidders.Bidders.TheInside.{Inside}

@@ -1,4 +1,4 @@
-use Rattle.std.proofs.Common.{arith, rules, ◌≡◌, ◌∙◌, refl, length-set, pos, ◌-ℤ◌, ◌*ℤ◌, to_z, of_z}
+use Rattle.std.proofs.Common.{arith, rules, ◌≡◌, ◌∙◌, length-set, pos, ◌-ℤ◌, ◌*ℤ◌}
 use Rattle.std.proofs.lemmas.Int.{ints, to_z-of_z}
 use mir.Syntax.{w128}
 use mir.Val.{SFits}

@@ -1,6 +1,5 @@
-use Rattle.std.proofs.Common.{◌≡◌, ◌<◌, ◌^◌, ◌∙◌, ℕ, List, length, sym, subst, arith}
+use Rattle.std.proofs.Common.{sym, subst, arith}
 use Rattle.ice_journal.specs.Lines.{record_of}
-use Rattle.ice_check.specs.Progress.{Progress}
 use Rattle.ice_check.proofs.Reading.{HasRead, nothing_read, few_read, one_read}
 use Rattle.ice_check.proofs.bytes.feed_all.Goals as goal
 

@@ -1,4 +1,4 @@
-use Rattle.std.proofs.Common.{◌≡◌, sym, ap, subst, arith}
+use Rattle.std.proofs.Common.{sym, subst, arith}
 use Rattle.std.specs.Prelude.{Some}
 use Rattle.ice_tree.proofs.Satisfied.{set_fault-first}
 use Rattle.ice_check.specs.declared.rule.Rule.{Rule}

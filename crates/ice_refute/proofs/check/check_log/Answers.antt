@@ -1,12 +1,11 @@
-use Rattle.std.proofs.Common.{arith, rules, ◌≡◌, ◌<◌, ◌≤◌, ◌+◌, ◌∷◌, ◌∙◌, ap, sym, refl, subst, length, drop, sum, true, false, Bool, List}
+use Rattle.std.proofs.Common.{arith, rules, ◌≡◌, ◌<◌, ◌≤◌, ◌+◌, ◌∙◌, ap, refl, length, sum, true, false}
 use Rattle.std.proofs.lemmas.Int.{to_z-of_z}
 use mir.Syntax.{w128}
 use Rattle.ice_refute.specs.declared.fault.LogFault.TheVariants as faults
-use Rattle.ice_refute.specs.Code.{CountsGoods, step_of}
-use Rattle.ice_refute.specs.Passing.{PassesAt, HasFault}
+use Rattle.ice_refute.specs.Code.{step_of}
 use Rattle.ice_refute.specs.Waiting.{nodes_of}
 use Rattle.ice_refute.proofs.Kept.{kept_at_start}
-use Rattle.ice_refute.proofs.Reading.{Stands, stands_at_start, fault_fails}
+use Rattle.ice_refute.proofs.Reading.{stands_at_start, fault_fails}
 use Rattle.ice_refute.proofs.Standing.{next_step, length-log, next_counts, long_at, short_at, closed_at, more_at, fault_at}
 use Rattle.ice_refute.proofs.check.check_log.Goals as goal
 

@@ -1,5 +1,4 @@
-use Rattle.std.proofs.Common.{arith, ◌<◌, ◌≡◌, ◌∙◌, ap, sym, length}
-use Rattle.ice_defs.specs.Trade.{fixing_of}
+use Rattle.std.proofs.Common.{arith, ◌<◌, ◌∙◌, ap, sym, length}
 use Rattle.ice_refute.proofs.Kept.{nodes_of-set}
 use Rattle.ice_refute.proofs.Copying.{same_count, same_nodes, copied_more, copied_all}
 use Rattle.ice_refute.proofs.copy.copy_fixings.Goals as goal

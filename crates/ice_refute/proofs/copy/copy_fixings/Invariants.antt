@@ -1,4 +1,4 @@
-use Rattle.std.proofs.Common.{◌≡◌, ◌<◌, ℕ, length}
+use Rattle.std.proofs.Common.{◌≡◌, ◌<◌, ℕ}
 use Rattle.ice_defs.specs.Trade.{fixing_of}
 use Rattle.ice_refute.specs.Waiting.{nodes_of}
 use Rattle.ice_refute.proofs.copy.copy_fixings.Given as goal

@@ -1,6 +1,5 @@
-use Rattle.std.proofs.Common.{◌≡◌, ◌-ℤ◌, ◌<ℤ◌, rules, sym, ◌∙◌, ap, subst, pos, to_z, of_z}
+use Rattle.std.proofs.Common.{◌≡◌, ◌-ℤ◌, ◌<ℤ◌, rules, sym, ◌∙◌, ap, subst, to_z, of_z}
 use mir.Syntax.{w128}
-use Rattle.ice_defs.specs.Rules.{net_at}
 use Rattle.ice_rules.proofs.Losses.{gains_from, gains_give}
 use Rattle.ice_rules.proofs.gains.least_gain.Goals as goal
 

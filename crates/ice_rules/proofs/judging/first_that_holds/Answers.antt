@@ -2,7 +2,6 @@ use Rattle.std.proofs.Common.{◌≡◌, true, false, refl, sym, subst, rules, t
 use Rattle.std.proofs.lemmas.Int.{to_z-of_z}
 use mir.Syntax.{w64}
 use mir.Val.{SFits}
-use Rattle.std.specs.Prelude.{None, Some}
 use Rattle.ice_defs.specs.Rules.{IsMrpar, Improves}
 use Rattle.ice_rules.proofs.Unrefused.{unrefused}
 use Rattle.ice_rules.proofs.judging.first_that_holds.Goals as goal

@@ -1,5 +1,5 @@
-use Rattle.std.proofs.Common.{◌≡◌, ◌<◌, ℕ, cond, length, pos, neg_ℤ, ◌+ℤ◌, ◌≤ℤ◌}
-use Rattle.ice_defs.specs.Set.{has, weight_of}
+use Rattle.std.proofs.Common.{◌≡◌, ◌<◌, ℕ, length, pos, neg_ℤ, ◌+ℤ◌, ◌≤ℤ◌}
+use Rattle.ice_defs.specs.Set.{weight_of}
 use Rattle.ice_rules.proofs.profiles.centre.Given as goal
 
 abbrev pub invariant-loop-node : goal.invariant-loop-node

@@ -1,4 +1,4 @@
-use Rattle.std.proofs.Common.{◌≡◌, ◌<◌, ℕ, cond, length, pos, neg_ℤ, ◌+ℤ◌, ◌≤ℤ◌}
+use Rattle.std.proofs.Common.{◌≡◌, ◌<◌, ℕ, cond, length, pos, neg_ℤ, ◌≤ℤ◌}
 use Rattle.ice_defs.specs.Set.{has, weight_of}
 use Rattle.ice_rules.proofs.profiles.in_favour.Given as goal
 

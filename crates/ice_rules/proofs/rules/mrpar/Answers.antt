@@ -1,5 +1,4 @@
 use Rattle.std.proofs.Common.{◌≡◌, true, false, refl, inl, inr}
-use Rattle.ice_defs.specs.Rules.{IsMrpar}
 use Rattle.ice_rules.proofs.Losses.{best_if_any, mrpar_gives}
 use Rattle.ice_rules.proofs.rules.mrpar.Goals as goal
 

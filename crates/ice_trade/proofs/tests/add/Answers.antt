@@ -1,4 +1,4 @@
-use Rattle.std.proofs.Common.{◌≡◌, ◌∷◌, [], length, sym, subst, refl}
+use Rattle.std.proofs.Common.{sym, subst}
 use Rattle.ice_defs.specs.Lawful.{IsLimitedTree}
 use Rattle.ice_trade.proofs.tests.add.Goals as goal
 

@@ -1,9 +1,8 @@
-use Rattle.std.proofs.Common.{arith, rules, ◌≡◌, ◌<◌, ◌∙◌, refl, sym, length, [], get_or, pos, ◌+ℤ◌, to_z}
+use Rattle.std.proofs.Common.{arith, rules, ◌≡◌, ◌<◌, ◌∙◌, refl, length, [], ◌+ℤ◌, to_z}
 use Rattle.std.proofs.lemmas.Int.{ints, to_z-of_z}
 use Rattle.std.proofs.lemmas.List.{get_or_default}
 use mir.Syntax.{w128}
 use mir.Val.{SFits}
-use Rattle.ice_defs.specs.Trade.{tree_of}
 use Rattle.ice_bound.specs.declared.answer.Bound.TheVariants.{AtMost}
 use Rattle.ice_bound.proofs.Above.{answer_above}
 use Rattle.ice_bound.proofs.Totals.{no_bidder, one_bidder_more, greatest_at, first_dead, floor_bound, total_fits}

@@ -1,4 +1,4 @@
-use Rattle.std.proofs.Common.{arith, ◌≡◌, ◌<◌, ◌∙◌, ap, length}
+use Rattle.std.proofs.Common.{arith, ◌<◌, ◌∙◌, ap, length}
 use Rattle.std.proofs.lemmas.List.{length_push}
 use Rattle.ice_trade.specs.Names.{NameList}
 use Rattle.ice_trade.proofs.Aligning.{goods_count}

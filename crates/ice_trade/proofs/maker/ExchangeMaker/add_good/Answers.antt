@@ -1,7 +1,7 @@
 use Rattle.std.proofs.Common.{rules, ◌≡◌, ◌++◌, ◌∷◌, [], None, sym, subst}
 use Rattle.ice_defs.specs.Exchange.{Good, Exchange}
 use Rattle.ice_defs.specs.Making.{good_refusal}
-use Rattle.ice_trade.specs.Parts.{IsUnfinished, with_good}
+use Rattle.ice_trade.specs.Parts.{IsUnfinished}
 use Rattle.ice_trade.proofs.Growing.{IsUnfinished-good}
 use Rattle.ice_trade.proofs.maker.ExchangeMaker.add_good.Goals as goal
 

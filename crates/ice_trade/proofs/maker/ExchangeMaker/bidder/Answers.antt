@@ -1,8 +1,8 @@
-use Rattle.std.proofs.Common.{rules, ◌≡◌, ◌++◌, ◌∷◌, [], None, length, sym, ap, subst}
+use Rattle.std.proofs.Common.{rules, ◌≡◌, ◌++◌, ◌∷◌, [], None, length, sym, subst}
 use Rattle.ice_defs.specs.Exchange.{Bidder, Exchange}
 use Rattle.ice_defs.specs.Lawful.{IsBidder}
 use Rattle.ice_defs.specs.Making.{bidder_refusal}
-use Rattle.ice_trade.specs.Parts.{IsUnfinished, with_bidder}
+use Rattle.ice_trade.specs.Parts.{IsUnfinished}
 use Rattle.ice_trade.proofs.Growing.{IsUnfinished-bidder}
 use Rattle.ice_trade.proofs.maker.ExchangeMaker.bidder.Goals as goal
 

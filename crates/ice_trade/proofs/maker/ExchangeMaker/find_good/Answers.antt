@@ -1,6 +1,4 @@
-use Rattle.std.proofs.Common.{rules, ◌≡◌, None, IsTrue, sym, ap, ◌∙◌, subst}
-use Rattle.std.specs.List.{AllByRecursion, position}
-use Rattle.std.specs.Str.{bytes_eq}
+use Rattle.std.proofs.Common.{rules, ◌≡◌, None, IsTrue, sym, ◌∙◌, subst}
 use Rattle.ice_defs.specs.Name.{is_name}
 use Rattle.ice_defs.specs.Lawful.{good_names}
 use Rattle.ice_trade.specs.Parts.{IsUnfinished}

@@ -1,4 +1,4 @@
-use Rattle.std.proofs.Common.{rules, arith, ◌≡◌, ◌≤◌, length, subst, ap}
+use Rattle.std.proofs.Common.{rules, ◌≤◌, length, subst}
 use Rattle.ice_trade.specs.Parts.{IsUnfinished}
 use Rattle.ice_trade.proofs.Growing.{IsUnfinished-finished}
 use Rattle.ice_trade.proofs.maker.ExchangeMaker.finish.Goals as goal

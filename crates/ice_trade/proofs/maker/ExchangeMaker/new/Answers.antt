@@ -1,5 +1,5 @@
 use Rattle.std.proofs.Common.{◌≡◌, [], sym, subst}
-use Rattle.ice_defs.specs.Exchange.{AreSettings, Exchange, Good, Bidder}
+use Rattle.ice_defs.specs.Exchange.{AreSettings, Good, Bidder}
 use Rattle.std.specs.Prelude.{List}
 use Rattle.ice_trade.specs.Parts.{IsUnfinished, no_exchange}
 use Rattle.ice_trade.proofs.Growing.{IsUnfinished-new}

@@ -1,5 +1,5 @@
 -- Products of integers: a factor moves into sums, and bounds of a product.
-use Rattle.std.proofs.Common.{ℕ, zero, suc, ◌≡◌, ℤ, pos, negsuc, ◌+ℤ◌, ◌-ℤ◌, ◌*ℤ◌, neg_ℤ, ◌≤ℤ◌, arith, ap, sym, ◌∙◌}
+use Rattle.std.proofs.Common.{ℕ, zero, suc, ◌+◌, ◌*◌, ◌≤◌, ◌≡◌, ℤ, pos, negsuc, ◌+ℤ◌, ◌-ℤ◌, ◌*ℤ◌, neg_ℤ, ◌≤ℤ◌, arith, ap, sym, ◌∙◌, subst}
 use Rattle.std.proofs.lemmas.Int.{ints}
 use Rattle.std.proofs.Math.IntN.{*ℤ-zero, zero-*ℤ, suc_ℤ-*ℤ, pred_ℤ-*ℤ}
 use Rattle.ice_defs.specs.Sum.{sum_below}
@@ -43,6 +43,33 @@ times_neg m a =
 pub sum_below-times : (m : ℤ) (f : ℕ → ℤ) (n : ℕ) → sum_below (λ k. m *ℤ f k) n ≡ m *ℤ sum_below f n
 sum_below-times m f zero = sym (*ℤ-zero m)
 sum_below-times m f (suc n) = ap (λ s. s +ℤ (m *ℤ f n)) (sum_below-times m f n) ∙ sym (times_add m (sum_below f n) (f n))
+
+-- one more
+times_one : (m : ℤ) → m *ℤ pos 1 ≡ m
+times_one (pos n) = omega (arith, ints)
+times_one (negsuc n) = omega (arith, ints)
+
+times_suc : (m : ℤ) (n : ℕ) → m *ℤ pos (suc n) ≡ (m *ℤ pos n) +ℤ m
+times_suc m n =
+    let one : pos (suc n) ≡ pos n +ℤ pos 1 = omega (arith, ints) in
+    ap (λ z. m *ℤ z) one ∙ times_add m (pos n) (pos 1) ∙ ap (λ z. (m *ℤ pos n) +ℤ z) (times_one m)
+
+-- bounds of a product with a natural number
+pub times-high : (m : ℤ) (k n : ℕ) → m ≤ℤ pos k → (m *ℤ pos n) ≤ℤ pos (n * k)
+times-high m k zero h = omega (arith, ints, *ℤ-zero m)
+times-high m k (suc n) h = omega (arith, ints, times_suc m n, times-high m k n h, h)
+
+pub times-low : (m : ℤ) (k n : ℕ) → neg_ℤ (pos k) ≤ℤ m → neg_ℤ (pos (n * k)) ≤ℤ (m *ℤ pos n)
+times-low m k zero h = omega (arith, ints, *ℤ-zero m)
+times-low m k (suc n) h = omega (arith, ints, times_suc m n, times-low m k n h, h)
+
+pub times_not_positive : (m u : ℤ) → pos 0 ≤ℤ m → u ≤ℤ pos 0 → (m *ℤ u) ≤ℤ pos 0
+times_not_positive (pos k) (pos n) p q = omega (arith, ints, zero_of n q)
+  where
+    zero_of : (n : ℕ) → pos n ≤ℤ pos 0 → pos k *ℤ pos n ≡ pos 0
+    zero_of n q = let e : n ≡ 0 = omega (arith, ints) in subst (λ j. pos k *ℤ pos j ≡ pos 0) (sym e) (*ℤ-zero (pos k))
+times_not_positive (pos k) (negsuc n) p q = omega (arith, ints)
+times_not_positive (negsuc k) u p q = absurd (omega (arith, ints))
 
 -- a product with a number that isn't negative keeps an order
 pub times-le : (n : ℕ) (a b : ℤ) → a ≤ℤ b → (pos n *ℤ a) ≤ℤ (pos n *ℤ b)
