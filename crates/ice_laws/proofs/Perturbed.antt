@@ -1,7 +1,6 @@
 -- The best value at perturbed weights, less the final value at lower ones, is the regret.
 use Rattle.std.proofs.Common.{ℕ, ◌<◌, ◌≡◌, Bool, true, false, cond, List, length, ℤ, pos, ◌+ℤ◌, ◌-ℤ◌, ◌*ℤ◌, ◌≤ℤ◌, refl, arith, ap, sym, ◌∙◌, subst}
 use Rattle.std.proofs.lemmas.Int.{ints}
-use Rattle.std.proofs.Math.IntN.{zero-*ℤ, suc_ℤ-*ℤ}
 use Rattle.ice_defs.specs.Set.{NodeSet, has, Weights, weight_of, value}
 use Rattle.ice_defs.specs.Trade.{Assignment, tree_of, set_of, weights_of, IsFeasible, total_value, IsBestOfAll}
 use Rattle.ice_defs.specs.Bounds.{Bounds, bounds_of, IsInside, IsProfile}
@@ -12,11 +11,9 @@ use Rattle.ice_defs.specs.Regret.{lead, IsRegret}
 use Rattle.ice_defs.proofs.Sums.{sum_below-same}
 use Rattle.ice_defs.proofs.Products.{times_add, times-le}
 use Rattle.ice_laws.specs.Laws.{PerturbedGivesRegret}
+use Rattle.ice_laws.proofs.Multiples.{one_time}
 use Rattle.ice_laws.proofs.Weights.{length-perturbed_list, weight_of-perturbed_list, weights_of-lower, length-perturbed, weights_of-perturbed}
 use Rattle.ice_laws.proofs.Cancelled.{total-le}
-
-one_time : (a : ℤ) → pos 1 *ℤ a ≡ a
-one_time a = let e : pos 1 *ℤ a ≡ (pos 0 *ℤ a) +ℤ a = suc_ℤ-*ℤ (pos 0) a in omega (arith, ints, e, zero-*ℤ a)
 
 -- ---- perturbed weights are a profile
 

@@ -13,7 +13,7 @@ use Rattle.ice_laws.proofs.Chosen.{chosen}
 
 module _ (market : Market) where
   -- a bidder's set serves its part of the trade
-  own_serves : (a : Assignment) → IsFeasible market.trees market.exact a → (b : ℕ) → b < length market.trees
+  pub own_serves : (a : Assignment) → IsFeasible market.trees market.exact a → (b : ℕ) → b < length market.trees
       → Serves market.exact (tree_of market.trees b) (trades_of market a b) (set_of a b)
   own_serves a feasible b h = (feasible.satisfied b h, λ g i. covered_same _ _)
 
