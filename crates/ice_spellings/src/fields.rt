@@ -135,13 +135,14 @@ impl Slot<'_> {
         too_many: usize,
     ) -> Result<(), Fail> {
         let alloc = rt.alloc();
-        self.takes(rt, cycled(alloc, alphabet, most)?.as_bytes())?;
-        self.refuses(rt, cycled(alloc, alphabet, too_many)?.as_bytes())?;
+        let alphabet = alphabet.as_bytes();
+        let first = *alphabet.first().ok_or("no alphabet")?;
+        self.takes(rt, &cycled(alloc, alphabet, most)?)?;
+        self.refuses(rt, &cycled(alloc, alphabet, too_many)?)?;
         self.refuses(rt, b"")?;
-        let first = *alphabet.as_bytes().first().ok_or("no alphabet")?;
         for byte in 0..=255 {
             let among = [first, byte, first];
-            if alphabet.as_bytes().contains(&byte) {
+            if alphabet.contains(&byte) {
                 self.takes(rt, &[byte])?;
                 self.takes(rt, &among)?;
             } else {

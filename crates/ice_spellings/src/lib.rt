@@ -13,4 +13,6 @@ mod meanings;
 #[cfg(test)]
 mod records;
 #[cfg(test)]
+mod samples;
+#[cfg(test)]
 mod texts;

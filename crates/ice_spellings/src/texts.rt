@@ -1,3 +1,5 @@
+ghost use Rattle.std.specs.Prelude.{◌<◌, length};
+
 use ice_journal::{read_record, write_record};
 use ice_line::LineWriter;
 use std::alloc::Global;
@@ -40,14 +42,12 @@ pub fn with_fields(alloc: Global, head: &str, field: &str, count: usize) -> Resu
 }
 
 /// So many characters, which go round and round the alphabet.
-pub fn cycled(alloc: Global, alphabet: &str, length: usize) -> Result<String, Fail> {
-    let mut text = String::new(alloc);
-    while text.len() < length {
-        for character in alphabet.chars() {
-            if text.len() < length {
-                text.push(character)?;
-            }
-        }
+pub fn cycled(alloc: Global, alphabet: &[u8], count: usize) -> Result<Vec<u8>, Fail>
+    requires { 0 < length alphabet.now }
+{
+    let mut text = Vec::new(alloc);
+    for i in 0..count {
+        text.push(alphabet[i % alphabet.len()])?;
     }
     Ok(text)
 }
