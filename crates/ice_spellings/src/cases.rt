@@ -1,4 +1,5 @@
 use crate::fields::Field::{self, Characters, Number, OneOf, Word};
+use crate::fields::Limits;
 
 /// A record, and what each of its fields may be.
 pub struct Case {
@@ -6,74 +7,73 @@ pub struct Case {
     pub fields: &'static [Field],
 }
 
-// One below the least, the least, the greatest, and one above the greatest.
-pub const OWNED: [&str; 4] = ["-1", "0", "1000000", "1000001"];
+pub const OWNED: Limits = Limits("-1", "0", "1000000", "1000001");
 
-pub const MULTIPLIER: [&str; 4] = [
+pub const MULTIPLIER: Limits = Limits(
     "-72057594037927937",
     "-72057594037927936",
     "72057594037927936",
     "72057594037927937",
-];
+);
 
-pub const NUMERATOR: [&str; 4] = ["-1", "0", "4611686018427387904", "4611686018427387905"];
+pub const NUMERATOR: Limits = Limits("-1", "0", "4611686018427387904", "4611686018427387905");
 
-pub const VALUE: [&str; 4] = ["-1000000001", "-1000000000", "1000000000", "1000000001"];
+pub const VALUE: Limits = Limits("-1000000001", "-1000000000", "1000000000", "1000000001");
 
-const WEIGHT: Field = Number(["-1", "0", "100", "101"]);
+const WEIGHT: Field = Number(Limits("-1", "0", "100", "101"));
 
-const CLOSE_REGRET: Field = Number(["-1", "0", "1000000000000", "1000000000001"]);
+const CLOSE_REGRET: Field = Number(Limits("-1", "0", "1000000000000", "1000000000001"));
 
-const CAP: Field = Number(["0", "1", "1000000000", "1000000001"]);
+const CAP: Field = Number(Limits("0", "1", "1000000000", "1000000001"));
 
-const IMPROVE: Field = Number(["-1", "0", "1000000000", "1000000001"]);
+const IMPROVE: Field = Number(Limits("-1", "0", "1000000000", "1000000001"));
 
-const ROUNDS: Field = Number(["-1", "0", "20", "21"]);
+const ROUNDS: Field = Number(Limits("-1", "0", "20", "21"));
 
-const BRANCHES: Field = Number(["-1", "0", "50000", "50001"]);
+const BRANCHES: Field = Number(Limits("-1", "0", "50000", "50001"));
 
-const CHILDREN: Field = Number(["-1", "0", "199", "200"]);
+const CHILDREN: Field = Number(Limits("-1", "0", "199", "200"));
 
-const GOOD: Field = Number(["-1", "0", "31", "32"]);
+const GOOD: Field = Number(Limits("-1", "0", "31", "32"));
 
-const UNITS: Field = Number(["0", "1", "1000", "1001"]);
+const UNITS: Field = Number(Limits("0", "1", "1000", "1001"));
 
-const SETTLEMENT: Field = Number(["-1", "0", "20", "21"]);
+const SETTLEMENT: Field = Number(Limits("-1", "0", "20", "21"));
 
-const TOTAL: Field = Number([
+const TOTAL: Field = Number(Limits(
     "-400000000000001",
     "-400000000000000",
     "400000000000000",
     "400000000000001",
-]);
+));
 
-const BIDDER: Field = Number(["-1", "0", "39", "40"]);
+const BIDDER: Field = Number(Limits("-1", "0", "39", "40"));
 
-const NODE: Field = Number(["-1", "0", "199", "200"]);
+const NODE: Field = Number(Limits("-1", "0", "199", "200"));
 
-const REGRET: Field = Number(["-1", "0", "400000000000000", "400000000000001"]);
+const REGRET: Field = Number(Limits("-1", "0", "400000000000000", "400000000000001"));
 
-const DENOMINATOR: Field = Number(["0", "1", "4294967296", "4294967297"]);
+const DENOMINATOR: Field = Number(Limits("0", "1", "4294967296", "4294967297"));
 
-const VIOLATION: Field = Number([
+const VIOLATION: Field = Number(Limits(
     "-1",
     "0",
     "1267650600228229401496703205376",
     "1267650600228229401496703205377",
-]);
+));
 
-const VICKREY: Field = Number(["-1", "0", "1000000000000000", "1000000000000001"]);
+const VICKREY: Field = Number(Limits("-1", "0", "1000000000000000", "1000000000000001"));
 
-const BOUND: Field = Number([
+const BOUND: Field = Number(Limits(
     "-170141183460469231731687303715884105729",
     "-170141183460469231731687303715884105728",
     "170141183460469231731687303715884105727",
     "170141183460469231731687303715884105728",
-]);
+));
 
-const FILE: Field = Number(["0", "1", "21", "22"]);
+const FILE: Field = Number(Limits("0", "1", "21", "22"));
 
-const FAULT: Field = Number(["0", "1", "99", "100"]);
+const FAULT: Field = Number(Limits("0", "1", "99", "100"));
 
 const LETTERS: &str = "abcdefghijklmnopqrstuvwxyzABCDEFGHIJKLMNOPQRSTUVWXYZ0123456789_-.";
 

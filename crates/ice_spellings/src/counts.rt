@@ -1,4 +1,5 @@
 use crate::cases::{MULTIPLIER, NUMERATOR, OWNED, VALUE};
+use crate::fields::Limits;
 use crate::texts::{is_no_record, is_record, with_fields};
 use std::alloc::Global;
 use std::process::Abort;
@@ -17,20 +18,20 @@ fn is_spelling<R: Abort>(rt: &R, text: &str, is_one: bool) {
 fn has_1_to_32<R: Abort + AllocGlobal>(
     rt: &R,
     head: &str,
-    [below, least, greatest, above]: &[&str; 4],
+    Limits(below, least, greatest, above): Limits,
 ) -> Result<(), Fail> {
     let alloc = rt.alloc();
     is_spelling(rt, head, false);
-    for number in [*least, *greatest] {
+    for number in [least, greatest] {
         is_spelling(rt, &with_fields(alloc, head, number, 1)?, true);
         is_spelling(rt, &with_fields(alloc, head, number, 32)?, true);
         is_spelling(rt, &with_fields(alloc, head, number, 33)?, false);
     }
     let front = with_fields(alloc, head, least, 31)?;
     for (last, is_one) in [
-        (*greatest, true),
-        (*below, false),
-        (*above, false),
+        (greatest, true),
+        (below, false),
+        (above, false),
         ("", false),
     ] {
         is_spelling(rt, &with_fields(alloc, &front, last, 1)?, is_one);
@@ -40,9 +41,9 @@ fn has_1_to_32<R: Abort + AllocGlobal>(
 
 #[test]
 fn lists_have_1_to_32_numbers(rt: HostRuntime) -> Result<(), Fail> {
-    has_1_to_32(&rt, "bidder s", &OWNED)?;
-    has_1_to_32(&rt, "leaf", &MULTIPLIER)?;
-    has_1_to_32(&rt, "prices 4294967296", &NUMERATOR)
+    has_1_to_32(&rt, "bidder s", OWNED)?;
+    has_1_to_32(&rt, "leaf", MULTIPLIER)?;
+    has_1_to_32(&rt, "prices 4294967296", NUMERATOR)
 }
 
 /// What a submission says is the number of its lower values, how many it has, and the same of its upper ones.
@@ -96,9 +97,9 @@ fn submission(
 #[test]
 fn submissions_count_their_values(rt: HostRuntime) -> Result<(), Fail> {
     let alloc = rt.alloc();
-    let [below, least, greatest, above] = &VALUE;
+    let Limits(below, least, greatest, above) = VALUE;
     for name in ["s", "abcdefghijklmnopqrstuvwxyz-._012"] {
-        for value in [*least, *greatest] {
+        for value in [least, greatest] {
             for counts in &SUBMISSIONS {
                 is_record(&rt, submission(alloc, name, counts, value)?.as_bytes());
             }
@@ -109,10 +110,10 @@ fn submissions_count_their_values(rt: HostRuntime) -> Result<(), Fail> {
     }
     let front = with_fields(alloc, "submit s 0 200", "7", 199)?;
     for (last, is_one) in [
-        (*least, true),
-        (*greatest, true),
-        (*below, false),
-        (*above, false),
+        (least, true),
+        (greatest, true),
+        (below, false),
+        (above, false),
     ] {
         is_spelling(&rt, &with_fields(alloc, &front, last, 1)?, is_one);
     }
@@ -173,8 +174,8 @@ const ORDERS: [(&str, bool); 10] = [
 #[test]
 fn changes_ascend(rt: HostRuntime) -> Result<(), Fail> {
     let alloc = rt.alloc();
-    let [_, least, greatest, _] = &MULTIPLIER;
-    for number in [*least, *greatest, "0"] {
+    let Limits(_, least, greatest, _) = MULTIPLIER;
+    for number in [least, greatest, "0"] {
         for changes in &CHANGES {
             is_record(&rt, near(alloc, changes, number)?.as_bytes());
         }

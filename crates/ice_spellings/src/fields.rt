@@ -4,12 +4,21 @@ use std::alloc::Global;
 use std::process::Abort;
 use std::test::Fail;
 
+/// What a number may be: one below the least, the least, the greatest, and one above the greatest.
+#[derive(Clone, Copy)]
+pub struct Limits(
+    pub &'static str,
+    pub &'static str,
+    pub &'static str,
+    pub &'static str,
+);
+
 /// What a field may be.
 pub enum Field {
     /// This word alone, by which the record is known.
     Word,
-    /// A number: one below the least, the least, the greatest, and one above the greatest.
-    Number([&'static str; 4]),
+    /// A number within these limits.
+    Number(Limits),
     /// One of the first texts, and none of the others.
     OneOf(&'static [&'static str], &'static [&'static str]),
     /// Characters of this alphabet: at least one, at most so many, and not one more.
@@ -90,15 +99,15 @@ impl Slot<'_> {
     }
 
     /// Numbers are taken from the least to the greatest, in their one spelling.
-    fn is_number<R: Abort + AllocGlobal>(&self, rt: &R, limits: &[&str; 4]) -> Result<(), Fail> {
+    fn is_number<R: Abort + AllocGlobal>(&self, rt: &R, limits: Limits) -> Result<(), Fail> {
         let alloc = rt.alloc();
-        let [below, least, greatest, above] = limits;
+        let Limits(below, least, greatest, above) = limits;
         self.refuses(rt, below.as_bytes())?;
         self.refuses(rt, above.as_bytes())?;
         for text in &NO_NUMBERS {
             self.refuses(rt, text.as_bytes())?;
         }
-        for limit in [*least, *greatest] {
+        for limit in [least, greatest] {
             self.takes(rt, limit.as_bytes())?;
             let digits = limit.strip_prefix("-").unwrap_or(limit).as_bytes();
             for sign in ["0", "+", "-0", "-+", "+-", "--", " ", "\t", "a"] {
@@ -161,7 +170,7 @@ impl Slot<'_> {
     ) -> Result<(), Fail> {
         match field {
             Field::Word => self.is_word(rt, text),
-            Field::Number(limits) => self.is_number(rt, limits),
+            Field::Number(limits) => self.is_number(rt, *limits),
             Field::OneOf(taken, refused) => self.is_one_of(rt, taken, refused),
             Field::Characters(alphabet, most, too_many) => {
                 self.is_characters(rt, alphabet, *most, *too_many)
