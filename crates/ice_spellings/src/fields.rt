@@ -25,7 +25,7 @@ pub enum Field {
     Characters(&'static str, usize, usize),
 }
 
-/// Texts that spell no number.
+/// Texts that spell no number of any field.
 const NO_NUMBERS: [&str; 16] = [
     "",
     "-",

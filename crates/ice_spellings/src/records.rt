@@ -28,14 +28,17 @@ fn is_not_one_with_faults<R: Abort + AllocGlobal>(rt: &R, text: &[u8]) -> Result
 fn is_not_one_with_more<R: Abort + AllocGlobal>(
     rt: &R,
     text: &[u8],
-    behind: &[&str],
+    more: &[&str],
 ) -> Result<(), Fail> {
     let alloc = rt.alloc();
     for before in [" ", "\t", "0 ", "a ", "-"] {
         is_no_record(rt, &joined(alloc, &[before.as_bytes(), text])?);
     }
-    for end in behind {
-        is_no_record(rt, &joined(alloc, &[text, end.as_bytes()])?);
+    for behind in [" ", "\t", "\n", "\r", "\x7f", "  0", " a", " 0/1"] {
+        is_no_record(rt, &joined(alloc, &[text, behind.as_bytes()])?);
+    }
+    for behind in more {
+        is_no_record(rt, &joined(alloc, &[text, behind.as_bytes()])?);
     }
     Ok(())
 }
@@ -43,29 +46,22 @@ fn is_not_one_with_more<R: Abort + AllocGlobal>(
 fn has_one_spelling<R: Abort + AllocGlobal>(
     rt: &R,
     case: &Case,
-    behind: &[&str],
+    more: &[&str],
 ) -> Result<(), Fail> {
     let text = case.text.as_bytes();
     is_record(rt, text);
     is_not_one_with_faults(rt, text)?;
-    is_not_one_with_more(rt, text, behind)
+    is_not_one_with_more(rt, text, more)
 }
 
-/// Each record, and the same with a fault that leaves it none.
+/// Each record, and the same with a fault that leaves it none. A list may have a further number.
 #[test]
 fn records_have_one_spelling(rt: HostRuntime) -> Result<(), Fail> {
     for case in &CLOSED {
-        let behind = [
-            " ", "\t", "\n", "\r", "\x7f", "  0", " 0", " 1", " a", " 0/1",
-        ];
-        has_one_spelling(&rt, case, &behind)?;
+        has_one_spelling(&rt, case, &[" 0", " 1"])?;
     }
     for case in &LISTS {
-        has_one_spelling(
-            &rt,
-            case,
-            &[" ", "\t", "\n", "\r", "\x7f", "  0", " a", " 0/1"],
-        )?;
+        has_one_spelling(&rt, case, &[])?;
     }
     Ok(())
 }
