@@ -1,0 +1,261 @@
+use ice_defs::Verdict;
+use ice_journal::{EndWord, Kind, LimitKind, Line, LowestFraction, Stage, Version, read_record};
+use ice_set::NodeSet;
+use ice_terms::Settings;
+use std::process::Abort;
+
+const HEADS: [(&str, Version, Kind); 7] = [
+    ("ice 1 assign", Version::One, Kind::Assign),
+    ("ice 1 regret", Version::One, Kind::Regret),
+    ("ice 1 session", Version::One, Kind::Session),
+    ("ice 1 exchange", Version::One, Kind::Exchange),
+    ("ice 1 prices", Version::One, Kind::Prices),
+    ("ice 2 regret", Version::Two, Kind::Regret),
+    ("ice 2 session", Version::Two, Kind::Session),
+];
+
+const ENDS: [(&str, EndWord); 8] = [
+    ("end assign", EndWord::Assign),
+    ("end exchange", EndWord::Exchange),
+    ("end prices", EndWord::Prices),
+    ("end regret", EndWord::Regret),
+    ("end closed", EndWord::Closed),
+    ("end open", EndWord::Open),
+    ("end spent", EndWord::Spent),
+    ("end limit", EndWord::Limit),
+];
+
+const LIMITS: [(&str, Stage, LimitKind); 8] = [
+    ("limit accuracy wide 0 1", Stage::Accuracy, LimitKind::Wide),
+    (
+        "limit accuracy pivots 0 1",
+        Stage::Accuracy,
+        LimitKind::Pivots,
+    ),
+    ("limit accuracy rows 0 1", Stage::Accuracy, LimitKind::Rows),
+    ("limit accuracy den 0 1", Stage::Accuracy, LimitKind::Den),
+    ("limit balance wide 0 1", Stage::Balance, LimitKind::Wide),
+    (
+        "limit balance pivots 0 1",
+        Stage::Balance,
+        LimitKind::Pivots,
+    ),
+    ("limit balance rows 0 1", Stage::Balance, LimitKind::Rows),
+    ("limit balance den 0 1", Stage::Balance, LimitKind::Den),
+];
+
+const VERDICTS: [(&str, Verdict); 8] = [
+    ("verdict accepted", Verdict::Accepted),
+    ("verdict 40 7", Verdict::Loosened { node: 7 }),
+    ("verdict 41 7", Verdict::Crossed { node: 7 }),
+    ("verdict 42", Verdict::Mrpar),
+    ("verdict 43", Verdict::Improve),
+    ("verdict 44", Verdict::Repeated),
+    ("verdict 45", Verdict::UnknownBidder),
+    ("verdict 46", Verdict::WrongCount),
+];
+
+fn head(text: &str) -> Option<(Version, Kind)> {
+    match read_record(text.as_bytes())? {
+        Line::Head { version, kind } => Some((version, kind)),
+        _ => None,
+    }
+}
+
+fn end(text: &str) -> Option<EndWord> {
+    match read_record(text.as_bytes())? {
+        Line::End(word) => Some(word),
+        _ => None,
+    }
+}
+
+fn limit(text: &str) -> Option<(Stage, LimitKind)> {
+    match read_record(text.as_bytes())? {
+        Line::Limit { stage, kind, .. } => Some((stage, kind)),
+        _ => None,
+    }
+}
+
+fn verdict(text: &str) -> Option<Verdict> {
+    match read_record(text.as_bytes())? {
+        Line::Verdict(verdict) => Some(verdict),
+        _ => None,
+    }
+}
+
+#[test]
+fn words_have_meanings(rt: HostRuntime) {
+    for (text, version, kind) in HEADS {
+        assert_eq!(rt; head(text), Some((version, kind)), "{text}");
+    }
+    for (text, word) in ENDS {
+        assert_eq!(rt; end(text), Some(word), "{text}");
+    }
+    for (text, stage, kind) in LIMITS {
+        assert_eq!(rt; limit(text), Some((stage, kind)), "{text}");
+    }
+    for (text, wanted) in VERDICTS {
+        assert_eq!(rt; verdict(text), Some(wanted), "{text}");
+    }
+}
+
+/// The set of the first and the third of three nodes.
+fn is_101(set: &NodeSet) -> bool {
+    set.len() == 3 && set.has(0) && !set.has(1) && set.has(2)
+}
+
+fn is_fraction(fraction: &LowestFraction, num: i64, den: u16) -> bool {
+    fraction.num == num && fraction.den == den
+}
+
+fn are_settings(settings: &Settings) -> bool {
+    settings.weight == 1
+        && settings.close_regret == 2
+        && settings.cap == 3
+        && settings.improve == 4
+        && settings.rounds == 5
+        && settings.branches == 6
+}
+
+/// One record of each form, no two with the same numbers.
+const RECORDS: [&str; 31] = [
+    "settings 1 2 3 4 5 6",
+    "good g",
+    "exact e",
+    "bidder b 11 12",
+    "node choose 13 14 15 16 17",
+    "node buy 18 19 20 21",
+    "node sell 22 23 24 25",
+    "assign",
+    "settle 7",
+    "final 31",
+    "rival 32",
+    "provisional 33",
+    "without 34 35",
+    "set 101",
+    "branch 36 37",
+    "leaf 38 39",
+    "dead 30",
+    "near 2 8 9 10 11",
+    "regret 40",
+    "prices 41 42 43",
+    "accuracy 44 45",
+    "balance 46",
+    "row 29 47 101",
+    "submit s 2 48 49 1 50",
+    "threshold 51/2 53/5",
+    "payment p 54 55/7 57/8",
+    "spent 58 59",
+    "limit accuracy wide 60 61",
+    "pool 28 101",
+    "refused 12 62 place",
+    "unread 13",
+];
+
+/// Is the record the one of its form.
+fn is_meant(line: &Line) -> bool {
+    match line {
+        Line::Settings(settings) => are_settings(settings),
+        Line::Good(name) => name.text() == "g",
+        Line::Exact(name) => name.text() == "e",
+        Line::Bidder { name, own } => name.text() == "b" && own.as_slice() == [11, 12].as_slice(),
+        Line::Choose {
+            least: 13,
+            most: 14,
+            children: 15,
+            lo: 16,
+            hi: 17,
+        } => true,
+        Line::Buy {
+            good: 18,
+            units: 19,
+            lo: 20,
+            hi: 21,
+        } => true,
+        Line::Sell {
+            good: 22,
+            units: 23,
+            lo: 24,
+            hi: 25,
+        } => true,
+        Line::Assign => true,
+        Line::Settle { number: 7 } => true,
+        Line::Final { value: 31 } => true,
+        Line::Rival { value: 32 } => true,
+        Line::Provisional { value: 33 } => true,
+        Line::Without {
+            bidder: 34,
+            value: 35,
+        } => true,
+        Line::Set(set) => is_101(set),
+        Line::Branch {
+            bidder: 36,
+            node: 37,
+        } => true,
+        Line::Leaf(multipliers) => multipliers.as_slice() == [38, 39].as_slice(),
+        Line::Dead { bidder: 30 } => true,
+        Line::Near(changes) => match changes.as_slice() {
+            [first, second] => {
+                first.good == 8
+                    && first.multiplier == 9
+                    && second.good == 10
+                    && second.multiplier == 11
+            }
+            _ => false,
+        },
+        Line::Regret { amount: 40 } => true,
+        Line::Prices(prices) => prices.den() == 41 && prices.nums() == [42, 43].as_slice(),
+        Line::Accuracy {
+            violation: 44,
+            den: 45,
+        } => true,
+        Line::Balance { den: 46 } => true,
+        Line::Row {
+            bidder: 29,
+            weight: 47,
+            set,
+        } => is_101(set),
+        Line::Submit { name, lo, hi } => {
+            name.text() == "s"
+                && lo.as_slice() == [48, 49].as_slice()
+                && hi.as_slice() == [50].as_slice()
+        }
+        Line::Threshold { cut, surplus } => {
+            is_fraction(cut, 51, 2) && is_fraction(surplus, 53, 5)
+        }
+        Line::Payment {
+            name,
+            vickrey: 54,
+            discount,
+            payment,
+        } => { name.text() == "p" && is_fraction(discount, 55, 7) && is_fraction(payment, 57, 8) }
+        Line::Spent {
+            value: 58,
+            bound: 59,
+        } => true,
+        Line::Limit {
+            violation: 60,
+            den: 61,
+            ..
+        } => true,
+        Line::Pool { bidder: 28, set } => is_101(set),
+        Line::Refused {
+            file: 12,
+            number: 62,
+            place,
+        } => place.as_slice() == b"place".as_slice(),
+        Line::Unread { file: 13 } => true,
+        _ => false,
+    }
+}
+
+/// Each number, name and set stands in its own field.
+#[test]
+fn fields_have_meanings(rt: HostRuntime) {
+    for text in RECORDS {
+        let Some(line) = read_record(text.as_bytes()) else {
+            panic!(rt; "{text}")
+        };
+        assert!(rt; is_meant(&line), "{text}");
+    }
+}
