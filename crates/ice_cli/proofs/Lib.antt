@@ -1,1 +1,5 @@
+pub mod Puts
 pub mod Replying
+pub mod Parting
+pub mod Bidding
+pub mod Besting

@@ -1,11 +1,11 @@
 -- From what a file is fetched as, and what is replied to its bytes, to what the call answers.
-use Rattle.std.proofs.Common.{◌≡◌, inl, inr, ℕ, ◌<◌, ◌≤◌, List, [], ◌∷◌, length, take, drop, sym, subst, Option, Some, None, IfSome}
+use Rattle.std.proofs.Common.{◌≡◌, ◌∙◌, ap, inl, inr, ℕ, ◌<◌, ◌≤◌, List, length, take, drop, sym, subst, Option, Some, None, IfSome}
 use Rattle.std.proofs.lemmas.Option.{none-some}
 use Rattle.std.proofs.lemmas.List.{take-append-drop}
 use Rattle.ice_edge.specs.declared.status.Status.{Status}
 use Rattle.ice_edge.specs.declared.status.Status.TheVariants as status
 use Rattle.ice_edge.specs.Edge.{Appends}
-use Rattle.ice_cli.specs.declared.reply.JournalFault.TheVariants.{TooLong}
+use Rattle.ice_cli.specs.declared.reply.FileFault.TheVariants.{TooLong}
 use Rattle.ice_cli.specs.declared.reply.Reply.{Reply}
 use Rattle.ice_cli.specs.declared.reply.Reply.TheVariants.{Yes, No, Refused, Unread, Words, NoMemory}
 use Rattle.ice_journal.specs.Records.{Record}
@@ -13,13 +13,12 @@ use Rattle.ice_journal.specs.Journal.{IsJournal}
 use Rattle.ice_check.specs.Theorems.{of_assigned}
 use Rattle.ice_cli.specs.Call.{Call, OverlongRose, journal_limit, OfTold, too_long, at_fault}
 use Rattle.ice_cli.specs.CheckServed.{CheckAnswers}
+use Rattle.ice_cli.specs.Output.{refused_line}
 use Rattle.ice_cli.specs.Replies.{fault_of, reply_text, reply_status, IsReplyTo, IsSaid}
-use Rattle.std.specs.Prelude.{codes}
-use Rattle.ice_cli.specs.Command.{Command, check, IsCommand}
 use Rattle.ice_cli.specs.Served.{IsServed, cut_short}
 
 -- what a fetch answers is what is told, where something is told
-told_bytes : (told : Option (Option (List ℕ))) (limit : ℕ) (bytes : List ℕ) → IfSome told (λ file. file ≡ Some bytes) → length bytes ≤ limit → OfTold limit (λ other. other ≡ bytes) told
+pub told_bytes : (told : Option (Option (List ℕ))) (limit : ℕ) (bytes : List ℕ) → IfSome told (λ file. file ≡ Some bytes) → length bytes ≤ limit → OfTold limit (λ other. other ≡ bytes) told
 told_bytes None limit bytes is fits = tt
 told_bytes (Some None) limit bytes is fits = none-some bytes is
 told_bytes (Some (Some other)) limit bytes is fits =
@@ -28,12 +27,12 @@ told_bytes (Some (Some other)) limit bytes is fits =
     (subst P (sym e) fits, e)
 
 -- what holds of the bytes holds of what is told
-of_told : (told : Option (Option (List ℕ))) (limit : ℕ) (P Q : List ℕ → Type 0) → ((bytes : List ℕ) → P bytes → Q bytes) → OfTold limit P told → OfTold limit Q told
+pub of_told : (told : Option (Option (List ℕ))) (limit : ℕ) (P Q : List ℕ → Type 0) → ((bytes : List ℕ) → P bytes → Q bytes) → OfTold limit P told → OfTold limit Q told
 of_told None limit P Q gives h = tt
 of_told (Some None) limit P Q gives h = h
 of_told (Some (Some bytes)) limit P Q gives h = (h.0, gives bytes h.1)
 
-too_many : (told : Option (Option (List ℕ))) (limit : ℕ) → IfSome told (λ file. IfSome file (λ bytes. limit < length bytes)) → (bytes : List ℕ) → told ≡ Some (Some bytes) → limit < length bytes
+pub too_many : (told : Option (Option (List ℕ))) (limit : ℕ) → IfSome told (λ file. IfSome file (λ bytes. limit < length bytes)) → (bytes : List ℕ) → told ≡ Some (Some bytes) → limit < length bytes
 too_many told limit h bytes e = let P : Option (Option (List ℕ)) → Type 0 = λ o. IfSome o (λ file. IfSome file (λ b. limit < length b)) in subst P e h
 
 -- the bytes that are told are the journal's
@@ -50,16 +49,16 @@ answered call name bytes (Yes value) told fits (journal, is, holds) text =
     (of_assigned value, (journal, holds, told_journal (call.holds name) bytes journal is told fits), text)
 answered call name bytes (No line rule) told fits (journal, is, holds) text =
     (record { line = line; rule = rule }, (journal, holds, told_journal (call.holds name) bytes journal is told fits), text)
-answered call name bytes (Refused which) told fits fault text =
-    (fault_of which, at_fault bytes fault (told_bytes (call.holds name) journal_limit bytes told fits), text)
-answered call name bytes Unread told fits h text = absurd h
+answered call name bytes (Refused file which) told fits (e, fault) text =
+    (fault_of which, at_fault bytes fault (told_bytes (call.holds name) journal_limit bytes told fits), text ∙ ap (λ n. refused_line n (fault_of which)) e)
+answered call name bytes (Unread file) told fits h text = absurd h
 answered call name bytes Words told fits h text = absurd h
 answered call name bytes NoMemory told fits h text = text
 
 -- the refusal of a file that is too long
 pub refused_overlong : (call : Call) (name : List ℕ) → OverlongRose call name journal_limit
     → IfSome (call.holds name) (λ file. IfSome file (λ bytes. journal_limit < length bytes))
-    → call.text ≡ reply_text (Refused TooLong) → CheckAnswers call name status.Input
+    → call.text ≡ reply_text (Refused 1 TooLong) → CheckAnswers call name status.Input
 refused_overlong call name rose told text = (_, too_long rose (too_many (call.holds name) journal_limit told), text)
 
 -- what was said of an answer: it, or the front of it where the sink failed
@@ -76,7 +75,3 @@ said call text before after old new text_is status_is served (inr (e, rose, (n, 
       (subst (λ s. IsServed (record call { text = text; status = s })) status_is (subst (λ t. IsServed (record call { text = t; status = call.status })) text_is served))
       (drop n text, sym (take-append-drop n text)),
 )
-
--- words that are not those of `check` are no command
-pub no_check : (words : List (List ℕ)) → ((name : List ℕ) → words ≡ codes "check" ∷ name ∷ [] → ⊥) → (c : Command) → ¬ IsCommand words c
-no_check words none (check name) is = none name is

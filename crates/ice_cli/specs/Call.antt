@@ -30,7 +30,10 @@ OverlongRose call name limit = Rose (call.overlong name limit) (call.overlong_af
 abbrev pub SinkFaultRose : Call → Type 0
 SinkFaultRose call = Rose call.sink_faults call.sink_faults_after
 
--- the most bytes of a journal
+-- the most bytes of an exchange or prices file, and of a journal
+abbrev pub file_limit : ℕ
+file_limit = 16777216
+
 abbrev pub journal_limit : ℕ
 journal_limit = 134217728
 

@@ -4,9 +4,14 @@ use Rattle.std.specs.Prelude.{ℕ, ◌≡◌, List, [], ◌∷◌, codes}
 -- the words after the program's name; a file is named by any text
 pub data Command : Type 0 where
   check : (journal : List ℕ) → Command
+  best : (exchange prices : List ℕ) → Command
 
 abbrev pub words_of : Command → List (List ℕ)
 words_of (check journal) = codes "check" ∷ journal ∷ []
+words_of (best exchange prices) = codes "best" ∷ exchange ∷ prices ∷ []
 
 abbrev pub IsCommand : List (List ℕ) → Command → Type 0
 IsCommand words c = words ≡ words_of c
+
+abbrev pub IsNoCommand : List (List ℕ) → Type 0
+IsNoCommand words = (c : Command) → ¬ IsCommand words c

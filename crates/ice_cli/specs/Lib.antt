@@ -2,5 +2,12 @@ pub mod Command
 pub mod Call
 pub mod Output
 pub mod CheckServed
+pub mod Files
+pub mod BestServed
 pub mod Served
 pub mod Replies
+pub mod FileReplies
+pub mod Bests
+pub mod Outcomes
+pub mod BestReplies
+pub mod Words

@@ -1,7 +1,8 @@
 -- Lines of output that are no records.
-use Rattle.std.specs.Prelude.{ℕ, List, [], ◌∷◌, ◌++◌, codes, decimal}
+use Rattle.std.specs.Prelude.{ℕ, List, [], ◌∷◌, ◌++◌, codes, decimal, ℤ}
 use Rattle.std.specs.Fmt.{signed_decimal}
 use Rattle.std.specs.List.{join_with_byte}
+use Rattle.ice_defs.specs.Set.{NodeSet}
 use Rattle.ice_defs.specs.FileFault.{FileFault}
 use Rattle.ice_journal.specs.Records as line
 use Rattle.ice_journal.specs.Spelling.{line_of, fraction_text}
@@ -57,3 +58,10 @@ refused_line file fault = line_of (line.refused file fault.number fault.place)
 
 abbrev pub unread_line : ℕ → List ℕ
 unread_line file = line_of (line.unread file)
+
+-- the net of a bidder's best set, and the set
+abbrev pub best_lines : List ℕ → ℤ → NodeSet → List ℕ
+best_lines name net s = line_text (codes "best" ∷ name ∷ signed_decimal net ∷ []) ++ line_of (line.set s)
+
+abbrev pub best_end : List ℕ
+best_end = line_text (codes "end" ∷ codes "best" ∷ [])

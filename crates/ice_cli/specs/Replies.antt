@@ -8,8 +8,8 @@ use Rattle.ice_edge.specs.declared.status.Status.{Status}
 use Rattle.ice_edge.specs.declared.status.Status.TheVariants as status
 use Rattle.ice_check.specs.Theorems.{of_assigned, IsYes}
 use Rattle.ice_defs.specs.FileFault.{FileFault, at_line}
-use Rattle.ice_cli.specs.declared.reply.JournalFault.{JournalFault}
-use Rattle.ice_cli.specs.declared.reply.JournalFault.TheVariants.{Grammar, Unended, OtherKind, TooLong}
+use Rattle.ice_cli.specs.declared.reply.FileFault as declared
+use Rattle.ice_cli.specs.declared.reply.FileFault.TheVariants.{AtLine, OtherKind, TooLong}
 use Rattle.ice_cli.specs.declared.reply.Reply.{Reply}
 use Rattle.ice_cli.specs.declared.reply.Reply.TheVariants.{Yes, No, Refused, Unread, Words, NoMemory}
 use Rattle.ice_cli.specs.Output.{yes_line, no_line, words_line, refused_line, unread_line}
@@ -19,26 +19,25 @@ abbrev pub place_text : Option ℕ → List ℕ
 place_text None = codes "-"
 place_text (Some line) = decimal line
 
--- the number and the place of a journal's fault
-abbrev pub fault_of : JournalFault → FileFault
-fault_of (Grammar line) = at_line 50 line
-fault_of (Unended line) = at_line 51 line
+-- the number and the place of a file's fault
+abbrev pub fault_of : declared.FileFault → FileFault
+fault_of (AtLine number line) = at_line number line
 fault_of OtherKind = other_kind
 fault_of TooLong = record { number = 61; place = codes "-" }
 
 abbrev pub reply_text : Reply → List ℕ
 reply_text (Yes value) = yes_line (of_assigned value)
 reply_text (No line rule) = no_line (record { line = line; rule = rule })
-reply_text (Refused fault) = refused_line 1 (fault_of fault)
-reply_text Unread = unread_line 1
+reply_text (Refused file fault) = refused_line file (fault_of fault)
+reply_text (Unread file) = unread_line file
 reply_text Words = words_line
 reply_text NoMemory = []
 
 abbrev pub reply_status : Reply → Status
 reply_status (Yes value) = status.Done
 reply_status (No line rule) = status.No
-reply_status (Refused fault) = status.Input
-reply_status Unread = status.ReadFault
+reply_status (Refused file fault) = status.Input
+reply_status (Unread file) = status.ReadFault
 reply_status Words = status.Words
 reply_status NoMemory = status.NoMemory
 
@@ -47,11 +46,11 @@ abbrev pub IsSaid : List ℕ → Status → Status → Option (List ℕ) → Opt
 IsSaid text status_then result old new faults faults_after =
     ((result ≡ status_then) × Appends old text new) ⊎ ((result ≡ status.WriteFault) × Rose faults faults_after × AppendsFront old text new)
 
--- the reply to the bytes of a file: what the checker answers of them
+-- the reply to the bytes of the first file: what the checker answers of them
 abbrev pub IsReplyTo : List ℕ → Reply → Type 0
 IsReplyTo bytes (Yes value) = OfJournal bytes (λ journal. Checks journal × IsYes journal (of_assigned value))
 IsReplyTo bytes (No line rule) = OfJournal bytes (λ journal. IsChecked journal × FirstFailure journal (Some (record { line = line; rule = rule })))
-IsReplyTo bytes (Refused fault) = IsCheckFault bytes (fault_of fault)
-IsReplyTo bytes Unread = ⊥
+IsReplyTo bytes (Refused file fault) = (file ≡ 1) × IsCheckFault bytes (fault_of fault)
+IsReplyTo bytes (Unread file) = ⊥
 IsReplyTo bytes Words = ⊥
 IsReplyTo bytes NoMemory = Unit {0}

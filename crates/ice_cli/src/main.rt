@@ -1,6 +1,14 @@
 //! The program of the exchange: its words are answered by `serve`.
 #![tactic(auto)]
 
+mod best;
+mod best_lines;
+mod best_set;
+#[cfg(test)]
+mod best_tests;
+mod command;
+mod files;
+mod outcome;
 mod reply;
 mod serve;
 #[cfg(test)]

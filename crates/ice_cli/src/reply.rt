@@ -7,29 +7,26 @@ use ice_check::Rule;
 use ice_edge::Status;
 use ice_line::LineWriter;
 
-/// Why the file of a journal is refused.
+/// Why a file is refused.
 #[derive(Clone, Copy)]
-pub enum JournalFault {
-    /// This line is no record.
-    Grammar { line: u64 },
-    /// The last line, which has this number, has no newline.
-    Unended { line: u64 },
-    /// The first record is no head of a kind that is checked, or there is none.
+pub enum FileFault {
+    /// The fault with this number, at this line.
+    AtLine { number: u8, line: u64 },
+    /// It is of another kind than the command reads.
     OtherKind,
-    /// It has more bytes than a journal may have.
+    /// It has more bytes than it may have.
     TooLong,
 }
 
-impl JournalFault {
+impl FileFault {
     /// The number that the fault is printed with.
     fn number(&self) -> u8
         ensures { result ≡ (fault_of self.now).number }
     {
-        match self {
-            JournalFault::Grammar { .. } => 50,
-            JournalFault::Unended { .. } => 51,
-            JournalFault::OtherKind => 53,
-            JournalFault::TooLong => 61,
+        match *self {
+            FileFault::AtLine { number, .. } => number,
+            FileFault::OtherKind => 53,
+            FileFault::TooLong => 61,
         }
     }
 
@@ -38,23 +35,23 @@ impl JournalFault {
         ensures { place_text result ≡ (fault_of self.now).place }
     {
         match *self {
-            JournalFault::Grammar { line } | JournalFault::Unended { line } => Some(line),
-            JournalFault::OtherKind | JournalFault::TooLong => None,
+            FileFault::AtLine { line, .. } => Some(line),
+            FileFault::OtherKind | FileFault::TooLong => None,
         }
     }
 }
 
-/// What a call replies.
+/// What a call replies in one line. Files are numbered from 1, in the order of the words.
 #[derive(Clone, Copy)]
 pub enum Reply {
     /// The checker's yes to a journal of kind assign, with the value of its sets.
     Yes { value: i128 },
     /// The checker's no: the line of the first failed test, and its rule.
     No { line: u64, rule: Rule },
-    /// The journal has this fault.
-    Refused(JournalFault),
-    /// The file could not be read.
-    Unread,
+    /// The file with this number has this fault.
+    Refused { file: u8, fault: FileFault },
+    /// The file with this number could not be read.
+    Unread { file: u8 },
     /// The words are no command.
     Words,
     /// Want of memory: nothing is written.
@@ -102,8 +99,8 @@ impl Reply {
         match self {
             Reply::Yes { .. } => Status::Done,
             Reply::No { .. } => Status::No,
-            Reply::Refused(_) => Status::Input,
-            Reply::Unread => Status::ReadFault,
+            Reply::Refused { .. } => Status::Input,
+            Reply::Unread { .. } => Status::ReadFault,
             Reply::Words => Status::Words,
             Reply::NoMemory => Status::NoMemory,
         }
@@ -124,18 +121,18 @@ impl Reply {
                 to.number(i128::from(line));
                 to.word(rule_word(rule));
             }
-            Reply::Refused(fault) => {
+            Reply::Refused { file, fault } => {
                 to.word(b"refused");
-                to.number(1);
-                to.number(i128::from(fault.number()));
+                to.natural(u64::from(file));
+                to.natural(u64::from(fault.number()));
                 match fault.line() {
-                    Some(line) => to.number(i128::from(line)),
+                    Some(line) => to.natural(line),
                     None => to.word(b"-"),
                 }
             }
-            Reply::Unread => {
+            Reply::Unread { file } => {
                 to.word(b"unread");
-                to.number(1);
+                to.natural(u64::from(file));
             }
             Reply::Words => {
                 to.word(b"words");

@@ -1,15 +1,17 @@
 //! The top call: it answers the words of the program.
-ghost use Rattle.std.specs.Prelude.{◌≡◌, ◌∷◌, [], ℕ, List, map, string_bytes, codes, MatchOption};
+ghost use Rattle.std.specs.Prelude.{◌≡◌, ℕ, List, map, string_bytes};
 ghost use Rattle.ice_edge.specs.Edge.{Appends};
-ghost use Rattle.ice_cli.specs.Command.{check, IsCommand};
 ghost use Rattle.ice_cli.specs.CheckServed.{CheckAnswers};
 ghost use Rattle.ice_cli.specs.Served.{IsServed};
-ghost use Rattle.ice_cli.specs.Replies.{reply_text, reply_status, IsReplyTo, IsSaid};
+ghost use Rattle.ice_cli.specs.Replies.{reply_text, reply_status, IsReplyTo};
+ghost use Rattle.ice_cli.specs.Outcomes.{outcome_text, outcome_status};
 
-use crate::reply::{JournalFault, Reply};
+use crate::best::best;
+use crate::command::{Command, command_in};
+use crate::outcome::Outcome;
+use crate::reply::{FileFault, Reply};
 use ice_check::{Answer, CheckEnd};
 use ice_edge::{FetchFault, Shelf, Sink, Status};
-use ice_line::LineWriter;
 use std::alloc::Global;
 
 /// The most bytes of a journal.
@@ -22,9 +24,18 @@ fn reply_to_bytes(alloc: Global, bytes: &[u8]) -> Reply
     match ice_check::check(alloc, bytes) {
         Ok(Answer::Assign { value }) => Reply::Yes { value },
         Ok(Answer::No { line, rule }) => Reply::No { line, rule },
-        Err(CheckEnd::Grammar { line }) => Reply::Refused(JournalFault::Grammar { line }),
-        Err(CheckEnd::Unended { line }) => Reply::Refused(JournalFault::Unended { line }),
-        Err(CheckEnd::OtherKind) => Reply::Refused(JournalFault::OtherKind),
+        Err(CheckEnd::Grammar { line }) => Reply::Refused {
+            file: 1,
+            fault: FileFault::AtLine { number: 50, line },
+        },
+        Err(CheckEnd::Unended { line }) => Reply::Refused {
+            file: 1,
+            fault: FileFault::AtLine { number: 51, line },
+        },
+        Err(CheckEnd::OtherKind) => Reply::Refused {
+            file: 1,
+            fault: FileFault::OtherKind,
+        },
         Err(CheckEnd::NoMemory) => Reply::NoMemory,
     }
 }
@@ -45,28 +56,18 @@ fn check_journal<H: Shelf>(alloc: Global, name: &str, shelf: &mut H) -> Reply
     }) name.now (reply_status result) }
 {
     match shelf.fetch(alloc, name, JOURNAL_LIMIT) {
-        Err(FetchFault::Failed) => Reply::Unread,
-        Err(FetchFault::TooLong) => Reply::Refused(JournalFault::TooLong),
+        Err(FetchFault::Failed) => Reply::Unread { file: 1 },
+        Err(FetchFault::TooLong) => Reply::Refused {
+            file: 1,
+            fault: FileFault::TooLong,
+        },
         Err(FetchFault::NoMemory) => Reply::NoMemory,
         Ok(bytes) => reply_to_bytes(alloc, &bytes),
     }
 }
 
-/// The journal that the words of `check` name.
-fn journal_to_check(words: &[String]) -> Option<&str>
-    ensures { MatchOption result ((name : List ℕ) → map string_bytes words.now ≡ codes "check" ∷ name ∷ [] → ⊥) (λ name. map string_bytes words.now ≡ codes "check" ∷ name.now ∷ []) }
-{
-    let (word, rest) = words.split_first()?;
-    let (name, rest) = rest.split_first()?;
-    if word.as_str() == "check" && rest.is_empty() {
-        Some(name.as_str())
-    } else {
-        None
-    }
-}
-
-/// The reply to the words behind the program's name.
-fn reply_to<H: Shelf>(alloc: Global, words: &[String], shelf: &mut H) -> Reply
+/// What is written at the words behind the program's name.
+fn outcome_of<H: Shelf>(alloc: Global, words: &[String], shelf: &mut H) -> Outcome
     ensures { (before after : ℕ) → IsServed (record {
       words = map string_bytes words.now;
       holds = H.holds shelf.old;
@@ -76,32 +77,19 @@ fn reply_to<H: Shelf>(alloc: Global, words: &[String], shelf: &mut H) -> Reply
       overlong_after = H.overlong shelf.new;
       sink_faults = before;
       sink_faults_after = after;
-      text = reply_text result;
-      status = reply_status result;
+      text = outcome_text result;
+      status = outcome_status result;
     }) }
 {
-    match journal_to_check(words) {
-        Some(name) => check_journal(alloc, name, shelf),
-        None => Reply::Words,
+    match command_in(words) {
+        Some(Command::Check { journal }) => Outcome::Line(check_journal(alloc, journal, shelf)),
+        Some(Command::Best { exchange, prices }) => best(alloc, exchange, prices, shelf),
+        None => Outcome::Line(Reply::Words),
     }
 }
 
-/// Writes the reply's line in one put, and ends with its status, or with `WriteFault` where the sink fails.
-fn say<K: Sink>(reply: &Reply, out: &mut K) -> Status
-    ensures { IsSaid (reply_text reply.now) (reply_status reply.now) result (K.written out.old) (K.written out.new) (K.faults out.old) (K.faults out.new) }
-{
-    let mut writer = LineWriter::new();
-    let line = reply.write(&mut writer);
-    if line.is_empty() {
-        return reply.status();
-    }
-    match out.put(line) {
-        Ok(()) => reply.status(),
-        Err(_) => Status::WriteFault,
-    }
-}
-
-/// Answers the words behind the program's name: `check JOURNAL` writes the checker's answer on a journal.
+/// Answers the words behind the program's name: `check JOURNAL` writes the checker's answer on a journal, and
+/// `best EXCHANGE PRICES` writes the best set of each bidder at prices.
 ///
 /// Files come from `shelf`, output goes to `out`, and each line with its newline is one put. The status says how the
 /// call ended, and the clause ties it to the words, to what the shelf told, to the counts of faults that rose in this
@@ -126,6 +114,6 @@ pub fn serve<H: Shelf, K: Sink>(
           status = result;
         }) }
 {
-    let reply = reply_to(alloc, words, shelf);
-    say(&reply, out)
+    let outcome = outcome_of(alloc, words, shelf);
+    outcome.say(out)
 }

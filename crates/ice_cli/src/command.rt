@@ -1,0 +1,49 @@
+//! The words behind the program's name.
+ghost use Rattle.std.specs.Prelude.{◌≡◌, ◌∷◌, [], ℕ, List, map, string_bytes, MatchOption};
+ghost use Rattle.ice_cli.specs.Command.{IsCommand, IsNoCommand};
+ghost use Rattle.ice_cli.specs.Words.{command_of};
+
+/// A command, with the names of its files.
+pub enum Command<'a> {
+    Check { journal: &'a str },
+    Best { exchange: &'a str, prices: &'a str },
+}
+
+/// The word, where there is no other.
+fn one_word(words: &[String]) -> Option<&str>
+    ensures { MatchOption result ((word : List ℕ) → map string_bytes words.now ≡ word ∷ [] → ⊥) (λ word. map string_bytes words.now ≡ word.now ∷ []) }
+{
+    let (word, rest) = words.split_first()?;
+    if rest.is_empty() {
+        Some(word.as_str())
+    } else {
+        None
+    }
+}
+
+/// The two words, where there are two.
+fn two_words(words: &[String]) -> Option<(&str, &str)>
+    ensures { MatchOption result ((one other : List ℕ) → map string_bytes words.now ≡ one ∷ other ∷ [] → ⊥) (λ two. map string_bytes words.now ≡ two.0.now ∷ two.1.now ∷ []) }
+{
+    let (one, rest) = words.split_first()?;
+    let other = one_word(rest)?;
+    Some((one.as_str(), other))
+}
+
+/// The command that the words are; None exactly where they are none.
+pub fn command_in(words: &[String]) -> Option<Command<'_>>
+    ensures { MatchOption result (IsNoCommand (map string_bytes words.now)) (λ command. IsCommand (map string_bytes words.now) (command_of command)) }
+{
+    let (word, names) = words.split_first()?;
+    match word.as_str() {
+        "check" => {
+            let journal = one_word(names)?;
+            Some(Command::Check { journal })
+        }
+        "best" => {
+            let (exchange, prices) = two_words(names)?;
+            Some(Command::Best { exchange, prices })
+        }
+        _ => None,
+    }
+}
