@@ -4,6 +4,7 @@
 mod cause;
 mod fault;
 mod place;
+mod settings;
 mod values;
 
 pub use cause::ReadCause;
