@@ -3,6 +3,8 @@
 
 mod cause;
 mod fault;
+mod goods;
+mod leaf;
 mod place;
 mod settings;
 mod values;
