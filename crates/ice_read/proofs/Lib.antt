@@ -1,3 +1,4 @@
 pub mod Placing
 pub mod Whole
 pub mod Exactly
+pub mod Refusing

@@ -46,3 +46,8 @@ missing part fault is =
 
 pub as_fault : {X : Type 0} (r : Result X ReadFault) (fault : ReadFault) (read : Path → Read X) → r ≡ Err fault → IsFault fault read → IsReading r read
 as_fault r fault read is h = rw is h
+
+-- a fault of a part
+pub refused_part : {X : Type 0} (number : ℕ) (cause : ReadCause) (part : List ℕ) (inner outer : ReadFault) → inner ≡ record { place = []; cause = cause } → outer ≡ record { place = (46 ∷ part) ++ inner.place; cause = inner.cause }
+    → unwrap_or (cause_number cause) 0 ≡ number → (path : Path) → refuse {X = X} number (path ++ part ∷ []) ≡ Err (fault_at path outer)
+refused_part number cause part inner outer here is numbered = deeper (refuse number) part inner outer (refused number cause inner here numbered) is
