@@ -2,3 +2,4 @@ pub mod Placing
 pub mod Whole
 pub mod Exactly
 pub mod Refusing
+pub mod Pairs

@@ -2,6 +2,7 @@
 #![tactic(auto)]
 
 mod cause;
+mod choose;
 mod fault;
 mod goods;
 mod leaf;
