@@ -8,6 +8,7 @@ mod goods;
 mod leaf;
 mod place;
 mod settings;
+mod tree;
 mod values;
 
 pub use cause::ReadCause;
