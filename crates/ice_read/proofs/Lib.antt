@@ -3,3 +3,4 @@ pub mod Whole
 pub mod Exactly
 pub mod Refusing
 pub mod Pairs
+pub mod Grown
