@@ -168,7 +168,7 @@ leaf-added : (goods : List (List ℕ)) (levels parent : ℕ) (path : Path) (draf
     → AreAdded parent 1 draft.tree new.tree
 leaf-added goods levels parent path draft new word kind d held e =
     let read = four (of_member path d word (good_at goods)) (of_member path d (codes "units") (λ p. whole_of p (pos 1) (pos 1000))) (of_member path d (codes "lo") value_at) (of_member path d (codes "hi") value_at)
-        (λ good units lo hi. make goods levels parent path draft (kind good (natural units)) lo hi) new e in
+    (λ good units lo hi. make goods levels parent path draft (kind good (natural units)) lo hi) new e in
     let made = make-made goods levels parent path draft new (kind read.first (natural read.second)) read.third read.fourth read.end in
     rw made.is (one_added draft.tree (kind read.first (natural read.second)) parent held made.room)
 
@@ -181,7 +181,7 @@ pub record IsOpened (parent : ℕ) (draft : Draft) (levels : ℕ) (o : Opened) :
 pub opened-made : (goods : List (List ℕ)) (levels parent : ℕ) (path : Path) (draft : Draft) (d : Data) (o : Opened) → opened_at goods levels parent path draft d ≡ Ok o → IsOpened parent draft levels o
 opened-made goods levels parent path draft d o e =
     let read = four (of_member path d (codes "choose") interval_at) (of_member path d (codes "lo") value_at) (of_member path d (codes "hi") value_at) (of_member path d (codes "of") array_of)
-        (λ interval lo hi items. make goods levels parent path draft (Choose interval.least interval.most) lo hi >>= λ made. Ok (record { interval = interval; items = items; made = made })) o e in
+    (λ interval lo hi items. make goods levels parent path draft (Choose interval.least interval.most) lo hi >>= λ made. Ok (record { interval = interval; items = items; made = made })) o e in
     let made = step (make goods levels parent path draft (Choose read.first.least read.first.most) read.second read.third) (λ made. Ok (record { interval = read.first; items = read.fourth; made = made })) o read.end in
     let is : record { interval = read.first; items = read.fourth; made = made.0 } ≡ o = cc in
     subst (IsOpened parent draft levels) is (record { lo = read.second; hi = read.third; made = make-made goods levels parent path draft made.0 (Choose read.first.least read.first.most) read.second read.third made.1 })

@@ -4,3 +4,4 @@ pub mod Exactly
 pub mod Refusing
 pub mod Pairs
 pub mod Grown
+pub mod Nodes
