@@ -1,0 +1,16 @@
+//! Exchange and round files in JSON.
+#![tactic(auto)]
+
+mod cause;
+mod choose;
+mod fault;
+mod goods;
+mod leaf;
+mod place;
+mod settings;
+mod tree;
+mod values;
+
+pub use cause::ReadCause;
+pub use fault::ReadFault;
+pub use place::Place;
