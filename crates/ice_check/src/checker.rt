@@ -67,7 +67,7 @@ impl Checker {
     {
         !matches!(
             self.stage,
-            Stage::Begin | Stage::Describing(_) | Stage::OutOfMemory
+            Stage::Begin | Stage::Describing(_, _) | Stage::OutOfMemory
         )
     }
 

@@ -6,11 +6,12 @@ ghost use Rattle.ice_check.specs.Assigning.{AreBalanced, AreShort};
 ghost use Rattle.ice_defs.specs.Trade.{set_of, tree_of, total_value};
 ghost use Rattle.ice_defs.specs.Weighing.{lower_weights};
 
-use crate::value::total_value;
+use crate::value::{total_value, total_worth};
 use ice_trade::Exchange;
-use ice_tree::{Assignment, NoMemory, NodeSet, Tree};
+use ice_tree::{AllWeights, Assignment, Bounds, NoMemory, NodeSet, Tree};
 use std::alloc::Global;
 use std::marker::Model;
+use std::mem;
 
 /// An exchange, and the sets that are stated for its first bidders.
 #[derive(Drop)]
@@ -83,5 +84,31 @@ impl Stated {
         ensures { result ≡ total_value self.now.sets (lower_weights (opening_bounds self.now.exchange)) }
     {
         total_value(&self.sets, self.exchange.bounds(), self.taken)
+    }
+
+    /// The trees of the bidders.
+    pub(crate) fn trees(&self) -> &[Tree] {
+        self.exchange.trees()
+    }
+
+    /// The opening bounds of the bidders.
+    pub(crate) fn bounds(&self) -> &[Bounds] {
+        self.exchange.bounds()
+    }
+
+    /// For each good whether it is exact.
+    pub(crate) fn exact(&self) -> &[bool] {
+        self.exchange.exact()
+    }
+
+    /// The value of the sets at weights, where each bidder has one.
+    pub(crate) fn value_at(&self, weights: &AllWeights) -> i128 {
+        total_worth(self.exchange.trees(), &self.sets, weights)
+    }
+
+    /// Hands over the sets, of which each bidder has one, for room for new ones.
+    pub(crate) fn hand_over(&mut self, sets: &mut Assignment) {
+        mem::swap(&mut self.sets, sets);
+        self.taken = 0;
     }
 }
