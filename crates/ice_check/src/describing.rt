@@ -1,11 +1,11 @@
 //! What each record makes of a journal up to the end of its exchange.
-ghost use Rattle.std.specs.Prelude.{◌≡◌, ◌&&◌, suc, false, IsTrue, IfOk, MatchOption};
+ghost use Rattle.std.specs.Prelude.{◌≡◌, ◌&&◌, suc, false, is_some, IsTrue, IfOk, MatchOption};
 ghost use Rattle.ice_journal.specs.Lines.{record_of};
 ghost use Rattle.ice_journal.specs.Ranges.{IsRecord};
 ghost use Rattle.ice_journal.specs.Records as records;
 ghost use Rattle.ice_section.specs.Section.{may_end};
-ghost use Rattle.ice_check.specs.Fields.{is_assign, is_spent};
-ghost use Rattle.ice_check.specs.Heads.{kind_of_head, ends_section};
+ghost use Rattle.ice_check.specs.Fields.{is_assign, is_spent, final_value};
+ghost use Rattle.ice_check.specs.Heads.{ends_section};
 ghost use Rattle.ice_check.specs.Progress.{after_head, IsAfter};
 ghost use Rattle.ice_check.specs.Stages.{progress_of, IsWithin, section_rule};
 
@@ -53,7 +53,7 @@ fn describe_more(
 ) -> Result<Stage, NoMemory>
     requires within { IsWithin number (Stage.Describing head section) }
     requires lawful { IsRecord (record_of line.now) }
-    requires more { (may_end section && ends_section (kind_of_head head) (record_of line.now)) ≡ false }
+    requires more { (may_end section && ends_section head (record_of line.now)) ≡ false }
     ensures after { IfOk result (λ next. IsAfter (progress_of number (Stage.Describing head section)) (record_of line.now) (progress_of (suc number) next)) }
     ensures within { IfOk result (λ next. IsWithin (suc number) next) }
 {

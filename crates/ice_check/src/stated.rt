@@ -2,7 +2,9 @@
 ghost use Rattle.std.specs.Prelude.{◌≡◌, ◌<◌, ◌≤◌, ◌++◌, [], ◌∷◌, length, IfOk, IsTrue, ◌↔◌, MatchBool};
 ghost use Rattle.ice_defs.specs.Exchange.{trees_of, opening_bounds};
 ghost use Rattle.ice_defs.specs.Set.{IsSatisfied};
-ghost use Rattle.ice_check.specs.Assigning.{AreBalanced, AreShort};
+ghost use Rattle.ice_defs.specs.Lawful.{IsExchange};
+ghost use Rattle.ice_bound.specs.Conditions.{AreWeightsOf};
+ghost use Rattle.ice_check.specs.Assigning.{AreBalanced, AreShort, AreSized};
 ghost use Rattle.ice_defs.specs.Trade.{set_of, tree_of, total_value};
 ghost use Rattle.ice_defs.specs.Weighing.{lower_weights};
 
@@ -87,27 +89,38 @@ impl Stated {
     }
 
     /// The trees of the bidders.
-    pub(crate) fn trees(&self) -> &[Tree] {
+    pub(crate) fn trees(&self) -> &[Tree]
+        ensures value { result.now ≡ trees_of self.now.exchange }
+        ensures lawful { IsExchange self.now.exchange }
+    {
         self.exchange.trees()
     }
 
     /// The opening bounds of the bidders.
-    pub(crate) fn bounds(&self) -> &[Bounds] {
+    pub(crate) fn bounds(&self) -> &[Bounds]
+        ensures value { result.now ≡ opening_bounds self.now.exchange }
+        ensures lawful { IsExchange self.now.exchange }
+    {
         self.exchange.bounds()
     }
 
-    /// For each good whether it is exact.
-    pub(crate) fn exact(&self) -> &[bool] {
-        self.exchange.exact()
-    }
-
     /// The value of the sets at weights, where each bidder has one.
-    pub(crate) fn value_at(&self, weights: &AllWeights) -> i128 {
+    pub(crate) fn value_at(&self, weights: &AllWeights) -> i128
+        requires full { length self.now.sets ≡ length (trees_of self.now.exchange) }
+        requires weights { AreWeightsOf (trees_of self.now.exchange) weights.now }
+        ensures { result ≡ total_value self.now.sets weights.now }
+    {
         total_worth(self.exchange.trees(), &self.sets, weights)
     }
 
     /// Hands over the sets, of which each bidder has one, for room for new ones.
-    pub(crate) fn hand_over(&mut self, sets: &mut Assignment) {
+    pub(crate) fn hand_over(&mut self, sets: &mut Assignment)
+        requires full { length self.old.sets ≡ length (trees_of self.old.exchange) }
+        requires room { AreSized (trees_of self.old.exchange) sets.old }
+        ensures left { self.new ≡ record { exchange = self.old.exchange; sets = [] } }
+        ensures sets { sets.new ≡ self.old.sets }
+        ensures room { AreSized (trees_of self.old.exchange) sets.new }
+    {
         mem::swap(&mut self.sets, sets);
         self.taken = 0;
     }

@@ -9,4 +9,4 @@ pub returns-in-Some-clause-after : goal.returns-in-Some-clause-after
 returns-in-Some-clause-after c =
     let x = c.args.set.now in
     let y = c.in-Some.rule in
-    broken_takes c.args.number c.args.stated.exchange c.args.stated.sets x y c.requires.1 (subst (λ (t : Tree). IsBroken t x (Some y)) c.tree.ensures c.in-Some.ensures)
+    broken_takes c.args.number c.args.stated.exchange c.args.stated.sets x y c.requires (subst (λ (t : Tree). IsBroken t x (Some y)) c.tree.ensures c.in-Some.ensures)
