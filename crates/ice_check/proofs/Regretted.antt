@@ -1,0 +1,108 @@
+-- A regret journal that passes each test states a lawful exchange, the best value at lower values, and the exact regret of its sets.
+use Rattle.std.proofs.Common.{◌≡◌, ◌<◌, ℕ, zero, suc, Bool, true, false, cond, List, [], ◌∷◌, ◌++◌, length, map, get_or, ℤ, refl, sym, ◌∙◌, ap, subst, arith}
+use Rattle.std.specs.Prelude.{None, ◌-ℤ◌}
+use Rattle.std.specs.List.{AllByRecursion}
+use Rattle.std.proofs.lemmas.List.{append_assoc, append-nil, length-map}
+use Rattle.std.proofs.lemmas.Bool.{false≢true}
+use Rattle.ice_defs.specs.Trade.{Assignment, tree_of, IsFeasible, total_value, IsBestOfAll}
+use Rattle.ice_defs.specs.Bounds.{Bounds, bounds_of, no_bounds}
+use Rattle.ice_defs.specs.Weighing.{lower_weights, perturbed_weights}
+use Rattle.ice_defs.specs.Market.{Market}
+use Rattle.ice_defs.specs.Regret.{IsRegret}
+use Rattle.ice_defs.specs.Exchange.{Bidder, Exchange, trees_of, exact_of, opening_bounds, market_of}
+use Rattle.ice_defs.specs.Lawful.{AreBounds, IsBidder, IsExchange}
+use Rattle.ice_defs.specs.Session.{Settlement, Regretted}
+use Rattle.ice_defs.specs.Right.{IsSettled}
+use Rattle.ice_journal.specs.Records.{Record, Version, version_1, version_2, Kind, assign_kind, regret_kind, session_kind, exchange_kind, prices_kind, regret_end}
+use Rattle.ice_journal.specs.Records as line
+use Rattle.ice_journal.specs.Ranges.{IsRecord}
+use Rattle.ice_journal.specs.Plain.{goods_in, all_zero, plain_records, plain}
+use Rattle.ice_section.specs.Described.{section_records}
+use Rattle.ice_section.specs.Laws.{SectionIsLawful, SectionRecords}
+use Rattle.ice_refute.specs.Laws.{LogRefutes}
+use Rattle.ice_check.specs.State.{Place, done, State, begun, exchange_at, goods_at}
+use Rattle.ice_check.specs.Checks.{is_checked, Tested, passes, goes_on}
+use Rattle.ice_check.specs.Theorems.{Says, IsRightRegret, IsRegrettedAt, AreRegretted, DoneIsRegretted, ChecksGiveRegret}
+use Rattle.ice_check.specs.Written.{regret_records, regretted_records}
+use Rattle.ice_check.specs.Progress.{Progress, nothing, other_kind, passing, passes_on, fails_at, list_fails_at, after_head, Leads, stays, goes}
+use Rattle.ice_check.proofs.Leading.{failed_passes, other_passes}
+use Rattle.ice_check.proofs.Plaining.{Wrote, said_by}
+use Rattle.ice_check.proofs.Grouping.{Tells}
+use Rattle.ice_check.proofs.Regretting.{IsOpening, AreSettled, IsAt, IsStanding, standing_more}
+
+-- the best perturbed value less the final value is the regret
+abbrev PerturbedGivesRegret : Type 0
+PerturbedGivesRegret = (market : Market) (bounds : List Bounds) (final : Assignment) (best : ℤ)
+    → length bounds ≡ length market.trees → ((b : ℕ) → b < length market.trees → AreBounds (length (tree_of market.trees b)) (bounds_of bounds b))
+    → IsFeasible market.trees market.exact final → IsBestOfAll market.trees market.exact (perturbed_weights final bounds) best
+    → IsRegret market bounds final (best -ℤ total_value final (lower_weights bounds))
+
+all_left : (xs ys : List Record) → AllByRecursion IsRecord (xs ++ ys) → AllByRecursion IsRecord xs
+all_left [] ys h = tt
+all_left (x ∷ xs) ys h = (h.0, all_left xs ys h.1)
+
+-- the opening bounds of each bidder are bounds of its tree
+each_bounds : (goods : ℕ) (bidders : List Bidder) → AllByRecursion (IsBidder goods) bidders → (b : ℕ) → b < length (map (λ x. x.tree) bidders)
+    → AreBounds (length (tree_of (map (λ x. x.tree) bidders) b)) (bounds_of (map (λ x. x.bounds) bidders) b)
+each_bounds goods [] are b there = absurd (omega arith)
+each_bounds goods (x ∷ bidders) are zero there = are.0.bounds
+each_bounds goods (x ∷ bidders) are (suc b) there = each_bounds goods bidders are.1 b (omega arith)
+
+same_count : (ex : Exchange) → length (opening_bounds ex) ≡ length (trees_of ex)
+same_count ex = length-map ex.bidders (λ (b : Bidder). b.bounds) ∙ sym (length-map ex.bidders (λ (b : Bidder). b.tree))
+
+-- the version 1 journal
+whole_says : (version : Version) (goods : ℕ) (kind : Kind) (rest written : List Record) → Wrote version goods rest written → plain (line.head version kind ∷ rest) ≡ line.head version_1 kind ∷ written
+whole_says version_1 goods kind rest written is = ap (λ (rs : List Record). line.head version_1 kind ∷ rs) is.said
+whole_says version_2 goods kind rest written is =
+    ap (λ (n : ℕ). line.head version_1 kind ∷ plain_records n (all_zero n) rest) is.goods ∙ ap (λ (rs : List Record). line.head version_1 kind ∷ rs) is.said
+
+-- journals that pass
+tested_leads : (s : State) (records : List Record) → Tested s records None → (t : State) × Leads (passing s) records (passing t) × (t.place ≡ done)
+tested_leads s [] (passes e) = (s, stays, e)
+tested_leads s (r ∷ rest) (goes_on {after = after} list none holds is t) =
+    let (end, l, e) = tested_leads after rest t in
+    (end, goes (passes_on list none holds is) l, e)
+
+module _ (lawful : SectionIsLawful) (described : SectionRecords) (refutes : LogRefutes) (perturbed : PerturbedGivesRegret) where
+  -- the two groups give the regret
+  settled_right : (ex : Exchange) (x : Settlement) → IsExchange ex → AreSettled ex (opening_bounds ex) x → IsSettled ex (opening_bounds ex) x
+  settled_right ex x exchange are = record {
+    final = are.final;
+    rival = are.rival;
+    regret =
+      subst (IsRegret (market_of ex) (opening_bounds ex) x.final.sets) (ap (λ (v : ℤ). x.rival.value -ℤ v) are.final.value ∙ sym are.amount)
+      (perturbed (market_of ex) (opening_bounds ex) x.final.sets x.rival.value (same_count ex) (each_bounds (length ex.goods) ex.bidders exchange.bidders) are.final.feasible are.rival.best);
+  }
+
+  -- what stands at the end
+  at_end : (version : Version) (rest : List Record) (s : State) → IsStanding version rest s → IsAt rest s done → AreRegretted (line.head version regret_kind ∷ rest) s
+  at_end version rest s h (x, opening, settled, regret, tells) = (record { exchange = exchange_at s; settlement = x }, record {
+    says =
+      whole_says version (goods_at s) regret_kind rest _ (subst (λ (v : Version). Wrote v (goods_at s) rest (section_records (exchange_at s) ++ (regret_records x ++ line.end regret_end ∷ []))) h.same_version tells.wrote)
+      ∙ ap (λ (rs : List Record). line.head version_1 regret_kind ∷ rs) (sym (append_assoc (section_records (exchange_at s)) (regret_records x) (line.end regret_end ∷ [])));
+    right = record {
+      exchange = tells.exchange;
+      settled = settled_right (exchange_at s) x tells.exchange (subst (λ (bounds : List Bounds). AreSettled (exchange_at s) bounds x) opening settled);
+    };
+    exchange = refl;
+    regret = regret;
+  })
+
+  -- each record that passes goes along
+  leads_standing : (version : Version) (before : List Record) (s t : State) (records : List Record) → AllByRecursion IsRecord (before ++ records) → IsStanding version before s → Leads (passing s) records (passing t)
+      → IsStanding version (before ++ records) t
+  leads_standing version before s t [] all h stays = subst (λ (rs : List Record). IsStanding version rs t) (sym (append-nil before)) h
+  leads_standing version before s t (r ∷ rest) all h (goes (passes_on {after = after} list none holds is) l) =
+      subst (λ (rs : List Record). IsStanding version rs t) (append_assoc before (r ∷ []) rest)
+      (leads_standing version (before ++ r ∷ []) after t rest (subst (AllByRecursion IsRecord) (sym (append_assoc before (r ∷ []) rest)) all)
+        (standing_more lawful described refutes version before s r after (all_left before (r ∷ rest) all) h is none holds) l)
+  leads_standing version before s t (r ∷ rest) all h (goes (fails_at list f) l) = absurd (failed_passes _ rest t l)
+  leads_standing version before s t (r ∷ rest) all h (goes (list_fails_at e n) l) = absurd (failed_passes _ rest t l)
+
+  -- after a head of kind regret
+  from_begun : (version : Version) (rest : List Record) (s : State) → AllByRecursion IsRecord rest → Leads (passing (begun version regret_kind)) rest (passing s) → s.place ≡ done
+      → AreRegretted (line.head version regret_kind ∷ rest) s
+  from_begun version rest s all l place =
+      let h = leads_standing version [] (begun version regret_kind) s rest all (record { same_version = refl; kind = refl; place = refl }) l in
+      at_end version rest s h (subst (λ (p : Place). IsAt rest s p) place h.place)
