@@ -30,7 +30,7 @@ use Rattle.ice_refute.proofs.Reading.{Stands, stands_at_start, stands_more, stan
 use Rattle.ice_check.specs.declared.rule.Rule.{Rule}
 use Rattle.ice_check.specs.declared.rule.Rule.TheVariants as rule
 use Rattle.ice_check.specs.Fields.{head_value, is_spent, is_limit, is_round_stop, step_in, multipliers_after}
-use Rattle.ice_check.specs.State.{Stated, Place, at_group, at_sets, at_log, at_spent_sets, State, exchange_at, trees_at, exact_at, goods_at, weights_at}
+use Rattle.ice_check.specs.State.{Stated, at_sets, at_log, at_spent_sets, State, exchange_at, trees_at, exact_at, goods_at, weights_at}
 use Rattle.ice_check.specs.Next.{next, go_to, to_line, bidder_count, from_head, if_true, with_set, after_sets, after_log, after_step}
 use Rattle.ice_check.specs.Tests.{Fails, Complete, is_valued, Taken, taken_step, IsClosing, HasSign, IsFixed, IsAlive}
 use Rattle.ice_check.specs.Written.{proved_records}

@@ -1,34 +1,33 @@
 -- A regret journal that passes each test states a lawful exchange, the best value at lower values, and the exact regret of its sets.
-use Rattle.std.proofs.Common.{◌≡◌, ◌<◌, ℕ, zero, suc, Bool, true, false, cond, List, [], ◌∷◌, ◌++◌, length, map, get_or, ℤ, refl, sym, ◌∙◌, ap, subst, arith}
+use Rattle.std.proofs.Common.{◌≡◌, ◌<◌, ℕ, zero, suc, List, [], ◌∷◌, ◌++◌, length, map, ℤ, refl, sym, ◌∙◌, ap, subst, arith}
 use Rattle.std.specs.Prelude.{None, ◌-ℤ◌}
 use Rattle.std.specs.List.{AllByRecursion}
 use Rattle.std.proofs.lemmas.List.{append_assoc, append-nil, length-map}
-use Rattle.std.proofs.lemmas.Bool.{false≢true}
 use Rattle.ice_defs.specs.Trade.{Assignment, tree_of, IsFeasible, total_value, IsBestOfAll}
-use Rattle.ice_defs.specs.Bounds.{Bounds, bounds_of, no_bounds}
+use Rattle.ice_defs.specs.Bounds.{Bounds, bounds_of}
 use Rattle.ice_defs.specs.Weighing.{lower_weights, perturbed_weights}
 use Rattle.ice_defs.specs.Market.{Market}
 use Rattle.ice_defs.specs.Regret.{IsRegret}
-use Rattle.ice_defs.specs.Exchange.{Bidder, Exchange, trees_of, exact_of, opening_bounds, market_of}
+use Rattle.ice_defs.specs.Exchange.{Bidder, Exchange, trees_of, opening_bounds, market_of}
 use Rattle.ice_defs.specs.Lawful.{AreBounds, IsBidder, IsExchange}
-use Rattle.ice_defs.specs.Session.{Settlement, Regretted}
+use Rattle.ice_defs.specs.Session.{Settlement}
 use Rattle.ice_defs.specs.Right.{IsSettled}
 use Rattle.ice_journal.specs.Records.{Record, Version, version_1, version_2, Kind, assign_kind, regret_kind, session_kind, exchange_kind, prices_kind, regret_end}
 use Rattle.ice_journal.specs.Records as line
 use Rattle.ice_journal.specs.Ranges.{IsRecord}
-use Rattle.ice_journal.specs.Plain.{goods_in, all_zero, plain_records, plain}
+use Rattle.ice_journal.specs.Plain.{all_zero, plain_records, plain}
 use Rattle.ice_section.specs.Described.{section_records}
 use Rattle.ice_section.specs.Laws.{SectionIsLawful, SectionRecords}
 use Rattle.ice_refute.specs.Laws.{LogRefutes}
 use Rattle.ice_check.specs.State.{Place, done, State, begun, exchange_at, goods_at}
-use Rattle.ice_check.specs.Checks.{is_checked, Tested, passes, goes_on}
-use Rattle.ice_check.specs.Theorems.{Says, IsRightRegret, IsRegrettedAt, AreRegretted, DoneIsRegretted, ChecksGiveRegret}
-use Rattle.ice_check.specs.Written.{regret_records, regretted_records}
-use Rattle.ice_check.specs.Progress.{Progress, nothing, other_kind, passing, passes_on, fails_at, list_fails_at, after_head, Leads, stays, goes}
-use Rattle.ice_check.proofs.Leading.{failed_passes, other_passes}
-use Rattle.ice_check.proofs.Plaining.{Wrote, said_by}
-use Rattle.ice_check.proofs.Grouping.{Tells}
-use Rattle.ice_check.proofs.Regretting.{IsOpening, AreSettled, IsAt, IsStanding, standing_more}
+use Rattle.ice_check.specs.Checks.{Tested}
+use Rattle.ice_check.specs.Theorems.{AreRegretted, DoneIsRegretted, ChecksGiveRegret}
+use Rattle.ice_check.specs.Written.{regret_records}
+use Rattle.ice_check.specs.Progress.{passing, passes_on, fails_at, list_fails_at, Leads, stays, goes}
+use Rattle.ice_check.proofs.Leading.{failed_passes}
+use Rattle.ice_check.proofs.Heads.{headed, tested_leads, all_left}
+use Rattle.ice_check.proofs.Plaining.{Wrote}
+use Rattle.ice_check.proofs.Regretting.{AreSettled, IsAt, IsStanding, standing_more}
 
 -- the best perturbed value less the final value is the regret
 abbrev PerturbedGivesRegret : Type 0
@@ -36,10 +35,6 @@ PerturbedGivesRegret = (market : Market) (bounds : List Bounds) (final : Assignm
     → length bounds ≡ length market.trees → ((b : ℕ) → b < length market.trees → AreBounds (length (tree_of market.trees b)) (bounds_of bounds b))
     → IsFeasible market.trees market.exact final → IsBestOfAll market.trees market.exact (perturbed_weights final bounds) best
     → IsRegret market bounds final (best -ℤ total_value final (lower_weights bounds))
-
-all_left : (xs ys : List Record) → AllByRecursion IsRecord (xs ++ ys) → AllByRecursion IsRecord xs
-all_left [] ys h = tt
-all_left (x ∷ xs) ys h = (h.0, all_left xs ys h.1)
 
 -- the opening bounds of each bidder are bounds of its tree
 each_bounds : (goods : ℕ) (bidders : List Bidder) → AllByRecursion (IsBidder goods) bidders → (b : ℕ) → b < length (map (λ x. x.tree) bidders)
@@ -56,13 +51,6 @@ whole_says : (version : Version) (goods : ℕ) (kind : Kind) (rest written : Lis
 whole_says version_1 goods kind rest written is = ap (λ (rs : List Record). line.head version_1 kind ∷ rs) is.said
 whole_says version_2 goods kind rest written is =
     ap (λ (n : ℕ). line.head version_1 kind ∷ plain_records n (all_zero n) rest) is.goods ∙ ap (λ (rs : List Record). line.head version_1 kind ∷ rs) is.said
-
--- journals that pass
-tested_leads : (s : State) (records : List Record) → Tested s records None → (t : State) × Leads (passing s) records (passing t) × (t.place ≡ done)
-tested_leads s [] (passes e) = (s, stays, e)
-tested_leads s (r ∷ rest) (goes_on {after = after} list none holds is t) =
-    let (end, l, e) = tested_leads after rest t in
-    (end, goes (passes_on list none holds is) l, e)
 
 module _ (lawful : SectionIsLawful) (described : SectionRecords) (refutes : LogRefutes) (perturbed : PerturbedGivesRegret) where
   -- the two groups give the regret
@@ -106,3 +94,19 @@ module _ (lawful : SectionIsLawful) (described : SectionRecords) (refutes : LogR
   from_begun version rest s all l place =
       let h = leads_standing version [] (begun version regret_kind) s rest all (record { same_version = refl; kind = refl; place = refl }) l in
       at_end version rest s h (subst (λ (p : Place). IsAt rest s p) place h.place)
+
+  pub done_is_regretted : DoneIsRegretted
+  done_is_regretted journal s records l place kind =
+      let h = headed journal s l in
+      let k : h.kind ≡ regret_kind = sym h.same_kind ∙ kind in
+      let is : journal ≡ line.head h.version regret_kind ∷ h.rest = h.is ∙ ap (λ (x : Kind). line.head h.version x ∷ h.rest) k in
+      subst (λ (j : List Record). AreRegretted j s) (sym is)
+      (from_begun h.version h.rest s (subst (AllByRecursion IsRecord) is records).1 (subst (λ (x : Kind). Leads (passing (begun h.version x)) h.rest (passing s)) k h.leads) place)
+
+  pub checks_give_regret : ChecksGiveRegret
+  checks_give_regret (line.head version kind ∷ rest) of_kind records (checked, tested) =
+      let (end, l, e) = tested_leads (begun version regret_kind) rest (subst (λ (x : Kind). Tested (begun version x) rest None) of_kind tested) in
+      let (r, is) = from_begun version rest end records.1 l e in
+      (r, ap (λ (x : Kind). plain (line.head version x ∷ rest)) of_kind ∙ is.says, is.right)
+  checks_give_regret (other ∷ rest) of_kind records (checked, tested) = absurd checked
+  checks_give_regret [] of_kind records (checked, tested) = absurd checked

@@ -1,14 +1,12 @@
 -- What the records of a regret journal say so far, where each test of them passes.
-use Rattle.std.proofs.Common.{◌≡◌, ◌<◌, ◌≤◌, ℕ, suc, Bool, true, false, cond, List, [], ◌∷◌, ◌++◌, length, map, ℤ, refl, sym, ◌∙◌, ap, subst, arith}
-use Rattle.std.specs.Prelude.{Option, Some, None, option_map, Result, Ok, Err, IsTrue, IfSome, IsSomeAnd, ◌-ℤ◌, ◌≢◌}
+use Rattle.std.proofs.Common.{◌≡◌, ◌<◌, suc, Bool, true, false, cond, List, [], ◌∷◌, ◌++◌, ℤ, refl, sym, ◌∙◌, ap, subst, arith}
+use Rattle.std.specs.Prelude.{Some, None, option_map, Result, Ok, Err, IsTrue, ◌-ℤ◌}
 use Rattle.std.specs.List.{AllByRecursion}
 use Rattle.std.proofs.lemmas.Option.{none-some}
-use Rattle.std.proofs.lemmas.List.{append-nil, append_assoc, length-map}
-use Rattle.ice_defs.specs.Set.{Weights}
-use Rattle.ice_defs.specs.Trade.{total_value}
+use Rattle.std.proofs.lemmas.List.{append-nil, length-map}
 use Rattle.ice_defs.specs.Bound.{Multipliers}
 use Rattle.ice_defs.specs.Steps.{Step, Side}
-use Rattle.ice_defs.specs.Group.{Group, final_group, rival_group}
+use Rattle.ice_defs.specs.Group.{final_group, rival_group}
 use Rattle.ice_defs.specs.Weighing.{lower_weights, perturbed_weights}
 use Rattle.ice_defs.specs.Bounds.{Bounds}
 use Rattle.ice_defs.specs.Exchange.{Exchange, Bidder, opening_bounds}
@@ -18,7 +16,7 @@ use Rattle.ice_defs.specs.Right.{IsBestFound}
 use Rattle.ice_journal.specs.Records.{Record, Version, Kind, regret_kind, regret_end}
 use Rattle.ice_journal.specs.Records as line
 use Rattle.ice_journal.specs.Ranges.{IsRecord}
-use Rattle.ice_section.specs.Section.{Section, SectionFault, order, count, no_good, maker, no_section, take_record, may_end, exchange_in}
+use Rattle.ice_section.specs.Section.{Section, SectionFault, order, count, no_good, maker, no_section, take_record, may_end}
 use Rattle.ice_section.specs.Taking.{unless_fault, take_records}
 use Rattle.ice_section.specs.Described.{section_records}
 use Rattle.ice_section.specs.Laws.{SectionIsLawful, SectionRecords}
@@ -33,7 +31,7 @@ use Rattle.ice_check.specs.Written.{proved_records, regret_records}
 use Rattle.ice_check.proofs.Faultless.{covered}
 use Rattle.ice_check.proofs.Assigning.{taken_more}
 use Rattle.ice_check.proofs.Plaining.{Wrote, section_wrote}
-use Rattle.ice_check.proofs.Grouping.{of_same, head_record, so_far, Tells, tells_more, InSets, InLog, InProved, head_begins, sets_go_on, log_goes_on, best_found}
+use Rattle.ice_check.proofs.Grouping.{of_same, so_far, Tells, tells_more, InSets, InLog, head_begins, sets_go_on, log_goes_on, best_found}
 
 -- the bounds are those of settlement 0
 abbrev pub IsOpening : State → Type 0
