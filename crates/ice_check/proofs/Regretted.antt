@@ -18,7 +18,11 @@ use Rattle.ice_journal.specs.Ranges.{IsRecord}
 use Rattle.ice_journal.specs.Plain.{all_zero, plain_records, plain}
 use Rattle.ice_section.specs.Described.{section_records}
 use Rattle.ice_section.specs.Laws.{SectionIsLawful, SectionRecords}
+use Rattle.ice_section.proofs.Whole.{section_is_lawful, section_records_are}
 use Rattle.ice_refute.specs.Laws.{LogRefutes}
+use Rattle.ice_refute.proofs.Refutes.{log_refutes}
+use Rattle.ice_laws.specs.Laws.{PerturbedGivesRegret}
+use Rattle.ice_laws.proofs.Perturbed.{perturbed_gives_regret}
 use Rattle.ice_check.specs.State.{Place, done, State, begun, exchange_at, goods_at}
 use Rattle.ice_check.specs.Checks.{Tested}
 use Rattle.ice_check.specs.Theorems.{AreRegretted, DoneIsRegretted, ChecksGiveRegret}
@@ -28,13 +32,6 @@ use Rattle.ice_check.proofs.Leading.{failed_passes}
 use Rattle.ice_check.proofs.Heads.{headed, tested_leads, all_left}
 use Rattle.ice_check.proofs.Plaining.{Wrote}
 use Rattle.ice_check.proofs.Regretting.{AreSettled, IsAt, IsStanding, standing_more}
-
--- the best perturbed value less the final value is the regret
-abbrev PerturbedGivesRegret : Type 0
-PerturbedGivesRegret = (market : Market) (bounds : List Bounds) (final : Assignment) (best : ℤ)
-    → length bounds ≡ length market.trees → ((b : ℕ) → b < length market.trees → AreBounds (length (tree_of market.trees b)) (bounds_of bounds b))
-    → IsFeasible market.trees market.exact final → IsBestOfAll market.trees market.exact (perturbed_weights final bounds) best
-    → IsRegret market bounds final (best -ℤ total_value final (lower_weights bounds))
 
 -- the opening bounds of each bidder are bounds of its tree
 each_bounds : (goods : ℕ) (bidders : List Bidder) → AllByRecursion (IsBidder goods) bidders → (b : ℕ) → b < length (map (λ x. x.tree) bidders)
@@ -110,3 +107,9 @@ module _ (lawful : SectionIsLawful) (described : SectionRecords) (refutes : LogR
       (r, ap (λ (x : Kind). plain (line.head version x ∷ rest)) of_kind ∙ is.says, is.right)
   checks_give_regret (other ∷ rest) of_kind records (checked, tested) = absurd checked
   checks_give_regret [] of_kind records (checked, tested) = absurd checked
+
+pub done_is_right : DoneIsRegretted
+done_is_right = done_is_regretted section_is_lawful section_records_are log_refutes perturbed_gives_regret
+
+pub checked_is_right : ChecksGiveRegret
+checked_is_right = checks_give_regret section_is_lawful section_records_are log_refutes perturbed_gives_regret
