@@ -1,0 +1,11 @@
+pub mod Multiples
+pub mod Weights
+pub mod Cancelled
+pub mod Perturbed
+pub mod Regrets
+pub mod Covered
+pub mod Decided
+pub mod Greatest
+pub mod Chosen
+pub mod Trades
+pub mod Worths
