@@ -105,8 +105,8 @@ pub tells_more : (before : List Record) (s : State) (text longer : List Record) 
 tells_more before s text longer r same none e is = record {
   exchange = is.exchange;
   wrote =
-    subst (Wrote s.version (goods_at s) (before ++ r ∷ [])) (append_assoc (section_records (exchange_at s)) text (r ∷ []) ∙ ap (λ (rs : List Record). section_records (exchange_at s) ++ rs) e)
-    (wrote_more s.version (goods_at s) before (section_records (exchange_at s) ++ text) r same none is.wrote);
+      subst (Wrote s.version (goods_at s) (before ++ r ∷ [])) (append_assoc (section_records (exchange_at s)) text (r ∷ []) ∙ ap (λ (rs : List Record). section_records (exchange_at s) ++ rs) e)
+      (wrote_more s.version (goods_at s) before (section_records (exchange_at s) ++ text) r same none is.wrote);
 }
 
 -- ---- the head
@@ -157,7 +157,7 @@ pub sets_go_on : (before : List Record) (s : State) (front : List Record) (g : G
     → (P : State → Type 0)
     → ((x : NodeSet) → InSets (before ++ r ∷ []) s front g (with_set found x) → P (to_line (suc s.line) (go_to (at_sets g (with_set found x)) s)))
     → ((x : NodeSet) → InLog (before ++ r ∷ []) s front g (with_set found x) (start_of (trees_at s) g ∷ []) (all_zero (goods_at s))
-      → P (to_line (suc s.line) (after_sets (go_to (at_sets g found) s) g (with_set found x))))
+    → P (to_line (suc s.line) (after_sets (go_to (at_sets g found) s) g (with_set found x))))
     → P after
 sets_go_on before s front g found (line.set x) after valued is e pass P more full = by (eqb (suc (length found.sets)) (bidder_count s)) refl e
   where
@@ -257,9 +257,9 @@ step_added before s front g found side open_sides m r x is e passes =
       tells = record {
         exchange = is.tells.exchange;
         wrote =
-          subst (Wrote s.version (goods_at s) (before ++ r ∷ []))
-          (append_assoc (section_records (exchange_at s)) _ (line.step x ∷ []) ∙ ap (λ (rs : List Record). section_records (exchange_at s) ++ rs) (log_text front (head_record g found.value ∷ map line.set found.sets) is.log x))
-          wrote.wrote;
+            subst (Wrote s.version (goods_at s) (before ++ r ∷ []))
+            (append_assoc (section_records (exchange_at s)) _ (line.step x ∷ []) ∙ ap (λ (rs : List Record). section_records (exchange_at s) ++ rs) (log_text front (head_record g found.value ∷ map line.set found.sets) is.log x))
+            wrote.wrote;
       };
       last = wrote.last;
       count = wrote.length;
@@ -267,8 +267,8 @@ step_added before s front g found side open_sides m r x is e passes =
       valued = is.valued;
       counts = all_more (CountsGoods (goods_at s)) is.log x is.counts wrote.counts;
       stands = λ rest.
-        subst (λ (log : List Step). Stands (trees_at s) (exact_at s) (weights_at s g) found.value (start_of (trees_at s) g) log (sides_after (side ∷ open_sides) x) rest) (sym (append_assoc is.log (x ∷ []) rest))
-        (stands_more (trees_at s) (exact_at s) (weights_at s g) found.value (start_of (trees_at s) g) (is.log ++ x ∷ rest) side open_sides x rest passes (is.stands (x ∷ rest)));
+          subst (λ (log : List Step). Stands (trees_at s) (exact_at s) (weights_at s g) found.value (start_of (trees_at s) g) log (sides_after (side ∷ open_sides) x) rest) (sym (append_assoc is.log (x ∷ []) rest))
+          (stands_more (trees_at s) (exact_at s) (weights_at s g) found.value (start_of (trees_at s) g) (is.log ++ x ∷ rest) side open_sides x rest passes (is.stands (x ∷ rest)));
     }
 
 log_closed : (before : List Record) (s : State) (front : List Record) (g : Group) (found : Stated) (m : Multipliers) → InLog before s front g found [] m → InProved before s front g found
@@ -279,8 +279,8 @@ log_closed before s front g found m is = record {
   valued = is.valued;
   counts = is.counts;
   passes =
-    stands_closed (trees_at s) (exact_at s) (weights_at s g) found.value (start_of (trees_at s) g) is.log
-    (subst (λ (log : List Step). Stands (trees_at s) (exact_at s) (weights_at s g) found.value (start_of (trees_at s) g) log [] []) (append-nil is.log) (is.stands []));
+      stands_closed (trees_at s) (exact_at s) (weights_at s g) found.value (start_of (trees_at s) g) is.log
+      (subst (λ (log : List Step). Stands (trees_at s) (exact_at s) (weights_at s g) found.value (start_of (trees_at s) g) log [] []) (append-nil is.log) (is.stands []));
 }
 
 pub log_goes_on : (before : List Record) (s : State) (front : List Record) (g : Group) (found : Stated) (side : Side) (open_sides : List Side) (m : Multipliers) (r : Record) (after : State)
@@ -335,7 +335,7 @@ best_found refutes before s front g found free is = record {
   best = record {
     attained = (found.sets, is.feasible, is.valued);
     bound = λ a feasible.
-      refutes (trees_at s) (exact_at s) (weights_at s g) found.value (free_side (trees_at s)) is.log a is.counts
-      (subst (λ (start : Side). Passes (trees_at s) (exact_at s) (weights_at s g) found.value start is.log) free is.passes) feasible (meets_free (trees_at s) a);
+        refutes (trees_at s) (exact_at s) (weights_at s g) found.value (free_side (trees_at s)) is.log a is.counts
+        (subst (λ (start : Side). Passes (trees_at s) (exact_at s) (weights_at s g) found.value start is.log) free is.passes) feasible (meets_free (trees_at s) a);
   };
 }

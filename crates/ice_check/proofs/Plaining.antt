@@ -152,8 +152,8 @@ leaf_2 : (goods : ℕ) (records said : List Record) (m : Multipliers) (changes :
 leaf_2 goods records said m changes x count wrote last is = subst (WroteStep version_2 goods (records ++ line.near changes ∷ []) said m) is (record {
   wrote = record {
     said = plain_more goods (all_zero goods) records (line.near changes ∷ [])
-      ∙ ap (λ (n : Multipliers). plain_records goods (all_zero goods) records ++ line.step (leaf (changed n changes)) ∷ []) last
-      ∙ ap (λ (rs : List Record). rs ++ line.step (leaf (changed m changes)) ∷ []) wrote.said;
+        ∙ ap (λ (n : Multipliers). plain_records goods (all_zero goods) records ++ line.step (leaf (changed n changes)) ∷ []) last
+        ∙ ap (λ (rs : List Record). rs ++ line.step (leaf (changed m changes)) ∷ []) wrote.said;
     goods = goods_no_more goods records (line.near changes) refl wrote.goods;
   };
   last = kept_more goods (all_zero goods) records (line.near changes ∷ []) ∙ ap (λ (n : Multipliers). changed n changes) last;
@@ -241,8 +241,8 @@ pub section_wrote : (version : Version) (ex : Exchange) → Wrote version (lengt
 section_wrote version ex = record {
   said = by version;
   goods =
-    goods_more (map good_record ex.goods) (flat_map bidder_records ex.bidders)
-    ∙ omega (arith, goods_named ex.goods, bidders_name_none ex.bidders, length-map ex.goods (λ (good : Good). good.exact));
+      goods_more (map good_record ex.goods) (flat_map bidder_records ex.bidders)
+      ∙ omega (arith, goods_named ex.goods, bidders_name_none ex.bidders, length-map ex.goods (λ (good : Good). good.exact));
 }
   where
     by : (version : Version) → said_by version (length (exact_of ex)) (section_records ex) ≡ section_records ex

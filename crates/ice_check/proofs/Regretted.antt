@@ -56,23 +56,26 @@ module _ (lawful : SectionIsLawful) (described : SectionRecords) (refutes : LogR
     final = are.final;
     rival = are.rival;
     regret =
-      subst (IsRegret (market_of ex) (opening_bounds ex) x.final.sets) (ap (λ (v : ℤ). x.rival.value -ℤ v) are.final.value ∙ sym are.amount)
-      (perturbed (market_of ex) (opening_bounds ex) x.final.sets x.rival.value (same_count ex) (each_bounds (length ex.goods) ex.bidders exchange.bidders) are.final.feasible are.rival.best);
+        subst (IsRegret (market_of ex) (opening_bounds ex) x.final.sets) (ap (λ (v : ℤ). x.rival.value -ℤ v) are.final.value ∙ sym are.amount)
+        (perturbed (market_of ex) (opening_bounds ex) x.final.sets x.rival.value (same_count ex) (each_bounds (length ex.goods) ex.bidders exchange.bidders) are.final.feasible are.rival.best);
   }
 
   -- what stands at the end
   at_end : (version : Version) (rest : List Record) (s : State) → IsStanding version rest s → IsAt rest s done → AreRegretted (line.head version regret_kind ∷ rest) s
-  at_end version rest s h (x, opening, settled, regret, tells) = (record { exchange = exchange_at s; settlement = x }, record {
-    says =
-      whole_says version (goods_at s) regret_kind rest _ (subst (λ (v : Version). Wrote v (goods_at s) rest (section_records (exchange_at s) ++ (regret_records x ++ line.end regret_end ∷ []))) h.same_version tells.wrote)
-      ∙ ap (λ (rs : List Record). line.head version_1 regret_kind ∷ rs) (sym (append_assoc (section_records (exchange_at s)) (regret_records x) (line.end regret_end ∷ [])));
-    right = record {
-      exchange = tells.exchange;
-      settled = settled_right (exchange_at s) x tells.exchange (subst (λ (bounds : List Bounds). AreSettled (exchange_at s) bounds x) opening settled);
-    };
-    exchange = refl;
-    regret = regret;
-  })
+  at_end version rest s h (x, opening, settled, regret, tells) = (
+    record { exchange = exchange_at s; settlement = x },
+    record {
+      says =
+          whole_says version (goods_at s) regret_kind rest _ (subst (λ (v : Version). Wrote v (goods_at s) rest (section_records (exchange_at s) ++ (regret_records x ++ line.end regret_end ∷ []))) h.same_version tells.wrote)
+          ∙ ap (λ (rs : List Record). line.head version_1 regret_kind ∷ rs) (sym (append_assoc (section_records (exchange_at s)) (regret_records x) (line.end regret_end ∷ [])));
+      right = record {
+        exchange = tells.exchange;
+        settled = settled_right (exchange_at s) x tells.exchange (subst (λ (bounds : List Bounds). AreSettled (exchange_at s) bounds x) opening settled);
+      };
+      exchange = refl;
+      regret = regret;
+    },
+  )
 
   -- each record that passes goes along
   leads_standing : (version : Version) (before : List Record) (s t : State) (records : List Record) → AllByRecursion IsRecord (before ++ records) → IsStanding version before s → Leads (passing s) records (passing t)
@@ -81,7 +84,7 @@ module _ (lawful : SectionIsLawful) (described : SectionRecords) (refutes : LogR
   leads_standing version before s t (r ∷ rest) all h (goes (passes_on {after = after} list none holds is) l) =
       subst (λ (rs : List Record). IsStanding version rs t) (append_assoc before (r ∷ []) rest)
       (leads_standing version (before ++ r ∷ []) after t rest (subst (AllByRecursion IsRecord) (sym (append_assoc before (r ∷ []) rest)) all)
-        (standing_more lawful described refutes version before s r after (all_left before (r ∷ rest) all) h is none holds) l)
+      (standing_more lawful described refutes version before s r after (all_left before (r ∷ rest) all) h is none holds) l)
   leads_standing version before s t (r ∷ rest) all h (goes (fails_at list f) l) = absurd (failed_passes _ rest t l)
   leads_standing version before s t (r ∷ rest) all h (goes (list_fails_at e n) l) = absurd (failed_passes _ rest t l)
 

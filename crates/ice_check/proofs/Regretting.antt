@@ -88,7 +88,7 @@ module _ (lawful : SectionIsLawful) (described : SectionRecords) (refutes : LogR
       record {
         exchange = lawful before s.section records taken ended;
         wrote = subst (λ (rs : List Record). Wrote s.version (goods_at s) rs (section_records (exchange_at s) ++ [])) (sym same)
-          (subst (Wrote s.version (goods_at s) (section_records (exchange_at s))) (sym (append-nil (section_records (exchange_at s)))) (section_wrote s.version (exchange_at s)));
+            (subst (Wrote s.version (goods_at s) (section_records (exchange_at s))) (sym (append-nil (section_records (exchange_at s)))) (section_wrote s.version (exchange_at s)));
       }
 
   -- the record after the section
@@ -100,11 +100,14 @@ module _ (lawful : SectionIsLawful) (described : SectionRecords) (refutes : LogR
       (λ value. record {
         same_version = same;
         kind = kind;
-        place = (refl, record {
-          tells = tells_more before s [] (line.final value ∷ []) (line.final value) (λ m. refl) refl refl (section_told before s records taken ended);
-          room = some_bidder s (section_told before s records taken ended).exchange;
-          satisfied = λ b l. absurd (omega arith);
-        });
+        place = (
+          refl,
+          record {
+            tells = tells_more before s [] (line.final value ∷ []) (line.final value) (λ m. refl) refl refl (section_told before s records taken ended);
+            room = some_bidder s (section_told before s records taken ended).exchange;
+            satisfied = λ b l. absurd (omega arith);
+          },
+        );
       })
 
   in_section : (version : Version) (before : List Record) (s : State) (r : Record) (after : State) (o : Result Section SectionFault) → s.version ≡ version → s.kind ≡ regret_kind → AllByRecursion IsRecord before
@@ -119,7 +122,7 @@ module _ (lawful : SectionIsLawful) (described : SectionRecords) (refutes : LogR
     where
       by : (b : Bool) → may_end s.section ≡ b → option_map (to_line (suc s.line)) (cond b (after_section (section_ended (go_to at_section s)) s.kind r) None) ≡ Some after → IsStanding version (before ++ r ∷ []) after
       by true ended h = ends_section version before s r after same kind records taken ended is pass
-        (subst (λ (k : Kind). option_map (to_line (suc s.line)) (after_section (section_ended (go_to at_section s)) k r) ≡ Some after) kind h)
+          (subst (λ (k : Kind). option_map (to_line (suc s.line)) (after_section (section_ended (go_to at_section s)) k r) ≡ Some after) kind h)
       by false ended h = absurd (none-some after h)
   in_section version before s r after (Err count) same kind records taken is pass e f refused = absurd (refused refl)
   in_section version before s r after (Err no_good) same kind records taken is pass e f refused = absurd (refused refl)
@@ -153,11 +156,16 @@ module _ (lawful : SectionIsLawful) (described : SectionRecords) (refutes : LogR
       (λ value. record {
         same_version = same;
         kind = kind;
-        place = (log, opening, final, record {
-          tells = tells_more before s (final_text s log) (final_text s log ++ line.rival value ∷ []) (line.rival value) (λ m. refl) refl refl tells;
-          room = some_bidder s tells.exchange;
-          satisfied = λ b l. absurd (omega arith);
-        });
+        place = (
+          log,
+          opening,
+          final,
+          record {
+            tells = tells_more before s (final_text s log) (final_text s log ++ line.rival value ∷ []) (line.rival value) (λ m. refl) refl refl tells;
+            room = some_bidder s tells.exchange;
+            satisfied = λ b l. absurd (omega arith);
+          },
+        );
       })
 
   in_rival_sets : (version : Version) (before : List Record) (s : State) (found : Stated) (r : Record) (after : State) → s.version ≡ version → s.kind ≡ regret_kind → IsAt before s (at_sets rival_group found)

@@ -1,5 +1,5 @@
 -- Settings stand first in a section.
-use Rattle.std.proofs.Common.{◌≡◌, Bool, true, false, cond, not, eqb, ltb, List, [], ◌∷◌, ◌++◌, length, ℤ, ℕ, refl, sym, ◌∙◌, ap, subst}
+use Rattle.std.proofs.Common.{◌≡◌, Bool, true, false, cond, not, eqb, ltb, List, [], ◌∷◌, ◌++◌, length, ℤ, ℕ, suc, refl, sym, ◌∙◌, ap, subst}
 use Rattle.std.specs.Prelude.{◌||◌, Option, Some, None, is_some, is_none, Result, Ok, Err}
 use Rattle.std.proofs.lemmas.Bool.{true≢false, false≢true}
 use Rattle.ice_defs.specs.declared.NodeKind.{NodeKind}
@@ -8,7 +8,7 @@ use Rattle.ice_defs.specs.Exchange.{Settings, Good, Bidder}
 use Rattle.ice_defs.specs.Making.{good_refusal, bidder_refusal, node_refusal}
 use Rattle.ice_journal.specs.Records.{Record}
 use Rattle.ice_journal.specs.Records as line
-use Rattle.ice_section.specs.Section.{Section, SectionFault, OpenNode, Draft, order, count, no_section, take_record, take_node_at, take_node_of, unless_refused, unless_unmade, go_on, add_bidder, with_node, open_after, names_no_good}
+use Rattle.ice_section.specs.Section.{Section, SectionFault, OpenNode, Draft, order, count, no_good, no_section, take_record, take_node_at, take_node_of, unless_refused, unless_unmade, go_on, add_bidder, with_node, open_after, names_no_good}
 use Rattle.ice_check.specs.Assigning.{HasSettings}
 
 -- what a section answers to a record has settings
@@ -35,7 +35,19 @@ unmade_has None found h = h
 
 node_has : (s : Section) (o : Option Draft) (kind : NodeKind) (children : ℕ) (lo hi : ℤ) → is_some s.settings ≡ true → Has (take_node_at s o kind children lo hi)
 node_has s None kind children lo hi e = tt
-node_has s (Some d) kind children lo hi e = cond_has (names_no_good kind (length s.goods)) _ _ tt (unmade_has _ _ (goes_on_has s _ _ e))
+node_has s (Some d) kind children lo hi e = cond_has (names_no_good kind (length s.goods)) (Err no_good) (unless_unmade refusal grown) tt (unmade_has refusal grown (goes_on_has s more outer e))
+  where
+    refusal : Option ℕ
+    refusal = node_refusal (length s.goods) (length d.bidder.tree) (suc (length d.opened)) kind lo hi
+
+    more : Bidder
+    more = with_node d.bidder d.opened kind lo hi
+
+    outer : Result (List OpenNode) SectionFault
+    outer = open_after kind (length d.bidder.tree) children d.opened
+
+    grown : Result Section SectionFault
+    grown = go_on s more outer
 
 -- where a section has settings, it keeps them
 keeps : (s : Section) (r : Record) → is_some s.settings ≡ true → Has (take_record s r)

@@ -1,6 +1,6 @@
 -- What a record of a log makes of the tests, in any group.
 use Rattle.std.proofs.Common.{◌≡◌, ◌<◌, ◌≤◌, ℕ, suc, Bool, true, false, List, [], ◌∷◌, length, Any, refl, sym, ◌∙◌, ap, subst, arith, ◌⊎◌, inl, inr, ◌<ℤ◌}
-use Rattle.std.specs.Prelude.{◌||◌, Option, Some, None, option_map, IsSomeAnd, IfSome, Result, Ok, Err}
+use Rattle.std.specs.Prelude.{◌+◌, ◌||◌, Option, Some, None, option_map, IsSomeAnd, IfSome, Result, Ok, Err}
 use Rattle.std.proofs.lemmas.Bool.{false≢true}
 use Rattle.std.proofs.lemmas.Option.{none-some}
 use Rattle.ice_defs.specs.Bound.{Multipliers}
@@ -121,10 +121,7 @@ module _ (s : State) (g : Group) (found : Stated) (side : Side) (others : List S
       least z (by_fixed f) l = f
       least z (by_above f) l = f
       least z (by_alive f) l = omega (arith, l)
-  step_at_fault x other e near h = absurd (none x other h)
-    where
-      none : (x : Step) (why : LogFault) → HasFault (trees_at s) (exact_at s) (weights_at s g) found.value side x why → ⊥
-      none x why h = ?
+  step_at_fault x other e near h = absurd h
 
   not_above : (n : Multipliers) → PassesAt (trees_at s) (exact_at s) (weights_at s g) found.value side (leaf n) → IsAbove s (taken (leaf n)) (leaf n) → ⊥
   not_above n (signs, inl is_dead) (v, bound, high) = apart (Reads-same (trees_at s) (exact_at s) (weights_at s g) found.value (is_above {rest = []} signs bound high) (is_dead_leaf signs is_dead))
@@ -175,7 +172,7 @@ module _ (s : State) (g : Group) (found : Stated) where
   record_fails (side ∷ others) m r y some count (no_step e) = no_step_fails s g found side others m r (subst (λ k. step_in s.version k m r ≡ None) count e)
   record_fails (side ∷ others) m r y some count (is_misstated {x = x} e near) =
       step_misstated s g found side others m r x (subst (λ k. step_in s.version k m r ≡ Some x) count e) (subst (λ k. IsSomeAnd (changes_in s.version r) (Any (IsNoChange k m))) count near)
-  record_fails (side ∷ others) m r y some count (has_fault {x = x} {why = why} e near h) =
+  record_fails (side ∷ others) m r y some count (has_fault {x = x} why e near h) =
       step_at_fault s g found side others m r x why (subst (λ k. step_in s.version k m r ≡ Some x) count e) (λ f. near (subst (λ k. IsSomeAnd (changes_in s.version r) (Any (IsNoChange k m))) (sym count) f)) h
 
   pub record_passes : (sides sides_then : List Side) (m m_then : Multipliers) (r : Record) → 0 < length sides → length m ≡ goods_at s → PassesStep (trees_at s) (exact_at s) (weights_at s g) found.value s.version sides m r sides_then m_then

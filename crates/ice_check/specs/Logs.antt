@@ -27,7 +27,7 @@ pub record IsWalkOf (ts : List Tree) (exact : List Bool) (log : LogWalk) : Type 
   pub weights : AreWeightsOf ts log.weights
   pub start : log.start ≡ free_side ts
   pub nodes : log.walk.nodes ≡ nodes_of ts
-  pub exact : log.desk.room ≡ exact
+  pub flags : log.desk.room ≡ exact
   pub goods : length log.before ≡ length exact
 
 -- only the open sides and the multipliers differ
@@ -78,4 +78,4 @@ module _ (ts : List Tree) (exact : List Bool) (ws : List Weights) (target : ℤ)
   pub data FailsStep (sides : List Side) (m : Multipliers) (r : Record) : Rule → Type 0 where
     no_step : step_in version (length m) m r ≡ None → FailsStep sides m r rule.Order
     is_misstated : {x : Step} → step_in version (length m) m r ≡ Some x → IsMisstating version m r → FailsStep sides m r rule.Near
-    has_fault : {x : Step} {why : LogFault} → step_in version (length m) m r ≡ Some x → ¬ IsMisstating version m r → HasFault ts exact ws target (first_side sides) x why → FailsStep sides m r (rule_of_fault why)
+    has_fault : {x : Step} (why : LogFault) → step_in version (length m) m r ≡ Some x → ¬ IsMisstating version m r → HasFault ts exact ws target (first_side sides) x why → FailsStep sides m r (rule_of_fault why)
