@@ -1,8 +1,10 @@
 -- What a record of a log makes of the tests, in any group.
-use Rattle.std.proofs.Common.{◌≡◌, ◌<◌, ◌≤◌, ℕ, suc, Bool, true, false, List, [], ◌∷◌, length, Any, refl, sym, ◌∙◌, ap, subst, arith, ◌⊎◌, inl, inr, ◌<ℤ◌}
-use Rattle.std.specs.Prelude.{◌+◌, ◌||◌, Option, Some, None, option_map, IsSomeAnd, IfSome, Result, Ok, Err}
+use Rattle.std.proofs.Common.{◌≡◌, ◌<◌, ◌≤◌, ℕ, suc, Bool, true, false, List, [], ◌∷◌, length, Any, refl, sym, ◌∙◌, ap, subst, arith, ◌⊎◌, inl, inr, ℤ, ◌<ℤ◌}
+use Rattle.std.specs.Prelude.{◌+◌, ◌||◌, Option, Some, None, option_map, IsSomeAnd, IfSome, IfErr, Result, Ok, Err}
 use Rattle.std.proofs.lemmas.Bool.{false≢true}
 use Rattle.std.proofs.lemmas.Option.{none-some}
+use Rattle.ice_defs.specs.Tree.{Tree}
+use Rattle.ice_defs.specs.Set.{Weights}
 use Rattle.ice_defs.specs.Bound.{Multipliers}
 use Rattle.ice_defs.specs.Steps.{Step, branch, leaf, dead, Side, sides_after}
 use Rattle.ice_defs.specs.Log.{Fault, above, is_above, is_dead_leaf, closes}
@@ -21,7 +23,7 @@ use Rattle.ice_check.specs.Fields.{step_in, changes_in, multipliers_after, is_sp
 use Rattle.ice_check.specs.Next.{next, to_line, go_to, after_step, after_log}
 use Rattle.ice_check.specs.Tests.{Fails, place_of, Taken, taken_step, OfStep, IsNoChange, HasSign, IsFixed, IsAbove, IsAlive, IsClosing}
 use Rattle.ice_check.specs.Progress.{passing, failed, TakesOn, passes_on, fails_at}
-use Rattle.ice_check.specs.Logs.{rule_of_fault, IsMisstating, PassesStep, FailsStep, no_step, is_misstated, has_fault}
+use Rattle.ice_check.specs.Logs.{rule_of_fault, FailsAt, IsMisstating, PassesStep, FailsStep, no_step, is_misstated, has_fault}
 use Rattle.ice_check.proofs.Places.{fails_order}
 
 -- a step is no stop
@@ -185,3 +187,9 @@ module _ (s : State) (g : Group) (found : Stated) where
     where
       Now : State
       Now = go_to (at_log g found (side ∷ others) m) s
+
+-- a step that has a fault at its side
+pub fault_fails : (ts : List Tree) (exact : List Bool) (ws : List Weights) (target : ℤ) (v : Version) (sides : List Side) (m : Multipliers) (r : Record) (x : Step) (result : Result (Unit {0}) Rule)
+    → step_in v (length m) m r ≡ Some x → ¬ IsMisstating v m r → IfErr result (FailsAt ts exact ws target (first_side sides) x) → IfErr result (FailsStep ts exact ws target v sides m r)
+fault_fails ts exact ws target v sides m r x (Ok u) e near h = tt
+fault_fails ts exact ws target v sides m r x (Err y) e near h = subst (FailsStep ts exact ws target v sides m r) (sym h.rule_is) (has_fault h.why e near h.fault)

@@ -2,6 +2,7 @@
 use Rattle.std.specs.Prelude.{ℕ, suc, ◌<◌, ◌≡◌, ◌≢◌, List, [], ◌∷◌, length, ℤ, pos}
 use Rattle.ice_defs.specs.Set.{Weights}
 use Rattle.ice_defs.specs.Exchange.{Exchange, trees_of, exact_of, opening_bounds}
+use Rattle.ice_defs.specs.Lawful.{IsExchange}
 use Rattle.ice_defs.specs.Group.{Group, final_group, rival_group, group_weights, free_side}
 use Rattle.ice_defs.specs.Trade.{total_value}
 use Rattle.ice_defs.specs.Weighing.{perturbed_weights}
@@ -66,6 +67,7 @@ IsReady g next.End = Unit {0}
 IsReady g next.Nothing = Unit {0}
 
 pub record AreKept (g : Groups) : Type 0 where
+  pub lawful : IsExchange g.stated.exchange
   pub walk : IsWalkOf (trees_of g.stated.exchange) (exact_of g.stated.exchange) g.log
   pub room : AreSized (trees_of g.stated.exchange) g.final_sets
 

@@ -1,5 +1,5 @@
 //! The groups of a regret journal, and what comes after them.
-ghost use Rattle.std.specs.Prelude.{◌≡◌, ◌≢◌, ℕ, length, pos, [], IfOk, MatchResult, MatchOption};
+ghost use Rattle.std.specs.Prelude.{◌≡◌, ◌≢◌, ◌↔◌, ◌-ℤ◌, IsTrue, ℕ, length, pos, [], IfOk, MatchResult, MatchOption};
 ghost use Rattle.ice_defs.specs.Exchange.{trees_of};
 ghost use Rattle.ice_defs.specs.Set.{IsSatisfied};
 ghost use Rattle.ice_defs.specs.Trade.{tree_of};
@@ -37,6 +37,20 @@ pub(crate) struct Groups {
     final_value: i64,
     amount: i64,
     log: LogWalk,
+}
+
+/// Whether a total is this value.
+fn is_same(total: i128, value: i64) -> bool
+    ensures { IsTrue result ↔ (total ≡ value) }
+{
+    total == i128::from(value)
+}
+
+/// What one value is above another.
+fn difference(one: i64, other: i64) -> i128
+    ensures { result ≡ one -ℤ other }
+{
+    i128::from(one) - i128::from(other)
 }
 
 impl Groups {
@@ -87,7 +101,7 @@ impl Groups {
         if !self.stated.are_balanced() {
             return Err(Rule::Excess);
         }
-        if self.stated.value_at(&self.log.weights) != i128::from(self.value) {
+        if !is_same(self.stated.value_at(&self.log.weights), self.value) {
             return Err(Rule::Value);
         }
         self.log.begin();
@@ -183,10 +197,16 @@ impl Groups {
         ensures { MatchResult result (λ _. IsTaken (Next.Step group) self.old (record_of line.now) self.new) (FailsBy (Next.Step group) self.old (record_of line.now)) }
     {
         let target = i128::from(self.value);
-        self.log
-            .take(self.stated.trees(), target, self.version, line)?;
-        self.leave(group);
-        Ok(())
+        match self
+            .log
+            .take(self.stated.trees(), target, self.version, line)
+        {
+            Ok(()) => {
+                self.leave(group);
+                Ok(())
+            }
+            Err(rule) => Err(rule),
+        }
     }
 
     /// The head of the rival.
@@ -222,7 +242,7 @@ impl Groups {
         requires { AreKept self.old }
         ensures { MatchResult result (λ _. IsTaken Next.Amount self.old (records.regret amount) self.new) (FailsBy Next.Amount self.old (records.regret amount)) }
     {
-        if i128::from(amount) != i128::from(self.value) - i128::from(self.final_value) {
+        if !is_same(difference(self.value, self.final_value), amount) {
             return Err(Rule::Regret);
         }
         self.amount = amount;

@@ -1,5 +1,5 @@
 //! The logs of a journal's groups, walked step by step.
-ghost use Rattle.std.specs.Prelude.{◌≡◌, ◌<◌, ◌≤◌, ◌↔◌, [], ◌∷◌, length, replicate, pos, IsTrue, IfOk, OnOk, IfErr};
+ghost use Rattle.std.specs.Prelude.{◌≡◌, ◌<◌, ◌≤◌, ◌↔◌, [], ◌∷◌, length, replicate, pos, IsTrue, Some, IfOk, OnOk, IfErr};
 ghost use Rattle.ice_defs.specs.Exchange.{trees_of, exact_of, opening_bounds};
 ghost use Rattle.ice_defs.specs.Weighing.{lower_weights, perturbed_weights};
 ghost use Rattle.ice_tree.specs.Alike.{AreChosen};
@@ -11,7 +11,7 @@ ghost use Rattle.ice_journal.specs.Lines.{record_of, version_of};
 ghost use Rattle.ice_journal.specs.Ranges.{IsRecord};
 ghost use Rattle.ice_defs.specs.Steps.{sides_after};
 ghost use Rattle.ice_check.specs.Fields.{multipliers_after};
-ghost use Rattle.ice_check.specs.Logs.{IsWalkOf, HasSameWalk, rule_of_fault, FailsAt, PassesStep, FailsStep};
+ghost use Rattle.ice_check.specs.Logs.{IsWalkOf, IsStepOf, HasSameWalk, rule_of_fault, FailsAt, PassesStep, FailsStep};
 
 use crate::memory::NoMemory;
 use crate::rule::Rule;
@@ -123,6 +123,30 @@ impl LogWalk {
         Ok(())
     }
 
+    /// Takes the next record of the log, which states this step.
+    fn take_step(
+        &mut self,
+        trees: &[Tree],
+        target: i128,
+        version: Version,
+        line: &Line,
+        step: Step,
+    ) -> Result<(), Rule>
+        requires walk { IsWalkOf trees.now self.old.desk.room self.old }
+        requires few { length trees.now ≤ 40 }
+        requires opened { 0 < length self.old.walk.sides }
+        requires stated { IsStepOf (Some step) (version_of version) self.old.before (record_of line.now) }
+        ensures passes { OnOk result (PassesStep trees.now self.old.desk.room self.old.weights target (version_of version) self.old.walk.sides self.old.before (record_of line.now) self.new.walk.sides self.new.before) }
+        ensures fails { IfErr result (FailsStep trees.now self.old.desk.room self.old.weights target (version_of version) self.old.walk.sides self.old.before (record_of line.now)) }
+        ensures walk { IsWalkOf trees.now self.old.desk.room self.new }
+        ensures weights { self.new.weights ≡ self.old.weights }
+    {
+        if misstates(version, &self.before, line) {
+            return Err(Rule::Near);
+        }
+        self.step(trees, target, step)
+    }
+
     /// Takes the next record of the log, of a journal of this version, where no feasible sets are to be worth more than the
     /// target. It answers the first test that the record fails.
     pub(crate) fn take(
@@ -141,10 +165,9 @@ impl LogWalk {
         ensures walk { IsWalkOf trees.now self.old.desk.room self.new }
         ensures weights { self.new.weights ≡ self.old.weights }
     {
-        let step = step_in(version, &self.before, line).ok_or(Rule::Order)?;
-        if misstates(version, &self.before, line) {
-            return Err(Rule::Near);
+        match step_in(version, &self.before, line) {
+            Some(step) => self.take_step(trees, target, version, line, step),
+            None => Err(Rule::Order),
         }
-        self.step(trees, target, step)
     }
 }

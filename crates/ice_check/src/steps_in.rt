@@ -1,13 +1,12 @@
 //! The step of a log that a record states.
-ghost use Rattle.std.specs.Prelude.{◌≡◌, ◌≤◌, ◌↔◌, ◌&&◌, ◌==◌, length, map, slice_set, replicate, pos, IsTrue, Any, MatchOption, None, Some, EachIndex, slice_index_or};
+ghost use Rattle.std.specs.Prelude.{◌≡◌, ◌≤◌, ◌↔◌, length, map, slice_set, IsTrue, Any};
 ghost use Rattle.ice_defs.specs.Steps.{leaf};
 ghost use Rattle.ice_bound.specs.Multipliers.{IsInRange, AreInRange};
-ghost use Rattle.ice_refute.specs.Code.{step_of, CountsGoods};
 ghost use Rattle.ice_journal.specs.Lines.{record_of, change_of, version_of};
-ghost use Rattle.ice_journal.specs.Ranges.{IsRecord, IsMultiplier};
+ghost use Rattle.ice_journal.specs.Ranges.{IsRecord};
 ghost use Rattle.ice_journal.specs.Records as records;
+ghost use Rattle.ice_journal.specs.Records.{version_1};
 ghost use Rattle.ice_journal.specs.Plain.{changed};
-ghost use Rattle.ice_check.specs.Fields.{step_in};
 ghost use Rattle.ice_check.specs.Tests.{IsNoChange};
 ghost use Rattle.ice_check.specs.Logs.{IsMisstating, IsStepOf, AreChangesInRange};
 
@@ -59,17 +58,17 @@ fn is_no_change(before: &Multipliers, change: Change) -> bool
 
 /// Whether one of the changes is none.
 fn has_no_change(before: &Multipliers, changes: &[Change]) -> bool
-    ensures { IsTrue result ↔ Any (IsNoChange (length before.now) before.now) (map change_of changes.now) }
+    ensures { IsTrue result ↔ Any (λ change. IsNoChange (length before.now) before.now (change_of change)) changes.now }
 {
     changes.iter().any(|change| is_no_change(before, *change))
 }
 
-/// A leaf with its multipliers, which stands in version 1 alone, with one for each good.
-fn leaf_in(version: Version, before: &Multipliers, numbers: &[i64]) -> Option<Step>
+/// A leaf with its multipliers, one for each good.
+fn leaf_of(before: &Multipliers, numbers: &[i64]) -> Option<Step>
     requires { IsRecord (records.step (leaf numbers.now)) }
-    ensures { IsStepOf result (version_of version) before.now (records.step (leaf numbers.now)) }
+    ensures { IsStepOf result version_1 before.now (records.step (leaf numbers.now)) }
 {
-    if version == Version::One && numbers.len() == usize::from(before.len()) {
+    if numbers.len() == usize::from(before.len()) {
         Some(Step::Leaf {
             m: multipliers_of(numbers),
         })
@@ -78,17 +77,27 @@ fn leaf_in(version: Version, before: &Multipliers, numbers: &[i64]) -> Option<St
     }
 }
 
+/// A leaf with its multipliers, which stands in version 1 alone.
+fn leaf_in(version: Version, before: &Multipliers, numbers: &[i64]) -> Option<Step>
+    requires { IsRecord (records.step (leaf numbers.now)) }
+    ensures { IsStepOf result (version_of version) before.now (records.step (leaf numbers.now)) }
+{
+    match version {
+        Version::One => leaf_of(before, numbers),
+        Version::Two => None,
+    }
+}
+
 /// A leaf as what it changes, which stands in version 2 alone.
 fn near_in(version: Version, before: &Multipliers, changes: &[Change]) -> Option<Step>
     requires { IsRecord (records.near (map change_of changes.now)) }
     ensures { IsStepOf result (version_of version) before.now (records.near (map change_of changes.now)) }
 {
-    if version == Version::Two {
-        Some(Step::Leaf {
+    match version {
+        Version::One => None,
+        Version::Two => Some(Step::Leaf {
             m: changed(before, changes),
-        })
-    } else {
-        None
+        }),
     }
 }
 
@@ -109,12 +118,22 @@ pub(crate) fn step_in(version: Version, before: &Multipliers, line: &Line) -> Op
     }
 }
 
+/// Whether a leaf as what it changes states a change that is none.
+fn near_misstates(version: Version, before: &Multipliers, changes: &[Change]) -> bool
+    ensures { IsTrue result ↔ IsMisstating (version_of version) before.now (records.near (map change_of changes.now)) }
+{
+    match version {
+        Version::One => false,
+        Version::Two => has_no_change(before, changes),
+    }
+}
+
 /// Whether the record states a change that is none.
 pub(crate) fn misstates(version: Version, before: &Multipliers, line: &Line) -> bool
     ensures { IsTrue result ↔ IsMisstating (version_of version) before.now (record_of line.now) }
 {
     match line {
-        Line::Near(changes) => version == Version::Two && has_no_change(before, changes),
+        Line::Near(changes) => near_misstates(version, before, changes),
         _ => false,
     }
 }
