@@ -1,5 +1,5 @@
 -- Bytes have one answer, and it is the one that the progress of their records ends with.
-use Rattle.std.proofs.Common.{◌≡◌, ℕ, ℤ, List, refl, sym, ◌∙◌, ap, subst}
+use Rattle.std.proofs.Common.{◌≡◌, ℕ, ℤ, List, [], ◌∷◌, refl, sym, ◌∙◌, ap, subst}
 use Rattle.std.specs.Prelude.{Option, Some, None, Result, Ok, Err}
 use Rattle.ice_defs.specs.Trade.{total_value}
 use Rattle.ice_defs.specs.Weighing.{lower_weights}
@@ -16,7 +16,6 @@ use Rattle.ice_check.specs.declared.answer.Answer.TheVariants.{Assign, Regret, N
 use Rattle.ice_check.specs.declared.answer.CheckEnd.{CheckEnd}
 use Rattle.ice_check.specs.declared.answer.CheckEnd.TheVariants.{Grammar, Unended, OtherKind, NoMemory}
 use Rattle.ice_check.specs.declared.rule.Rule.{Rule}
-use Rattle.ice_check.specs.declared.rule.Rule.TheVariants as rule
 use Rattle.ice_check.specs.State.{State}
 use Rattle.ice_check.specs.Checks.{Failure, IsChecked, FirstFailure}
 use Rattle.ice_check.specs.Progress.{nothing, other_kind, passing, failed, out_of_memory, Leads}

@@ -3,7 +3,7 @@ use Rattle.std.proofs.Common.{◌≡◌, ◌<◌, ◌≤◌, ◌+◌, ℕ, zero,
 use Rattle.std.specs.List.{AllByRecursion}
 use Rattle.std.proofs.lemmas.List.{length-map, get_or-map, get_or_default, drop_all}
 use Rattle.ice_defs.specs.Bound.{Multipliers}
-use Rattle.ice_bound.specs.Multipliers.{multiplier_of, IsInRange, AreInRange}
+use Rattle.ice_bound.specs.Multipliers.{IsInRange, AreInRange}
 use Rattle.ice_journal.specs.Records as records
 use Rattle.ice_journal.specs.Ranges.{IsMultiplier, IsChange}
 use Rattle.ice_journal.specs.Lines.{change_of}

@@ -11,7 +11,7 @@ use Rattle.ice_check.specs.declared.rule.Rule.{Rule}
 use Rattle.ice_check.specs.declared.rule.Rule.TheVariants as rule
 use Rattle.ice_check.specs.State.{Stated, at_group, at_sets, at_regret, at_end, at_spent_sets, done, State}
 use Rattle.ice_check.specs.Fields.{rival_value, is_spent, amount_in, is_end}
-use Rattle.ice_check.specs.Next.{next, to_line, go_to, from_head, after_regret, if_true}
+use Rattle.ice_check.specs.Next.{to_line, go_to, from_head, if_true}
 use Rattle.ice_check.specs.Tests.{Fails, place_of}
 use Rattle.ice_check.specs.Progress.{passing, failed, TakesOn, passes_on, fails_at}
 use Rattle.ice_check.specs.Regretting.{regretting}

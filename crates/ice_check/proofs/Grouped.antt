@@ -1,31 +1,30 @@
 -- What the records of a group make of a regret journal.
-use Rattle.std.proofs.Common.{◌≡◌, ◌≢◌, ◌<◌, ◌≤◌, ◌+◌, ℕ, suc, Bool, List, [], ◌∷◌, ◌++◌, length, map, ℤ, pos, refl, sym, ◌∙◌, ap, subst, arith, length-append}
-use Rattle.std.specs.Prelude.{Result, Ok, Err, MatchResult, IsTrue}
+use Rattle.std.proofs.Common.{◌≡◌, ◌≢◌, ◌<◌, ℕ, suc, Bool, List, [], ◌∷◌, ◌++◌, length, ℤ, pos, refl, sym, ◌∙◌, ap, subst, arith, length-append}
+use Rattle.std.specs.Prelude.{Some, Result, Ok, Err, MatchResult, IsTrue}
 use Rattle.ice_defs.specs.Tree.{Tree}
 use Rattle.ice_defs.specs.Set.{NodeSet, Weights, IsSatisfied}
-use Rattle.ice_defs.specs.Trade.{Assignment, tree_of, total_value}
+use Rattle.ice_defs.specs.Trade.{tree_of, total_value}
 use Rattle.ice_defs.specs.Bound.{Multipliers}
 use Rattle.ice_defs.specs.Steps.{Side}
-use Rattle.ice_defs.specs.Exchange.{Exchange, trees_of, exact_of}
+use Rattle.ice_defs.specs.Exchange.{trees_of, exact_of}
 use Rattle.ice_defs.specs.Group.{free_side}
 use Rattle.ice_journal.specs.Records.{Record}
 use Rattle.ice_journal.specs.Records as line
 use Rattle.ice_journal.specs.Lines.{version_of}
 use Rattle.ice_journal.specs.Plain.{all_zero}
 use Rattle.ice_check.specs.declared.rule.Rule.{Rule}
-use Rattle.ice_check.specs.declared.rule.Rule.TheVariants as rule
 use Rattle.ice_check.specs.declared.next.Group as code
 use Rattle.ice_check.specs.declared.next.Group.TheVariants.{Final, Rival}
 use Rattle.ice_check.specs.declared.next.Next.{Next}
 use Rattle.ice_check.specs.declared.next.Next.TheVariants as coming
 use Rattle.ice_check.specs.declared.groups.Groups.{Groups}
-use Rattle.ice_check.specs.State.{at_sets, at_log, State, trees_at}
+use Rattle.ice_check.specs.State.{at_sets, at_log, State}
 use Rattle.ice_check.specs.Next.{to_line, after_log, after_step}
 use Rattle.ice_check.specs.Tests.{HasLeftOut, is_valued}
 use Rattle.ice_check.specs.Progress.{passing, failed, TakesOn}
 use Rattle.ice_check.specs.Assigning.{Stating, AreBalanced}
-use Rattle.ice_check.specs.Logs.{IsWalkOf, PassesStep, FailsStep}
-use Rattle.ice_check.specs.Regretting.{group_of, regretting, at_hand, final_of, state_at, state_of, weights_for, AreKept, IsReady, PassesTo, FailsBy, IsTaken, HasBegun, FailsAsWhole, are_short, are_misvalued, HasKeptFinal, HasLeft}
+use Rattle.ice_check.specs.Logs.{PassesStep, FailsStep}
+use Rattle.ice_check.specs.Regretting.{group_of, regretting, at_hand, final_of, state_at, weights_for, AreKept, IsReady, PassesTo, FailsBy, IsTaken, HasBegun, FailsAsWhole, are_short, are_misvalued, HasKeptFinal, HasLeft}
 use Rattle.ice_check.specs.Stages.{IsBroken}
 use Rattle.ice_check.proofs.Sets.{IsFit, set_on, sets_short, sets_misvalued, sets_complete}
 use Rattle.ice_check.proofs.Placing.{broken_fails, is_fit}

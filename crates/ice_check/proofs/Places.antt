@@ -1,5 +1,5 @@
 -- What a record makes of the tests while the exchange is described, and at the end of an assign journal.
-use Rattle.std.proofs.Common.{◌≡◌, ◌<◌, ℕ, suc, Bool, true, false, cond, [], ◌++◌, length, ℤ, pos, refl, sym, ◌∙◌, ap, arith, ◌⊎◌, inl, inr}
+use Rattle.std.proofs.Common.{◌≡◌, ◌<◌, ℕ, suc, Bool, true, false, cond, [], length, ℤ, pos, refl, sym, ◌∙◌, ap, arith, ◌⊎◌, inl, inr}
 use Rattle.std.specs.Prelude.{◌||◌, ◌&&◌, is_none, nat_lt, Option, Some, None, is_some, option_map, Result, Ok, Err, IsSome}
 use Rattle.std.proofs.lemmas.Bool.{and_parts, or_parts, true≢false, false≢true}
 use Rattle.std.proofs.lemmas.Option.{none-some}
@@ -9,7 +9,7 @@ use Rattle.ice_defs.specs.Group.{assign_group, final_group}
 use Rattle.ice_journal.specs.Records.{Record, Version, version_1, Kind, assign_kind, regret_kind, assign_end, exchange_end, prices_end, regret_end, closed_end, open_end, spent_end, limit_end}
 use Rattle.ice_journal.specs.Records as line
 use Rattle.ice_journal.specs.Lines.{version_of}
-use Rattle.ice_section.specs.Section.{Section, SectionFault, order, count, no_good, maker, no_section, take_record, may_end, exchange_in, settings_in, Draft}
+use Rattle.ice_section.specs.Section.{Section, SectionFault, order, count, no_good, maker, take_record, may_end, exchange_in, settings_in, Draft}
 use Rattle.ice_check.specs.declared.rule.Rule.{Rule}
 use Rattle.ice_check.specs.declared.rule.Rule.TheVariants as rule
 use Rattle.ice_check.specs.declared.head.Head.{Head}

@@ -1,6 +1,6 @@
 -- What the stages of the checker make of a record.
-use Rattle.std.proofs.Common.{◌≡◌, ◌≢◌, ◌<◌, ◌≤◌, ◌+◌, ◌^◌, ℕ, suc, Bool, true, false, [], ◌∷◌, ◌++◌, length, map, take, set, replicate, pos, refl, sym, ◌∙◌, ap, subst, arith, ◌⊎◌, inl, inr}
-use Rattle.std.specs.Prelude.{◌&&◌, Some, None}
+use Rattle.std.proofs.Common.{◌≡◌, ◌≢◌, ◌<◌, ◌≤◌, ◌+◌, ◌^◌, ℕ, suc, false, [], ◌∷◌, ◌++◌, length, map, take, set, replicate, pos, refl, sym, ◌∙◌, ap, subst, arith, ◌⊎◌, inl, inr}
+use Rattle.std.specs.Prelude.{◌&&◌, Some}
 use Rattle.std.proofs.lemmas.Bool.{cases_order, false≢true}
 use Rattle.std.proofs.lemmas.Option.{none-some}
 use Rattle.std.proofs.lemmas.List.{get_or-set_other, get_or-set_same, get_or-map, length-set, length-map, length-replicate, length-take-le}

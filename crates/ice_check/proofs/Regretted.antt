@@ -3,10 +3,8 @@ use Rattle.std.proofs.Common.{◌≡◌, ◌<◌, ℕ, zero, suc, List, [], ◌�
 use Rattle.std.specs.Prelude.{None, ◌-ℤ◌}
 use Rattle.std.specs.List.{AllByRecursion}
 use Rattle.std.proofs.lemmas.List.{append_assoc, append-nil, length-map}
-use Rattle.ice_defs.specs.Trade.{Assignment, tree_of, IsFeasible, total_value, IsBestOfAll}
+use Rattle.ice_defs.specs.Trade.{tree_of}
 use Rattle.ice_defs.specs.Bounds.{Bounds, bounds_of}
-use Rattle.ice_defs.specs.Weighing.{lower_weights, perturbed_weights}
-use Rattle.ice_defs.specs.Market.{Market}
 use Rattle.ice_defs.specs.Regret.{IsRegret}
 use Rattle.ice_defs.specs.Exchange.{Bidder, Exchange, trees_of, opening_bounds, market_of}
 use Rattle.ice_defs.specs.Lawful.{AreBounds, IsBidder, IsExchange}

@@ -1,14 +1,14 @@
 -- Settings stand first in a section.
-use Rattle.std.proofs.Common.{◌≡◌, Bool, true, false, cond, not, eqb, ltb, List, [], ◌∷◌, ◌++◌, length, ℤ, ℕ, suc, refl, sym, ◌∙◌, ap, subst}
+use Rattle.std.proofs.Common.{◌≡◌, Bool, true, false, cond, not, eqb, ltb, List, [], ◌∷◌, length, ℤ, ℕ, suc, refl, sym, ◌∙◌, ap, subst}
 use Rattle.std.specs.Prelude.{◌||◌, Option, Some, None, is_some, is_none, Result, Ok, Err}
-use Rattle.std.proofs.lemmas.Bool.{true≢false, false≢true}
+use Rattle.std.proofs.lemmas.Bool.{false≢true}
 use Rattle.ice_defs.specs.declared.NodeKind.{NodeKind}
 use Rattle.ice_defs.specs.declared.NodeKind.TheVariants.{Choose, Buy, Sell}
-use Rattle.ice_defs.specs.Exchange.{Settings, Good, Bidder}
-use Rattle.ice_defs.specs.Making.{good_refusal, bidder_refusal, node_refusal}
+use Rattle.ice_defs.specs.Exchange.{Settings, Bidder}
+use Rattle.ice_defs.specs.Making.{node_refusal}
 use Rattle.ice_journal.specs.Records.{Record}
 use Rattle.ice_journal.specs.Records as line
-use Rattle.ice_section.specs.Section.{Section, SectionFault, OpenNode, Draft, order, count, no_good, no_section, take_record, take_node_at, take_node_of, unless_refused, unless_unmade, go_on, add_bidder, with_node, open_after, names_no_good}
+use Rattle.ice_section.specs.Section.{Section, SectionFault, OpenNode, Draft, no_good, no_section, take_record, take_node_at, unless_refused, unless_unmade, go_on, with_node, open_after, names_no_good}
 use Rattle.ice_check.specs.Assigning.{HasSettings}
 
 -- what a section answers to a record has settings

@@ -1,5 +1,5 @@
 -- What a record of a log makes of the tests, in any group.
-use Rattle.std.proofs.Common.{◌≡◌, ◌<◌, ◌≤◌, ℕ, suc, Bool, true, false, List, [], ◌∷◌, length, Any, refl, sym, ◌∙◌, ap, subst, arith, ◌⊎◌, inl, inr, ℤ, ◌<ℤ◌}
+use Rattle.std.proofs.Common.{◌≡◌, ◌<◌, ℕ, suc, Bool, false, List, [], ◌∷◌, length, Any, refl, sym, ◌∙◌, ap, subst, arith, inl, inr, ℤ}
 use Rattle.std.specs.Prelude.{◌+◌, ◌||◌, Option, Some, None, option_map, IsSomeAnd, IfSome, IfErr, Result, Ok, Err}
 use Rattle.std.proofs.lemmas.Bool.{false≢true}
 use Rattle.std.proofs.lemmas.Option.{none-some}
@@ -12,7 +12,7 @@ use Rattle.ice_defs.specs.Group.{Group}
 use Rattle.ice_refute.specs.Passing.{PassesAt, HasFault}
 use Rattle.ice_refute.specs.Waiting.{first_side}
 use Rattle.ice_refute.specs.declared.fault.LogFault.{LogFault}
-use Rattle.ice_refute.specs.declared.fault.LogFault.TheVariants.{Fixed, Sign, Above, NotDead, Short, Long}
+use Rattle.ice_refute.specs.declared.fault.LogFault.TheVariants.{Fixed, Sign, Above, NotDead}
 use Rattle.ice_refute.proofs.Same.{Reads-same}
 use Rattle.ice_journal.specs.Records.{Record, Version, version_1, version_2}
 use Rattle.ice_journal.specs.Records as line
@@ -20,8 +20,8 @@ use Rattle.ice_check.specs.declared.rule.Rule.{Rule}
 use Rattle.ice_check.specs.declared.rule.Rule.TheVariants as rule
 use Rattle.ice_check.specs.State.{Stated, at_log, State, trees_at, exact_at, goods_at, weights_at}
 use Rattle.ice_check.specs.Fields.{step_in, changes_in, multipliers_after, is_spent, is_limit, is_round_stop}
-use Rattle.ice_check.specs.Next.{next, to_line, go_to, after_step, after_log}
-use Rattle.ice_check.specs.Tests.{Fails, place_of, Taken, taken_step, OfStep, IsNoChange, HasSign, IsFixed, IsAbove, IsAlive, IsClosing}
+use Rattle.ice_check.specs.Next.{next, to_line, go_to, after_step}
+use Rattle.ice_check.specs.Tests.{Fails, place_of, Taken, OfStep, IsNoChange, HasSign, IsFixed, IsAbove, IsAlive, IsClosing}
 use Rattle.ice_check.specs.Progress.{passing, failed, TakesOn, passes_on, fails_at}
 use Rattle.ice_check.specs.Logs.{rule_of_fault, FailsAt, IsMisstating, PassesStep, FailsStep, no_step, is_misstated, has_fault}
 use Rattle.ice_check.proofs.Places.{fails_order}

@@ -1,11 +1,11 @@
 -- The weights, the sides and the sets that a walk of an exchange's logs begins with.
-use Rattle.std.proofs.Common.{◌≡◌, ◌<◌, ◌≤◌, ℕ, zero, suc, List, [], ◌∷◌, length, map, replicate, false, sym, ◌∙◌, ap, subst, arith}
+use Rattle.std.proofs.Common.{◌<◌, ◌≤◌, ℕ, zero, suc, List, [], ◌∷◌, length, map, replicate, false, sym, ◌∙◌, ap, arith}
 use Rattle.std.specs.List.{AllByRecursion}
 use Rattle.std.proofs.lemmas.List.{length-map, get_or-map, length-replicate}
 use Rattle.ice_defs.specs.Tree.{Tree}
-use Rattle.ice_defs.specs.Trade.{Assignment, tree_of, set_of}
+use Rattle.ice_defs.specs.Trade.{Assignment, tree_of}
 use Rattle.ice_defs.specs.Bounds.{Bounds, bounds_of}
-use Rattle.ice_defs.specs.Exchange.{Bidder, Exchange, trees_of, exact_of, opening_bounds}
+use Rattle.ice_defs.specs.Exchange.{Bidder, Exchange, trees_of, opening_bounds}
 use Rattle.ice_defs.specs.Lawful.{AreBounds, IsBidder, IsExchange}
 use Rattle.ice_tree.specs.Alike.{AreChosen}
 use Rattle.ice_bound.specs.Conditions.{AreBoundsOf}

@@ -1,5 +1,5 @@
 -- What a record makes of a log.
-use Rattle.std.specs.Prelude.{ℕ, ◌≡◌, Bool, List, length, ℤ, Any, IsSomeAnd, Option, Some, None}
+use Rattle.std.specs.Prelude.{◌≡◌, Bool, List, length, ℤ, Any, IsSomeAnd, Option, Some, None}
 use Rattle.std.specs.List.{AllByRecursion}
 use Rattle.ice_defs.specs.Tree.{Tree}
 use Rattle.ice_defs.specs.Set.{Weights}

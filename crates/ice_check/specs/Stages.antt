@@ -4,7 +4,7 @@ use Rattle.ice_defs.specs.declared.SatRule.{SatRule}
 use Rattle.ice_defs.specs.Tree.{Tree}
 use Rattle.ice_defs.specs.Set.{NodeSet, IsSatisfied}
 use Rattle.ice_defs.specs.SetFault.{set_fault}
-use Rattle.ice_defs.specs.Exchange.{Exchange, trees_of}
+use Rattle.ice_defs.specs.Exchange.{trees_of}
 use Rattle.ice_journal.specs.Records.{assign_end}
 use Rattle.ice_check.specs.declared.stage.Stage.{Stage}
 use Rattle.ice_check.specs.declared.stage.Stage.TheVariants as stage

@@ -1,4 +1,4 @@
-use Rattle.std.proofs.Common.{◌≡◌, ◌≢◌, ◌++◌, ◌∷◌, [], suc, length, sym, subst, arith, true, false, length-append}
+use Rattle.std.proofs.Common.{◌≡◌, ◌++◌, ◌∷◌, [], suc, length, sym, subst, arith, false, length-append}
 use Rattle.std.proofs.lemmas.Bool.{true≢false}
 use Rattle.ice_defs.specs.Exchange.{trees_of}
 use Rattle.ice_journal.specs.Records as records

@@ -1,4 +1,4 @@
-use Rattle.std.proofs.Common.{◌≡◌, ◌+◌, drop, map, sym, ◌∙◌, ap, subst, arith}
+use Rattle.std.proofs.Common.{◌≡◌, ◌+◌, drop, map, sym, ◌∙◌, subst}
 use Rattle.ice_defs.specs.Bound.{Multipliers}
 use Rattle.ice_journal.specs.Lines.{change_of}
 use Rattle.ice_journal.specs.Plain.{changed}

@@ -1,4 +1,3 @@
-use Rattle.std.proofs.Common.{◌≡◌, length, map, sym, ◌∙◌, ap}
 use Rattle.ice_check.proofs.Changes.{numbers_in_range}
 use Rattle.ice_check.proofs.steps_in.leaf_of.Goals as goal
 

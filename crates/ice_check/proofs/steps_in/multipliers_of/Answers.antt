@@ -1,8 +1,8 @@
-use Rattle.std.proofs.Common.{rules, ◌≡◌, ◌<◌, ◌+◌, ℕ, List, length, get_or, set, replicate, ℤ, pos, refl, sym, ◌∙◌, ap, subst, arith, below_more, length-set}
+use Rattle.std.proofs.Common.{rules, ◌≡◌, ◌<◌, ◌+◌, ℕ, List, length, get_or, set, replicate, ℤ, pos, sym, ◌∙◌, ap, subst, arith, below_more, length-set}
 use Rattle.std.proofs.lemmas.List.{ext_get_or, get_or-set_same, get_or-set_other, length-replicate}
 use Rattle.std.proofs.lemmas.Int.{to_z-of_z}
 use mir.Syntax.{w64}
-use mir.Val.{SFits, to_z, of_z}
+use mir.Val.{SFits}
 use Rattle.ice_check.proofs.steps_in.multipliers_of.Goals as goal
 
 pub loop-good-preserved : goal.loop-good-preserved
@@ -10,7 +10,9 @@ loop-good-preserved c =
     let numbers = c.args.numbers.now in
     let m = c.loop-good.m in
     let good = c.loop-good.good in
-    let there : good < length m = omega (arith, c.loop-good-test.true, c.len-good-end.ensures.value) in
+    let zero_is : c.zero-m.result ≡ replicate (length numbers) (pos 0) = c.zero-m.ensures in
+    let count : length c.zero-m.result ≡ length numbers = ap length zero_is ∙ length-replicate (length numbers) (pos 0) in
+    let there : good < length m = omega (arith, c.loop-good-test.true, c.len-good-end.ensures.value, count, c.loop-good.invariant.count) in
     let fits : SFits w64 (get_or numbers c.from.result (pos 0)) = search rules in
     let new : c.put.new.self ≡ set m good (get_or numbers good (pos 0)) =
     c.put.ensures ∙ ap (λ (z : ℤ). set m good z) (to_z-of_z w64 (get_or numbers c.from.result (pos 0)) fits) ∙ ap (λ (k : ℕ). set m good (get_or numbers k (pos 0))) c.from.ensures in

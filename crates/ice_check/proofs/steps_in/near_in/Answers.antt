@@ -1,7 +1,7 @@
 use Rattle.std.proofs.Common.{◌≡◌, length, map, sym, ◌∙◌, ap, subst}
 use Rattle.std.specs.Prelude.{Some}
 use Rattle.ice_defs.specs.Bound.{Multipliers}
-use Rattle.ice_defs.specs.Steps.{Step, leaf}
+use Rattle.ice_defs.specs.Steps.{leaf}
 use Rattle.ice_journal.specs.declared.line.Version.{Version}
 use Rattle.ice_journal.specs.Lines.{change_of, version_of}
 use Rattle.ice_journal.specs.Records as records

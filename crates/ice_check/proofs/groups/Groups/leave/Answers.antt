@@ -1,4 +1,4 @@
-use Rattle.std.proofs.Common.{◌≡◌, sym, ◌∙◌}
+use Rattle.std.proofs.Common.{sym, ◌∙◌}
 use Rattle.std.proofs.lemmas.Bool.{true≢false}
 use Rattle.ice_check.proofs.Grouped.{log_closes, log_goes_on}
 use Rattle.ice_check.proofs.groups.Groups.leave.Goals as goal

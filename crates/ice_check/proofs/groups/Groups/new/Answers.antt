@@ -1,6 +1,5 @@
 use Rattle.std.proofs.Common.{List, map, replicate, length, false, sym, ◌∙◌, ap, subst}
 use Rattle.ice_defs.specs.Tree.{Tree}
-use Rattle.ice_defs.specs.Trade.{Assignment}
 use Rattle.ice_defs.specs.Exchange.{trees_of, exact_of}
 use Rattle.ice_defs.specs.Lawful.{IsExchange}
 use Rattle.ice_check.specs.Assigning.{Stating, AreSized}

@@ -1,4 +1,4 @@
-use Rattle.std.proofs.Common.{◌≡◌, sym, ◌∙◌}
+use Rattle.std.proofs.Common.{sym, ◌∙◌}
 use Rattle.std.proofs.lemmas.Bool.{true≢false}
 use Rattle.ice_check.proofs.Grouped.{set_taken, sets_closed}
 use Rattle.ice_check.proofs.groups.Groups.put.Goals as goal

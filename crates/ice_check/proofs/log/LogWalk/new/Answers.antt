@@ -1,4 +1,4 @@
-use Rattle.std.proofs.Common.{◌≡◌, List, map, replicate, length, pos, sym, ◌∙◌, subst, ap}
+use Rattle.std.proofs.Common.{List, map, replicate, length, pos, sym, ◌∙◌, subst, ap}
 use Rattle.std.proofs.lemmas.List.{length-replicate}
 use Rattle.ice_defs.specs.Tree.{Tree}
 use Rattle.ice_defs.specs.Set.{Weights}

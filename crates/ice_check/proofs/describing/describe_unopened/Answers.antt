@@ -1,0 +1,14 @@
+use Rattle.std.proofs.Common.{sym, ◌∙◌}
+use Rattle.std.proofs.lemmas.Bool.{and_parts}
+use Rattle.ice_journal.specs.Lines.{record_of, version_of}
+use Rattle.ice_section.specs.Section.{may_end}
+use Rattle.ice_check.specs.Fields.{is_spent}
+use Rattle.ice_check.proofs.Places.{section_spent}
+use Rattle.ice_check.proofs.describing.describe_unopened.Goals as goal
+
+pub returns-then-stops-clause-after : goal.returns-then-stops-clause-after
+returns-then-stops-clause-after c =
+    let s = c.args.section in
+    let r = record_of c.args.line.now in
+    let both = and_parts (may_end s) (is_spent r) (sym c.stops.ensures ∙ c.if-stops.true) in
+    section_spent (version_of c.args.version) c.args.number s r c.requires.within both.0 both.1
