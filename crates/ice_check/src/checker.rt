@@ -47,7 +47,7 @@ impl Checker {
 
     /// Takes the next record.
     ///
-    /// A journal has fewer than 2^63 records. After `NoMemory` it takes no more of them, and each later call answers `NoMemory`. Where `ready` is true, no memory is wanted.
+    /// Fewer than 2^63 records came before it. After `NoMemory` it takes no more records, and each later call answers `NoMemory`. Where `ready` is true, no memory is wanted.
     pub fn feed(&mut self, line: &Line) -> Result<(), NoMemory>
         requires lawful { IsRecord (record_of line.now) }
         requires few { next_line self.old < 2 ^ 63 }

@@ -17,7 +17,7 @@ use crate::memory::NoMemory;
 use crate::next::{Group, Next};
 use crate::rule::Rule;
 use crate::stated::Stated;
-use crate::steps::broken_rule;
+use crate::broken::broken_rule;
 use ice_journal::{Line, Version};
 use ice_trade::Exchange;
 use ice_tree::{Assignment, NodeSet};

@@ -2,6 +2,8 @@
 #![tactic(auto)]
 
 mod answer;
+mod assign;
+mod broken;
 mod bytes;
 mod checker;
 mod describing;
@@ -16,7 +18,6 @@ mod regret;
 mod rule;
 mod stage;
 mod stated;
-mod steps;
 mod steps_in;
 #[cfg(test)]
 mod tests;

@@ -14,7 +14,7 @@ use crate::memory::NoMemory;
 use crate::regret;
 use crate::rule::Rule;
 use crate::stated::Stated;
-use crate::steps::{end, pass_end, state};
+use crate::assign::{end, pass_end, state};
 use ice_journal::Line;
 use ice_section::Section;
 use std::alloc::Global;

@@ -4,7 +4,7 @@ use Rattle.ice_tree.proofs.Satisfied.{set_fault-first}
 use Rattle.ice_check.specs.declared.rule.Rule.{Rule}
 use Rattle.ice_check.specs.Stages.{IsBroken}
 use Rattle.ice_check.proofs.Placing.{broken_by}
-use Rattle.ice_check.proofs.steps.broken_rule.Goals as goal
+use Rattle.ice_check.proofs.broken.broken_rule.Goals as goal
 
 pub returns-in-Err : goal.returns-in-Err
 returns-in-Err c =

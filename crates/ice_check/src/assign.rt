@@ -5,40 +5,16 @@ ghost use Rattle.ice_journal.specs.Records as records;
 ghost use Rattle.ice_defs.specs.Set.{IsSatisfied};
 ghost use Rattle.ice_defs.specs.Trade.{tree_of};
 ghost use Rattle.ice_defs.specs.Exchange.{trees_of};
-ghost use Rattle.ice_check.specs.Assigning.{rule_of};
 ghost use Rattle.ice_check.specs.Progress.{IsAfter};
-ghost use Rattle.ice_check.specs.Stages.{progress_of, IsWithin, IsBroken, IsClosed};
+ghost use Rattle.ice_check.specs.Stages.{progress_of, IsWithin, IsClosed};
 
+use crate::broken::broken_rule;
 use crate::lines::{ends_assign, set_in};
 use crate::rule::Rule;
 use crate::stage::Stage;
 use crate::stated::Stated;
 use ice_journal::Line;
-use ice_tree::{NodeSet, SatRule, Tree};
-
-/// The rule of a set at fault.
-fn rule_of(fault: SatRule) -> Rule
-    ensures { result ≡ rule_of fault }
-{
-    match fault {
-        SatRule::Parent => Rule::Parent,
-        SatRule::Few => Rule::Few,
-        SatRule::Many => Rule::Many,
-    }
-}
-
-/// The rule that the next bidder's set breaks by itself.
-pub(crate) fn broken_rule(tree: &Tree, set: &NodeSet) -> Option<Rule>
-    ensures { IsBroken tree.now set.now result }
-{
-    if set.len() != tree.nodes() {
-        return Some(Rule::Count);
-    }
-    match tree.is_satisfied(set) {
-        Ok(()) => None,
-        Err(fault) => Some(rule_of(fault.rule)),
-    }
-}
+use ice_tree::NodeSet;
 
 /// The last set is put: the sets are feasible, or short of a good.
 fn close(number: u64, stated: Stated) -> Stage

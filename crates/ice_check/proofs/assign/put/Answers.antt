@@ -3,7 +3,7 @@ use Rattle.std.specs.Prelude.{Some}
 use Rattle.ice_defs.specs.Tree.{Tree}
 use Rattle.ice_check.specs.Stages.{IsBroken}
 use Rattle.ice_check.proofs.Placing.{broken_takes}
-use Rattle.ice_check.proofs.steps.put.Goals as goal
+use Rattle.ice_check.proofs.assign.put.Goals as goal
 
 pub returns-in-Some-clause-after : goal.returns-in-Some-clause-after
 returns-in-Some-clause-after c =

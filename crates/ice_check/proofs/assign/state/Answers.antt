@@ -7,7 +7,7 @@ use Rattle.ice_check.specs.Stages.{progress_of}
 use Rattle.ice_check.proofs.Placing.{so_far}
 use Rattle.ice_check.proofs.Sets.{set_missing}
 use Rattle.ice_defs.specs.Group.{assign_group}
-use Rattle.ice_check.proofs.steps.state.Goals as goal
+use Rattle.ice_check.proofs.assign.state.Goals as goal
 
 pub returns-in-Some-clause-after : goal.returns-in-Some-clause-after
 returns-in-Some-clause-after c =

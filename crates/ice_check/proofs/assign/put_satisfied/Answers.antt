@@ -6,7 +6,7 @@ use Rattle.ice_check.specs.Progress.{passing, TakesOn}
 use Rattle.ice_check.specs.Assigning.{Stating, stating}
 use Rattle.ice_check.specs.Stages.{IsClosed}
 use Rattle.ice_check.proofs.Placing.{more_takes, closed_takes}
-use Rattle.ice_check.proofs.steps.put_satisfied.Goals as goal
+use Rattle.ice_check.proofs.assign.put_satisfied.Goals as goal
 
 pub returns-then-is_full-clause-after : goal.returns-then-is_full-clause-after
 returns-then-is_full-clause-after c =

@@ -5,7 +5,7 @@ use Rattle.ice_check.specs.State.{at_end, done}
 use Rattle.ice_check.specs.Progress.{passing, TakesOn}
 use Rattle.ice_check.specs.Assigning.{stated}
 use Rattle.ice_check.proofs.Places.{end_only, end_reached, end_missing}
-use Rattle.ice_check.proofs.steps.end.Goals as goal
+use Rattle.ice_check.proofs.assign.end.Goals as goal
 
 pub returns-then-ends_assign-clause-after : goal.returns-then-ends_assign-clause-after
 returns-then-ends_assign-clause-after c =
