@@ -22,7 +22,7 @@ use Rattle.ice_check.specs.Regretting.{state_of, AreKept, IsReady}
 abbrev pub progress_of : ℕ → Stage → Progress
 progress_of line stage.Begin = nothing
 progress_of line stage.OtherKind = other_kind
-progress_of line (stage.Describing head section) = passing (describing (version_of_head head) (kind_of_head head) line section)
+progress_of line (stage.Describing head section) = passing (describing (version_of_head head) (kind_of_head head) line section.value)
 progress_of line (stage.Stating s) = passing (stating line s.exchange s.sets)
 progress_of line (stage.AwaitsEnd s) = passing (stated (at_end assign_end) line s.exchange s.sets)
 progress_of line (stage.Done s) = passing (stated done line s.exchange s.sets)
@@ -34,7 +34,7 @@ progress_of line stage.OutOfMemory = out_of_memory
 abbrev pub IsWithin : ℕ → Stage → Type 0
 IsWithin line stage.Begin = line ≡ 1
 IsWithin line stage.OtherKind = Unit {0}
-IsWithin line (stage.Describing head section) = HasSettings section
+IsWithin line (stage.Describing head section) = HasSettings section.value
 IsWithin line (stage.Stating s) = length s.sets < length (trees_of s.exchange)
 IsWithin line (stage.AwaitsEnd s) = Unit {0}
 IsWithin line (stage.Done s) = Unit {0}

@@ -3,7 +3,7 @@ ghost use Rattle.std.specs.Prelude.{◌≡◌, ◌&&◌, suc, false, is_some, Is
 ghost use Rattle.ice_journal.specs.Lines.{record_of};
 ghost use Rattle.ice_journal.specs.Ranges.{IsRecord};
 ghost use Rattle.ice_journal.specs.Records as records;
-ghost use Rattle.ice_section.specs.Section.{may_end};
+ghost use Rattle.ice_section.specs.Section.{no_section, may_end};
 ghost use Rattle.ice_check.specs.Fields.{is_assign, is_spent, final_value};
 ghost use Rattle.ice_check.specs.Heads.{ends_section};
 ghost use Rattle.ice_check.specs.Progress.{after_head, IsAfter};
@@ -20,13 +20,23 @@ use ice_journal::{Line, Version};
 use ice_section::{Section, SectionFault};
 use std::alloc::Global;
 
+/// The section of a journal, with no record yet.
+fn no_section(alloc: Global) -> Result<Box<Section>, NoMemory>
+    ensures { IfOk result (λ section. section.value ≡ no_section) }
+{
+    match Box::new(alloc, Section::new(alloc)?) {
+        Ok(section) => Ok(section),
+        Err(_) => Err(NoMemory),
+    }
+}
+
 /// The first record is read.
 pub(crate) fn begin(alloc: Global, line: &Line) -> Result<Stage, NoMemory>
     ensures after { IfOk result (λ next. progress_of 2 next ≡ after_head (record_of line.now)) }
     ensures within { IfOk result (λ next. IsWithin 2 next) }
 {
     match head_in(line) {
-        Some(head) => Ok(Stage::Describing(head, Section::new(alloc)?)),
+        Some(head) => Ok(Stage::Describing(head, no_section(alloc)?)),
         None => Ok(Stage::OtherKind),
     }
 }
@@ -48,12 +58,12 @@ fn section_rule(fault: SectionFault) -> Option<Rule>
 fn describe_more(
     number: u64,
     head: Head,
-    mut section: Section,
+    mut section: Box<Section>,
     line: &Line,
 ) -> Result<Stage, NoMemory>
     requires within { IsWithin number (Stage.Describing head section) }
     requires lawful { IsRecord (record_of line.now) }
-    requires more { (may_end section && ends_section head (record_of line.now)) ≡ false }
+    requires more { (may_end section.value && ends_section head (record_of line.now)) ≡ false }
     ensures after { IfOk result (λ next. IsAfter (progress_of number (Stage.Describing head section)) (record_of line.now) (progress_of (suc number) next)) }
     ensures within { IfOk result (λ next. IsWithin (suc number) next) }
 {
@@ -74,13 +84,13 @@ fn ends_description(section: &Section, line: &Line) -> bool
 }
 
 /// The exchange of an assign journal is complete: its sets come next.
-fn complete(alloc: Global, number: u64, section: Section) -> Result<Stage, NoMemory>
+fn complete(alloc: Global, number: u64, section: Box<Section>) -> Result<Stage, NoMemory>
     requires within { IsWithin number (Stage.Describing Head.Assign section) }
-    requires complete { IsTrue (may_end section) }
+    requires complete { IsTrue (may_end section.value) }
     ensures after { IfOk result (λ next. IsAfter (progress_of number (Stage.Describing Head.Assign section)) records.assign (progress_of (suc number) next)) }
     ensures within { IfOk result (λ next. IsWithin (suc number) next) }
 {
-    let exchange = section.finish()?;
+    let exchange = Box::into_inner(section).finish()?;
     Ok(Stage::Stating(Stated::new(alloc, exchange)?))
 }
 
@@ -88,7 +98,7 @@ fn complete(alloc: Global, number: u64, section: Section) -> Result<Stage, NoMem
 fn describe_assign(
     alloc: Global,
     number: u64,
-    section: Section,
+    section: Box<Section>,
     line: &Line,
 ) -> Result<Stage, NoMemory>
     requires within { IsWithin number (Stage.Describing Head.Assign section) }
@@ -126,15 +136,15 @@ fn begin_groups(
     alloc: Global,
     number: u64,
     version: Version,
-    section: Section,
+    section: Box<Section>,
     value: i64,
 ) -> Result<Stage, NoMemory>
     requires within { IsWithin number (Stage.Describing (Head.Regret version) section) }
-    requires complete { IsTrue (may_end section) }
+    requires complete { IsTrue (may_end section.value) }
     ensures after { IfOk result (λ next. IsAfter (progress_of number (Stage.Describing (Head.Regret version) section)) (records.final value) (progress_of (suc number) next)) }
     ensures within { IfOk result (λ next. IsWithin (suc number) next) }
 {
-    let exchange = section.finish()?;
+    let exchange = Box::into_inner(section).finish()?;
     let groups = Groups::new(alloc, version, exchange, value)?;
     match Box::new(alloc, groups) {
         Ok(groups) => Ok(Stage::Regret(groups)),
@@ -146,12 +156,12 @@ fn begin_groups(
 fn describe_unopened(
     number: u64,
     version: Version,
-    section: Section,
+    section: Box<Section>,
     line: &Line,
 ) -> Result<Stage, NoMemory>
     requires within { IsWithin number (Stage.Describing (Head.Regret version) section) }
     requires lawful { IsRecord (record_of line.now) }
-    requires more { (may_end section && is_some (final_value (record_of line.now))) ≡ false }
+    requires more { (may_end section.value && is_some (final_value (record_of line.now))) ≡ false }
     ensures after { IfOk result (λ next. IsAfter (progress_of number (Stage.Describing (Head.Regret version) section)) (record_of line.now) (progress_of (suc number) next)) }
     ensures within { IfOk result (λ next. IsWithin (suc number) next) }
 {
@@ -170,7 +180,7 @@ fn describe_regret(
     alloc: Global,
     number: u64,
     version: Version,
-    section: Section,
+    section: Box<Section>,
     line: &Line,
 ) -> Result<Stage, NoMemory>
     requires within { IsWithin number (Stage.Describing (Head.Regret version) section) }
@@ -189,7 +199,7 @@ pub(crate) fn describe(
     alloc: Global,
     number: u64,
     head: Head,
-    section: Section,
+    section: Box<Section>,
     line: &Line,
 ) -> Result<Stage, NoMemory>
     requires within { IsWithin number (Stage.Describing head section) }

@@ -11,13 +11,13 @@ ghost use Rattle.ice_check.specs.State.{at_sets, done};
 ghost use Rattle.ice_check.specs.Next.{after_log, after_step};
 ghost use Rattle.ice_check.specs.Regretting.{group_of, regretting, at_hand, state_of, weights_for, AreKept, IsReady, IsTaken, FailsBy, HasBegun, FailsAsWhole, HasKeptFinal, HasLeft};
 
+use crate::broken::broken_rule;
 use crate::lines::{amount_in, ends_regret, is_spent, rival_in, set_in};
 use crate::log::LogWalk;
 use crate::memory::NoMemory;
 use crate::next::{Group, Next};
 use crate::rule::Rule;
 use crate::stated::Stated;
-use crate::broken::broken_rule;
 use ice_journal::{Line, Version};
 use ice_trade::Exchange;
 use ice_tree::{Assignment, NodeSet};

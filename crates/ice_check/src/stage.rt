@@ -7,6 +7,7 @@ ghost use Rattle.ice_check.specs.Answers.{EndsWith};
 ghost use Rattle.ice_check.specs.Stages.{progress_of, IsWithin};
 
 use crate::answer::{Answer, CheckEnd};
+use crate::assign::{end, pass_end, state};
 use crate::describing::{begin, describe};
 use crate::groups::Groups;
 use crate::head::Head;
@@ -14,7 +15,6 @@ use crate::memory::NoMemory;
 use crate::regret;
 use crate::rule::Rule;
 use crate::stated::Stated;
-use crate::assign::{end, pass_end, state};
 use ice_journal::Line;
 use ice_section::Section;
 use std::alloc::Global;
@@ -27,7 +27,7 @@ pub(crate) enum Stage {
     /// The first record is no head of a kind that is checked.
     OtherKind,
     /// The exchange is being described.
-    Describing(Head, Section),
+    Describing(Head, Box<Section>),
     /// The sets of an assign journal are being stated.
     Stating(Stated),
     /// All its sets are stated.
