@@ -1,4 +1,4 @@
-//! The sets that an assign journal states.
+//! The sets that a journal states.
 ghost use Rattle.std.specs.Prelude.{◌≡◌, ◌<◌, ◌≤◌, ◌++◌, [], ◌∷◌, length, IfOk, IsTrue, ◌↔◌, MatchBool};
 ghost use Rattle.ice_defs.specs.Exchange.{trees_of, opening_bounds};
 ghost use Rattle.ice_defs.specs.Set.{IsSatisfied};
