@@ -1,41 +1,69 @@
 -- Bytes have one answer, and it is the one that the progress of their records ends with.
-use Rattle.std.proofs.Common.{◌≡◌, ℕ, ℤ, List, refl, sym, ◌∙◌, ap, subst}
+use Rattle.std.proofs.Common.{◌≡◌, ℕ, ℤ, List, [], ◌∷◌, refl, sym, ◌∙◌, ap, subst}
 use Rattle.std.specs.Prelude.{Option, Some, None, Result, Ok, Err}
 use Rattle.ice_defs.specs.Trade.{total_value}
 use Rattle.ice_defs.specs.Weighing.{lower_weights}
 use Rattle.ice_defs.specs.Bounds.{Bounds}
-use Rattle.ice_journal.specs.Records.{Record}
+use Rattle.ice_journal.specs.Records.{Record, Kind, assign_kind, regret_kind}
+use Rattle.ice_journal.specs.Records as line
 use Rattle.ice_journal.specs.Journal.{LinesFault, grammar, unended, IsJournal, IsLinesFault}
 use Rattle.ice_journal.specs.Plain.{plain}
 use Rattle.ice_journal.proofs.Journals.{one_answer as bytes_tell}
 use Rattle.ice_section.specs.Laws.{SectionIsLawful, SectionRecords}
 use Rattle.ice_section.proofs.Whole.{section_is_lawful, section_records_are}
 use Rattle.ice_check.specs.declared.answer.Answer.{Answer}
-use Rattle.ice_check.specs.declared.answer.Answer.TheVariants.{Assign, No}
+use Rattle.ice_check.specs.declared.answer.Answer.TheVariants.{Assign, Regret, No}
 use Rattle.ice_check.specs.declared.answer.CheckEnd.{CheckEnd}
 use Rattle.ice_check.specs.declared.answer.CheckEnd.TheVariants.{Grammar, Unended, OtherKind, NoMemory}
 use Rattle.ice_check.specs.declared.rule.Rule.{Rule}
-use Rattle.ice_check.specs.declared.rule.Rule.TheVariants as rule
 use Rattle.ice_check.specs.State.{State}
 use Rattle.ice_check.specs.Checks.{Failure, IsChecked, FirstFailure}
 use Rattle.ice_check.specs.Progress.{nothing, other_kind, passing, failed, out_of_memory, Leads}
-use Rattle.ice_check.specs.Theorems.{of_assigned, IsYes, assigned_at}
+use Rattle.ice_check.specs.Theorems.{of_assigned, of_regret, IsYes, assigned_at}
 use Rattle.ice_check.specs.Answers.{AnswersJournal, AnswersBytes, EndsWith, EndIsAnswer, OneAnswer}
 use Rattle.ice_check.proofs.Single.{same_failure}
 use Rattle.ice_check.proofs.Leading.{finds}
 use Rattle.ice_check.proofs.Said.{value_said, value_of_assigned}
-use Rattle.ice_check.proofs.Assigned.{standing_journal, done_is_assigned}
+use Rattle.ice_check.proofs.Amount.{amount_said, amount_of_regretted}
+use Rattle.ice_check.proofs.Assigned.{done_is_assigned}
+use Rattle.ice_check.proofs.Regretted.{done_is_right as done_is_regretted}
 
 -- ---- one answer
 
 yes_says : (journal : List Record) (value : ℤ) → IsYes journal (of_assigned value) → value ≡ value_said (plain journal)
 yes_says journal value (a, says, right, is) = is ∙ sym (value_of_assigned a right) ∙ ap value_said (sym says)
 
+regret_says : (journal : List Record) (amount : ℤ) → IsYes journal (of_regret amount) → amount ≡ amount_said (plain journal)
+regret_says journal amount (r, says, right, is) = is ∙ sym (amount_of_regretted r) ∙ ap amount_said (sym says)
+
+-- a journal is of one kind
+abbrev kind_said : List Record → Kind
+kind_said (line.head version kind ∷ rest) = kind
+kind_said (other ∷ rest) = assign_kind
+kind_said [] = assign_kind
+
+kinds_apart : (journal : List Record) (value amount : ℤ) → IsYes journal (of_assigned value) → IsYes journal (of_regret amount) → ⊥
+kinds_apart journal value amount (a, says, right, is) (r, says', right', is') = apart (ap kind_said (sym says ∙ says'))
+  where
+    apart : assign_kind ≡ regret_kind → ⊥
+    apart e = cc
+
 abbrev failure : ℕ → Rule → Option Failure
 failure line test = Some (record { line = line; rule = test })
 
 pub same_answer : (journal : List Record) (one other : Answer) → AnswersJournal journal one → AnswersJournal journal other → one ≡ other
 same_answer journal (Assign v) (Assign w) (checks, says) (checks', says') = ap Assign (yes_says journal v says ∙ sym (yes_says journal w says'))
+same_answer journal (Regret v) (Regret w) (checks, says) (checks', says') = ap Regret (regret_says journal v says ∙ sym (regret_says journal w says'))
+same_answer journal (Assign v) (Regret w) (checks, says) (checks', says') = absurd (kinds_apart journal v w says says')
+same_answer journal (Regret v) (Assign w) (checks, says) (checks', says') = absurd (kinds_apart journal w v says' says)
+same_answer journal (Regret v) (No line test) (checks, says) (checked, fails) = apart (same_failure journal None (failure line test) checks.1 fails)
+  where
+    apart : None ≡ failure line test → Regret v ≡ No line test
+    apart e = cc
+same_answer journal (No line test) (Regret v) (checked, fails) (checks, says) = apart (same_failure journal None (failure line test) checks.1 fails)
+  where
+    apart : None ≡ failure line test → No line test ≡ Regret v
+    apart e = cc
 same_answer journal (Assign v) (No line test) (checks, says) (checked, fails) = apart (same_failure journal None (failure line test) checks.1 fails)
   where
     apart : None ≡ failure line test → Assign v ≡ No line test
@@ -55,6 +83,7 @@ same_answer journal (No line test) (No line' test') (checked, fails) (checked', 
 
 answered_is_checked : (journal : List Record) (answer : Answer) → AnswersJournal journal answer → IsChecked journal
 answered_is_checked journal (Assign value) h = h.0.0
+answered_is_checked journal (Regret amount) h = h.0.0
 answered_is_checked journal (No line test) h = h.0
 
 abbrev refused : CheckEnd → Result Answer CheckEnd
@@ -100,10 +129,14 @@ module _ (one_journal : (bytes : List ℕ) (j k : List Record) → IsJournal byt
 
 module _ (lawful : SectionIsLawful) (described : SectionRecords) where
   ends_passing : (bytes : List ℕ) (journal : List Record) (s : State) (answer : Result Answer CheckEnd) → IsJournal bytes journal → Leads nothing journal (passing s) → EndsWith (passing s) answer → AnswersBytes bytes answer
-  ends_passing bytes journal s (Ok (Assign value)) is l (place, value_is) =
+  ends_passing bytes journal s (Ok (Assign value)) is l (place, kind, value_is) =
       let found = finds journal (passing s) l in
-      let right = done_is_assigned lawful described journal s is.lawful l place (standing_journal journal s l).standing.kind in
+      let right = done_is_assigned lawful described journal s is.lawful l place kind in
       (journal, is, ((found.0, found.1 place), (assigned_at s, right.says, right.right, value_is ∙ ap (λ (b : List Bounds). total_value s.final.sets (lower_weights b)) right.bounds)))
+  ends_passing bytes journal s (Ok (Regret amount)) is l (place, kind, amount_is) =
+      let found = finds journal (passing s) l in
+      let (r, right) = done_is_regretted journal s is.lawful l place kind in
+      (journal, is, ((found.0, found.1 place), (r, right.says, right.right, amount_is ∙ sym right.regret)))
   ends_passing bytes journal s (Ok (No line test)) is l (place, line_is, test_is) =
       let found = finds journal (passing s) l in
       (journal, is, (found.0, subst (λ (f : Failure). FirstFailure journal (Some f)) (λ i. record { line = sym line_is i; rule = sym test_is i }) (found.2 place)))

@@ -1,22 +1,23 @@
 -- An assign journal that passes each test states a lawful exchange and a feasible assignment of it.
-use Rattle.std.proofs.Common.{◌≡◌, Bool, true, false, cond, List, [], ◌∷◌, ◌++◌, map, refl, sym, ◌∙◌, ap, subst}
+use Rattle.std.proofs.Common.{◌≡◌, true, List, [], ◌∷◌, ◌++◌, map, refl, sym, ◌∙◌, ap, subst}
 use Rattle.std.specs.Prelude.{None}
 use Rattle.std.specs.List.{AllByRecursion}
 use Rattle.std.proofs.lemmas.List.{append_assoc, append-nil}
 use Rattle.std.proofs.lemmas.Bool.{false≢true}
 use Rattle.ice_defs.specs.Session.{Assigned}
-use Rattle.ice_journal.specs.Records.{Record, Version, version_1, version_2, Kind, assign_kind, regret_kind, session_kind, exchange_kind, prices_kind, assign_end}
+use Rattle.ice_journal.specs.Records.{Record, Version, version_1, version_2, Kind, assign_kind, assign_end}
 use Rattle.ice_journal.specs.Records as line
 use Rattle.ice_journal.specs.Ranges.{IsRecord}
 use Rattle.ice_journal.specs.Plain.{plain}
 use Rattle.ice_section.specs.Laws.{SectionIsLawful, SectionRecords}
 use Rattle.ice_section.proofs.Whole.{section_is_lawful, section_records_are}
 use Rattle.ice_check.specs.State.{Place, done, State, begun}
-use Rattle.ice_check.specs.Checks.{is_checked, Tested, passes, goes_on}
+use Rattle.ice_check.specs.Checks.{is_checked, Tested}
 use Rattle.ice_check.specs.Theorems.{Says, IsRightAssigned, assigned_at, AreAssigned, DoneIsAssigned, ChecksGiveAssigned}
 use Rattle.ice_check.specs.Written.{assigned_records}
-use Rattle.ice_check.specs.Progress.{Progress, nothing, other_kind, passing, passes_on, fails_at, list_fails_at, after_head, Leads, stays, goes}
-use Rattle.ice_check.proofs.Leading.{failed_passes, other_passes}
+use Rattle.ice_check.specs.Progress.{nothing, passing, passes_on, fails_at, list_fails_at, Leads, stays, goes}
+use Rattle.ice_check.proofs.Leading.{failed_passes}
+use Rattle.ice_check.proofs.Heads.{headed, tested_leads, all_left}
 use Rattle.ice_check.proofs.Assigning.{IsAt, IsStanding, standing_more}
 
 -- each record that passes goes along
@@ -33,17 +34,9 @@ pub record IsStanding_after_head (journal : List Record) (s : State) : Type 0 wh
   pub is : journal ≡ line.head version_1 assign_kind ∷ rest
   pub standing : IsStanding rest s
 
-only_assign : (version : Version) (kind : Kind) → is_checked version kind ≡ true → (version ≡ version_1) × (kind ≡ assign_kind)
-only_assign version_1 assign_kind e = (refl, refl)
-only_assign version_1 regret_kind e = absurd (false≢true e)
-only_assign version_1 session_kind e = absurd (false≢true e)
-only_assign version_1 exchange_kind e = absurd (false≢true e)
-only_assign version_1 prices_kind e = absurd (false≢true e)
-only_assign version_2 assign_kind e = absurd (false≢true e)
-only_assign version_2 regret_kind e = absurd (false≢true e)
-only_assign version_2 session_kind e = absurd (false≢true e)
-only_assign version_2 exchange_kind e = absurd (false≢true e)
-only_assign version_2 prices_kind e = absurd (false≢true e)
+only_first : (version : Version) → is_checked version assign_kind ≡ true → version ≡ version_1
+only_first version_1 e = refl
+only_first version_2 e = absurd (false≢true e)
 
 from_begun : (version : Version) (kind : Kind) (rest : List Record) (s : State) → version ≡ version_1 → kind ≡ assign_kind → Leads (passing (begun version kind)) rest (passing s) → IsStanding_after_head (line.head version kind ∷ rest) s
 from_begun version kind rest s v k l = record {
@@ -52,30 +45,12 @@ from_begun version kind rest s v k l = record {
   standing = leads_standing [] (begun version kind) s rest (record { kind = k; place = refl }) l;
 }
 
-from_head : (version : Version) (kind : Kind) (rest : List Record) (s : State) (b : Bool) → is_checked version kind ≡ b → Leads (cond b (passing (begun version kind)) other_kind) rest (passing s) → IsStanding_after_head (line.head version kind ∷ rest) s
-from_head version kind rest s true e l =
-    let is = only_assign version kind e in
-    from_begun version kind rest s is.0 is.1 l
-from_head version kind rest s false e l = absurd (other_passes rest s l)
-
-from_first : (r : Record) (rest : List Record) (s : State) → Leads (after_head r) rest (passing s) → IsStanding_after_head (r ∷ rest) s
-from_first (line.head version kind) rest s l = from_head version kind rest s (is_checked version kind) refl l
-from_first other rest s l = absurd (other_passes rest s l)
-
-pub standing_journal : (journal : List Record) (s : State) → Leads nothing journal (passing s) → IsStanding_after_head journal s
-standing_journal [] s l = elim l [ ]
-standing_journal (r ∷ rest) s (goes {q = q} a l) = from_first r rest s (subst (λ (z : Progress). Leads z rest (passing s)) a l)
-
-all_left : (xs ys : List Record) → AllByRecursion IsRecord (xs ++ ys) → AllByRecursion IsRecord xs
-all_left [] ys h = tt
-all_left (x ∷ xs) ys h = (h.0, all_left xs ys h.1)
-
--- journals that pass
-tested_leads : (s : State) (records : List Record) → Tested s records None → (t : State) × Leads (passing s) records (passing t) × (t.place ≡ done)
-tested_leads s [] (passes e) = (s, stays, e)
-tested_leads s (r ∷ rest) (goes_on {after = after} list none holds is t) =
-    let (end, l, e) = tested_leads after rest t in
-    (end, goes (passes_on list none holds is) l, e)
+standing_journal : (journal : List Record) (s : State) → s.kind ≡ assign_kind → Leads nothing journal (passing s) → IsStanding_after_head journal s
+standing_journal journal s kind l =
+    let h = headed journal s l in
+    let k : h.kind ≡ assign_kind = sym h.same_kind ∙ kind in
+    subst (λ (j : List Record). IsStanding_after_head j s) (sym h.is)
+    (from_begun h.version h.kind h.rest s (only_first h.version (subst (λ (x : Kind). is_checked h.version x ≡ true) k h.checked)) k h.leads)
 
 module _ (lawful : SectionIsLawful) (described : SectionRecords) where
   assigned_at_end : (journal : List Record) (s : State) → AllByRecursion IsRecord journal → (h : IsStanding_after_head journal s) → IsAt h.rest s done → AreAssigned journal s
@@ -92,7 +67,7 @@ module _ (lawful : SectionIsLawful) (described : SectionRecords) where
 
   pub done_is_assigned : DoneIsAssigned
   done_is_assigned journal s records l place kind =
-      let h = standing_journal journal s l in
+      let h = standing_journal journal s kind l in
       assigned_at_end journal s records h (subst (λ (p : Place). IsAt h.rest s p) place h.standing.place)
 
   of_checked : (version : Version) (kind : Kind) (rest : List Record) → version ≡ version_1 → kind ≡ assign_kind → AllByRecursion IsRecord (line.head version kind ∷ rest)
@@ -105,7 +80,7 @@ module _ (lawful : SectionIsLawful) (described : SectionRecords) where
 
   pub checks_give_assigned : ChecksGiveAssigned
   checks_give_assigned (line.head version kind ∷ rest) of_kind records (checked, tested) =
-      of_checked version kind rest (only_assign version kind checked).0 of_kind records checked tested
+      of_checked version kind rest (only_first version (subst (λ (x : Kind). is_checked version x ≡ true) of_kind checked)) of_kind records checked tested
   checks_give_assigned (other ∷ rest) of_kind records (checked, tested) = absurd checked
   checks_give_assigned [] of_kind records (checked, tested) = absurd checked
 

@@ -1,7 +1,7 @@
 -- What the stages of the checker make of a record.
-use Rattle.std.proofs.Common.{◌≡◌, ◌<◌, ◌≤◌, ◌+◌, ℕ, suc, Bool, true, false, cond, [], ◌∷◌, ◌++◌, length, map, take, set, replicate, refl, sym, ◌∙◌, ap, subst, arith, ◌⊎◌, inl, inr}
-use Rattle.std.specs.Prelude.{◌&&◌, is_some, Some, None}
-use Rattle.std.proofs.lemmas.Bool.{cases_order}
+use Rattle.std.proofs.Common.{◌≡◌, ◌≢◌, ◌<◌, ◌≤◌, ◌+◌, ◌^◌, ℕ, suc, false, [], ◌∷◌, ◌++◌, length, map, take, set, replicate, pos, refl, sym, ◌∙◌, ap, subst, arith, ◌⊎◌, inl, inr}
+use Rattle.std.specs.Prelude.{◌&&◌, Some}
+use Rattle.std.proofs.lemmas.Bool.{cases_order, false≢true}
 use Rattle.std.proofs.lemmas.Option.{none-some}
 use Rattle.std.proofs.lemmas.List.{get_or-set_other, get_or-set_same, get_or-map, length-set, length-map, length-replicate, length-take-le}
 use Rattle.ice_defs.specs.declared.SatRule.{SatRule}
@@ -11,6 +11,8 @@ use Rattle.ice_defs.specs.Set.{NodeSet, IsSatisfied}
 use Rattle.ice_defs.specs.SetFault.{set_fault}
 use Rattle.ice_defs.specs.Trade.{Assignment, tree_of, set_of}
 use Rattle.ice_defs.specs.Exchange.{Exchange, trees_of}
+use Rattle.ice_defs.specs.Group.{Group, assign_group}
+use Rattle.ice_tree.proofs.Satisfied.{set_fault-none}
 use Rattle.ice_journal.specs.Records.{Record}
 use Rattle.ice_journal.specs.Records as line
 use Rattle.ice_section.specs.Section.{Section, take_record, may_end}
@@ -19,28 +21,39 @@ use Rattle.ice_section.specs.declared.faults.SectionFault.{SectionFault}
 use Rattle.ice_section.specs.declared.faults.SectionFault.TheVariants as fault
 use Rattle.ice_check.specs.declared.rule.Rule.{Rule}
 use Rattle.ice_check.specs.declared.rule.Rule.TheVariants as rule
+use Rattle.ice_check.specs.declared.head.Head.{Head}
+use Rattle.ice_check.specs.declared.next.Next.{Next}
+use Rattle.ice_check.specs.declared.next.Next.TheVariants as coming
+use Rattle.ice_check.specs.declared.groups.Groups.{Groups}
 use Rattle.ice_check.specs.declared.stage.Stage.{Stage}
 use Rattle.ice_check.specs.declared.stage.Stage.TheVariants as stage
-use Rattle.ice_check.specs.Fields.{is_assign}
-use Rattle.ice_check.specs.Tests.{is_refusal}
-use Rattle.ice_check.specs.Progress.{failed, TakesOn}
-use Rattle.ice_check.specs.Assigning.{describing, stating, stated, Stating, rule_of, AreStated, IsBounded, described_count}
+use Rattle.ice_check.specs.Heads.{version_of_head, kind_of_head, ends_section}
+use Rattle.ice_check.specs.State.{Stated, at_sets, State, trees_at}
+use Rattle.ice_check.specs.Next.{go_to}
+use Rattle.ice_check.specs.Tests.{is_refusal, HasLeftOut}
+use Rattle.ice_check.specs.Progress.{passing, failed, other_kind, TakesOn, IsAfter, next_line}
+use Rattle.ice_check.specs.Assigning.{describing, stating, Stating, rule_of, AreStated}
+use Rattle.ice_check.specs.Regretting.{state_at}
 use Rattle.ice_check.specs.Stages.{progress_of, IsWithin, IsBroken, IsClosed, section_rule}
-use Rattle.ice_check.proofs.Places.{section_refused, section_misplaced, set_miscounted, set_unsatisfied, sets_short, sets_balanced}
+use Rattle.ice_check.proofs.Places.{section_refused, section_misplaced}
+use Rattle.ice_check.proofs.Sets.{set_miscounted, set_unsatisfied, IsFit, set_on, sets_short, sets_complete}
 
 -- what a section refuses
-pub section_fails : (number : ℕ) (s : Section) (r : Record) (why : SectionFault) (x : Rule) → (may_end s && is_assign r) ≡ false → IsRefusal (take_record s r) why → section_rule why ≡ Some x
-    → TakesOn (describing number s) r (failed (record { line = number; rule = x }))
-section_fails number s r why x more taken is = by why taken is
+pub section_fails : (head : Head) (number : ℕ) (s : Section) (r : Record) (why : SectionFault) (x : Rule) → (may_end s && ends_section head r) ≡ false → IsRefusal (take_record s r) why → section_rule why ≡ Some x
+    → TakesOn (describing (version_of_head head) (kind_of_head head) number s) r (failed (record { line = number; rule = x }))
+section_fails head number s r why x more taken is = by why taken is
   where
+    Now : State
+    Now = describing (version_of_head head) (kind_of_head head) number s
+
     same : (y : Rule) → Some y ≡ Some x → y ≡ x
     same y e = cc
 
-    by : (why : SectionFault) → IsRefusal (take_record s r) why → section_rule why ≡ Some x → TakesOn (describing number s) r (failed (record { line = number; rule = x }))
-    by fault.Order taken is = subst (λ (y : Rule). TakesOn (describing number s) r (failed (record { line = number; rule = y }))) (same rule.Order is) (section_misplaced number s r taken more)
-    by fault.Count taken is = subst (λ (y : Rule). TakesOn (describing number s) r (failed (record { line = number; rule = y }))) (same rule.Exchange is) (section_refused number s r (ap is_refusal taken))
-    by fault.NoGood taken is = subst (λ (y : Rule). TakesOn (describing number s) r (failed (record { line = number; rule = y }))) (same rule.Exchange is) (section_refused number s r (ap is_refusal taken))
-    by (fault.Maker n) taken is = subst (λ (y : Rule). TakesOn (describing number s) r (failed (record { line = number; rule = y }))) (same rule.Exchange is) (section_refused number s r (ap is_refusal taken))
+    by : (why : SectionFault) → IsRefusal (take_record s r) why → section_rule why ≡ Some x → TakesOn (describing (version_of_head head) (kind_of_head head) number s) r (failed (record { line = number; rule = x }))
+    by fault.Order taken is = subst (λ (y : Rule). TakesOn Now r (failed (record { line = number; rule = y }))) (same rule.Order is) (section_misplaced head number s r taken more)
+    by fault.Count taken is = subst (λ (y : Rule). TakesOn Now r (failed (record { line = number; rule = y }))) (same rule.Exchange is) (section_refused (version_of_head head) (kind_of_head head) number s r (ap is_refusal taken))
+    by fault.NoGood taken is = subst (λ (y : Rule). TakesOn Now r (failed (record { line = number; rule = y }))) (same rule.Exchange is) (section_refused (version_of_head head) (kind_of_head head) number s r (ap is_refusal taken))
+    by (fault.Maker n) taken is = subst (λ (y : Rule). TakesOn Now r (failed (record { line = number; rule = y }))) (same rule.Exchange is) (section_refused (version_of_head head) (kind_of_head head) number s r (ap is_refusal taken))
     by fault.NoMemory taken is = absurd (none-some x is)
 
 -- the rule of a set that isn't satisfied
@@ -49,24 +62,44 @@ broken_by t s Parent count is = (count, Parent, is, refl)
 broken_by t s Few count is = (count, Few, is, refl)
 broken_by t s Many count is = (count, Many, is, refl)
 
+-- a set that is broken by itself, in a group that leaves no bidder out
+pub broken_fails : (s : State) (g : Group) (found : Stated) (x : NodeSet) (y : Rule) → ¬ HasLeftOut (at_sets g found) (line.set x) → length found.sets < length (trees_at s) → IsBroken (tree_of (trees_at s) (length found.sets)) x (Some y)
+    → TakesOn (go_to (at_sets g found) s) (line.set x) (failed (record { line = s.line; rule = y }))
+broken_fails s g found x rule.Count taken room h = set_miscounted s g found x h
+broken_fails s g found x other taken room (count, k, is, e) =
+    subst (λ (y : Rule). TakesOn (go_to (at_sets g found) s) (line.set x) (failed (record { line = s.line; rule = y }))) (sym e)
+    (set_unsatisfied s g found x k (record { count = count; bidder = room; taken = taken }) is)
+
+-- a satisfied set of a bidder that isn't left out
+pub is_fit : (s : State) (g : Group) (found : Stated) (x : NodeSet) → ¬ HasLeftOut (at_sets g found) (line.set x) → length found.sets < length (trees_at s) → IsSatisfied (tree_of (trees_at s) (length found.sets)) x → IsFit s g found x
+is_fit s g found x taken room is = record {
+  counted = record { count = is.same_length; bidder = room; taken = taken };
+  faultless = set_fault-none (tree_of (trees_at s) (length found.sets)) x is;
+}
+
+-- the sets of an assign journal
+abbrev pub so_far : Assignment → Stated
+so_far sets = record { value = pos 0; sets = sets }
+
 pub broken_takes : (number : ℕ) (ex : Exchange) (sets : Assignment) (x : NodeSet) (y : Rule) → length sets < length (trees_of ex) → IsBroken (tree_of (trees_of ex) (length sets)) x (Some y)
     → TakesOn (stating number ex sets) (line.set x) (failed (record { line = number; rule = y }))
-broken_takes number ex sets x rule.Count room h = set_miscounted number ex sets x h
-broken_takes number ex sets x other room (count, k, is, e) =
-    subst (λ (y : Rule). TakesOn (stating number ex sets) (line.set x) (failed (record { line = number; rule = y }))) (sym e)
-    (set_unsatisfied number ex sets x k (record { count = count; bidder = room }) is)
+broken_takes number ex sets x y room h = broken_fails (stating number ex sets) assign_group (so_far sets) x y (λ f. f) room h
 
-pub closed_takes : (number : ℕ) (ex : Exchange) (sets : Assignment) (x : NodeSet) (result : Stage) → length sets < length (trees_of ex) → length x ≡ length (tree_of (trees_of ex) (length sets))
-    → set_fault (tree_of (trees_of ex) (length sets)) x ≡ None → suc (length sets) ≡ length (trees_of ex) → IsClosed number (record { exchange = ex; sets = sets ++ x ∷ [] }) result
+pub more_takes : (number : ℕ) (ex : Exchange) (sets : Assignment) (x : NodeSet) → length sets < length (trees_of ex) → IsSatisfied (tree_of (trees_of ex) (length sets)) x → suc (length sets) ≢ length (trees_of ex)
+    → TakesOn (stating number ex sets) (line.set x) (passing (stating (suc number) ex (sets ++ x ∷ [])))
+more_takes number ex sets x room is more = set_on (stating number ex sets) assign_group (so_far sets) x (is_fit (stating number ex sets) assign_group (so_far sets) x (λ f. f) room is) more
+
+pub closed_takes : (number : ℕ) (ex : Exchange) (sets : Assignment) (x : NodeSet) (result : Stage) → length sets < length (trees_of ex) → IsSatisfied (tree_of (trees_of ex) (length sets)) x
+    → suc (length sets) ≡ length (trees_of ex) → IsClosed number (record { exchange = ex; sets = sets ++ x ∷ [] }) result
     → TakesOn (stating number ex sets) (line.set x) (progress_of (suc number) result)
-closed_takes number ex sets x (stage.AwaitsEnd after) room count faultless last (is, balanced) =
+closed_takes number ex sets x (stage.AwaitsEnd after) room sat last (is, balanced) =
     subst (λ (s : Stating). TakesOn (stating number ex sets) (line.set x) (progress_of (suc number) (stage.AwaitsEnd s))) (sym is)
-    (sets_balanced number ex sets x (record { count = count; bidder = room }) faultless last balanced)
-closed_takes number ex sets x (stage.Failed n y) room count faultless last (at, is, short) =
+    (sets_complete (stating number ex sets) assign_group (so_far sets) x (is_fit (stating number ex sets) assign_group (so_far sets) x (λ f. f) room sat) last balanced (λ valued. absurd (false≢true valued)))
+closed_takes number ex sets x (stage.Failed n y) room sat last (at, is, short) =
     subst (λ (m : ℕ). TakesOn (stating number ex sets) (line.set x) (progress_of (suc number) (stage.Failed m y))) (sym at)
     (subst (λ (z : Rule). TakesOn (stating number ex sets) (line.set x) (progress_of (suc number) (stage.Failed number z))) (sym is)
-    (sets_short number ex sets x (record { count = count; bidder = room }) faultless last short))
-closed_takes number ex sets x other room count faultless last h = absurd h
+    (sets_short (stating number ex sets) assign_group (so_far sets) x (is_fit (stating number ex sets) assign_group (so_far sets) x (λ f. f) room sat) last short))
+closed_takes number ex sets x other room sat last h = absurd h
 
 -- ---- the sets that are stated
 
@@ -119,20 +152,47 @@ next_set ex sets taken x now h view room is = (
     count : length (take taken sets) ≡ taken
     count = length-take-le taken sets h.taken_there
 
-few_lines : (s : Section) (n : ℕ) → IsBounded s → n ≡ 2 + described_count s → n < 3000
-few_lines s n h is = by (is_some s.settings) refl
-  where
-    by : (b : Bool) → is_some s.settings ≡ b → n < 3000
-    by true e = omega (arith, is, ap (λ (b : Bool). let k : ℕ = cond b 1 0 in k) e, h.goods, h.bidders, h.nodes, h.draft)
-    by false e = omega (arith, is, ap (λ (b : Bool). let k : ℕ = cond b 1 0 in k) e, h.goods, h.bidders, h.nodes, h.draft)
+-- ---- the number of the next line
 
--- the number of the next line matters only where it is small
-pub same_progress : (n m : ℕ) (st : Stage) → IsWithin n st → (n < 3000 → m ≡ n) → progress_of m st ≡ progress_of n st
-same_progress n m stage.Begin h same = refl
-same_progress n m stage.OtherKind h same = refl
-same_progress n m (stage.Describing s) h same = ap (λ (k : ℕ). progress_of k (stage.Describing s)) (same (few_lines s n h.1 h.0))
-same_progress n m (stage.Stating s) h same = ap (λ (k : ℕ). progress_of k (stage.Stating s)) (same (omega (arith, h.0, h.1, h.2)))
-same_progress n m (stage.AwaitsEnd s) h same = ap (λ (k : ℕ). progress_of k (stage.AwaitsEnd s)) (same (omega (arith, h)))
-same_progress n m (stage.Done s) h same = ap (λ (k : ℕ). progress_of k (stage.Done s)) (same (omega (arith, h)))
-same_progress n m (stage.Failed line rule) h same = refl
-same_progress n m stage.OutOfMemory h same = refl
+line_is : (n : ℕ) (g : Groups) (now : Next) → (state_at g n now).line ≡ n
+line_is n g (coming.Set group) = refl
+line_is n g (coming.Step group) = refl
+line_is n g coming.Rival = refl
+line_is n g coming.Amount = refl
+line_is n g coming.End = refl
+line_is n g coming.Nothing = refl
+
+-- it matters only where a test may fail
+pub same_progress : (n m : ℕ) (old next : Stage) (r : Record) → IsWithin n old → IsAfter (progress_of n old) r (progress_of (suc n) next) → next_line (progress_of n old) < 2 ^ 63 → (n < 2 ^ 63 → m ≡ suc n)
+    → progress_of m next ≡ progress_of (suc n) next
+same_progress n m stage.Begin next r h a few same = ap (λ (k : ℕ). progress_of k next) (same (omega (arith, h)))
+same_progress n m stage.OtherKind next r h a few same = by next a
+  where
+    by : (next : Stage) → progress_of (suc n) next ≡ other_kind → progress_of m next ≡ progress_of (suc n) next
+    by stage.OtherKind e = refl
+    by stage.Begin e = refl
+    by (stage.Describing head section) e = cc
+    by (stage.Stating x) e = cc
+    by (stage.AwaitsEnd x) e = cc
+    by (stage.Done x) e = cc
+    by (stage.Regret x) e = cc
+    by (stage.Failed k y) e = refl
+    by stage.OutOfMemory e = refl
+same_progress n m (stage.Failed number y) next r h a few same = by next a
+  where
+    by : (next : Stage) → progress_of (suc n) next ≡ failed (record { line = number; rule = y }) → progress_of m next ≡ progress_of (suc n) next
+    by stage.OtherKind e = refl
+    by stage.Begin e = refl
+    by (stage.Describing head section) e = cc
+    by (stage.Stating x) e = cc
+    by (stage.AwaitsEnd x) e = cc
+    by (stage.Done x) e = cc
+    by (stage.Regret x) e = cc
+    by (stage.Failed k z) e = refl
+    by stage.OutOfMemory e = refl
+same_progress n m (stage.Describing head section) next r h a few same = ap (λ (k : ℕ). progress_of k next) (same few)
+same_progress n m (stage.Stating x) next r h a few same = ap (λ (k : ℕ). progress_of k next) (same few)
+same_progress n m (stage.AwaitsEnd x) next r h a few same = ap (λ (k : ℕ). progress_of k next) (same few)
+same_progress n m (stage.Done x) next r h a few same = ap (λ (k : ℕ). progress_of k next) (same few)
+same_progress n m (stage.Regret x) next r h a few same = ap (λ (k : ℕ). progress_of k next) (same (subst (λ (k : ℕ). k < 2 ^ 63) (line_is n x.value x.value.next) few))
+same_progress n m stage.OutOfMemory next r h a few same = absurd a

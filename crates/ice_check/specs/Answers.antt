@@ -2,16 +2,16 @@
 use Rattle.std.specs.Prelude.{ℕ, ◌≡◌, ◌≢◌, List, Some, Result, Ok, Err}
 use Rattle.ice_defs.specs.Trade.{total_value}
 use Rattle.ice_defs.specs.Weighing.{lower_weights}
-use Rattle.ice_journal.specs.Records.{Record}
+use Rattle.ice_journal.specs.Records.{Record, assign_kind, regret_kind}
 use Rattle.ice_journal.specs.Journal.{grammar, unended, IsJournal, IsLinesFault}
 use Rattle.ice_check.specs.declared.answer.Answer.{Answer}
-use Rattle.ice_check.specs.declared.answer.Answer.TheVariants.{Assign, No}
+use Rattle.ice_check.specs.declared.answer.Answer.TheVariants.{Assign, Regret, No}
 use Rattle.ice_check.specs.declared.answer.CheckEnd.{CheckEnd}
 use Rattle.ice_check.specs.declared.answer.CheckEnd.TheVariants.{Grammar, Unended, OtherKind, NoMemory}
 use Rattle.ice_check.specs.declared.rule.Rule.TheVariants as rule
 use Rattle.ice_check.specs.State.{done}
 use Rattle.ice_check.specs.Checks.{IsChecked, FirstFailure, Checks}
-use Rattle.ice_check.specs.Theorems.{of_assigned, IsYes}
+use Rattle.ice_check.specs.Theorems.{of_assigned, of_regret, IsYes}
 use Rattle.ice_check.specs.Progress.{Progress, nothing, other_kind, passing, failed, out_of_memory, Leads}
 
 -- these records are those of the bytes, and this holds of them
@@ -20,6 +20,7 @@ OfJournal bytes P = (journal : List Record) × IsJournal bytes journal × P jour
 
 abbrev pub AnswersJournal : List Record → Answer → Type 0
 AnswersJournal journal (Assign value) = Checks journal × IsYes journal (of_assigned value)
+AnswersJournal journal (Regret amount) = Checks journal × IsYes journal (of_regret amount)
 AnswersJournal journal (No line test) = IsChecked journal × FirstFailure journal (Some (record { line = line; rule = test }))
 
 -- the least line at fault comes first, then another kind, then the first failed test or the yes; want of memory is free
@@ -36,7 +37,8 @@ EndsWith nothing answer = answer ≡ Err OtherKind
 EndsWith other_kind answer = answer ≡ Err OtherKind
 EndsWith out_of_memory answer = answer ≡ Err NoMemory
 EndsWith (failed failure) answer = answer ≡ Ok (No failure.line failure.rule)
-EndsWith (passing s) (Ok (Assign value)) = (s.place ≡ done) × (value ≡ total_value s.final.sets (lower_weights s.bounds))
+EndsWith (passing s) (Ok (Assign value)) = (s.place ≡ done) × (s.kind ≡ assign_kind) × (value ≡ total_value s.final.sets (lower_weights s.bounds))
+EndsWith (passing s) (Ok (Regret amount)) = (s.place ≡ done) × (s.kind ≡ regret_kind) × (amount ≡ s.regret)
 EndsWith (passing s) (Ok (No line test)) = (s.place ≢ done) × (line ≡ s.line) × (test ≡ rule.Short)
 EndsWith (passing s) (Err fault) = ⊥
 

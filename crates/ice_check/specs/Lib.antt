@@ -9,3 +9,6 @@ pub mod Progress
 pub mod Answers
 pub mod Assigning
 pub mod Stages
+pub mod Heads
+pub mod Logs
+pub mod Regretting

@@ -1,10 +1,10 @@
 -- What the stages of the checker stand for.
-use Rattle.std.specs.Prelude.{ℕ, ◌+◌, ◌<◌, ◌≤◌, ◌≡◌, ◌≢◌, length, Option, Some, None}
+use Rattle.std.specs.Prelude.{ℕ, ◌<◌, ◌≡◌, ◌≢◌, length, Option, Some, None}
 use Rattle.ice_defs.specs.declared.SatRule.{SatRule}
 use Rattle.ice_defs.specs.Tree.{Tree}
 use Rattle.ice_defs.specs.Set.{NodeSet, IsSatisfied}
 use Rattle.ice_defs.specs.SetFault.{set_fault}
-use Rattle.ice_defs.specs.Exchange.{Exchange, trees_of}
+use Rattle.ice_defs.specs.Exchange.{trees_of}
 use Rattle.ice_journal.specs.Records.{assign_end}
 use Rattle.ice_check.specs.declared.stage.Stage.{Stage}
 use Rattle.ice_check.specs.declared.stage.Stage.TheVariants as stage
@@ -14,27 +14,31 @@ use Rattle.ice_section.specs.declared.faults.SectionFault.{SectionFault}
 use Rattle.ice_section.specs.declared.faults.SectionFault.TheVariants as fault
 use Rattle.ice_check.specs.State.{at_end, done}
 use Rattle.ice_check.specs.Progress.{Progress, nothing, other_kind, passing, failed, out_of_memory}
-use Rattle.ice_check.specs.Assigning.{describing, described_count, IsBounded, stating, stated, Stating, rule_of, AreBalanced, AreShort}
+use Rattle.ice_check.specs.Assigning.{describing, HasSettings, stating, stated, Stating, rule_of, AreBalanced, AreShort}
+use Rattle.ice_check.specs.Heads.{version_of_head, kind_of_head}
+use Rattle.ice_check.specs.Regretting.{state_of, AreKept, IsReady}
 
 -- the progress at this stage, where this line is next
 abbrev pub progress_of : ℕ → Stage → Progress
 progress_of line stage.Begin = nothing
 progress_of line stage.OtherKind = other_kind
-progress_of line (stage.Describing section) = passing (describing line section)
+progress_of line (stage.Describing head section) = passing (describing (version_of_head head) (kind_of_head head) line section.value)
 progress_of line (stage.Stating s) = passing (stating line s.exchange s.sets)
 progress_of line (stage.AwaitsEnd s) = passing (stated (at_end assign_end) line s.exchange s.sets)
 progress_of line (stage.Done s) = passing (stated done line s.exchange s.sets)
+progress_of line (stage.Regret groups) = passing (state_of line groups.value)
 progress_of line (stage.Failed number rule) = failed (record { line = number; rule = rule })
 progress_of line stage.OutOfMemory = out_of_memory
 
--- an assign journal that passes so far has at most 2,318 lines, and sets are stated for bidders that are there
+-- what each stage keeps: the first line is next where none is read, sets are stated for bidders that are there
 abbrev pub IsWithin : ℕ → Stage → Type 0
 IsWithin line stage.Begin = line ≡ 1
 IsWithin line stage.OtherKind = Unit {0}
-IsWithin line (stage.Describing section) = (line ≡ 2 + described_count section) × IsBounded section
-IsWithin line (stage.Stating s) = (line ≤ 2277 + length s.sets) × (length s.sets < length (trees_of s.exchange)) × (length (trees_of s.exchange) ≤ 40)
-IsWithin line (stage.AwaitsEnd s) = line ≤ 2317
-IsWithin line (stage.Done s) = line ≤ 2318
+IsWithin line (stage.Describing head section) = HasSettings section.value
+IsWithin line (stage.Stating s) = length s.sets < length (trees_of s.exchange)
+IsWithin line (stage.AwaitsEnd s) = Unit {0}
+IsWithin line (stage.Done s) = Unit {0}
+IsWithin line (stage.Regret groups) = AreKept groups.value × IsReady groups.value groups.value.next
 IsWithin line (stage.Failed number rule) = Unit {0}
 IsWithin line stage.OutOfMemory = Unit {0}
 

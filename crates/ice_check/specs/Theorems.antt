@@ -9,7 +9,7 @@ use Rattle.ice_defs.specs.Lawful.{IsExchange}
 use Rattle.ice_defs.specs.Session.{Assigned, Regretted, Session}
 use Rattle.ice_defs.specs.Right.{IsSettled, IsRight}
 use Rattle.ice_defs.specs.Headline.{Headline}
-use Rattle.ice_journal.specs.Records.{Record, Kind, assign_kind}
+use Rattle.ice_journal.specs.Records.{Record, Kind, assign_kind, regret_kind}
 use Rattle.ice_journal.specs.Records as line
 use Rattle.ice_journal.specs.Ranges.{IsRecord}
 use Rattle.ice_journal.specs.Plain.{plain}
@@ -50,6 +50,22 @@ DoneIsAssigned = (journal : List Record) (s : State) → AllByRecursion IsRecord
 
 abbrev pub ChecksGiveAssigned : Type 0
 ChecksGiveAssigned = (journal : List Record) → HasKind assign_kind journal → AllByRecursion IsRecord journal → Checks journal → (a : Assigned) × Says journal (assigned_records a) × IsRightAssigned a
+
+-- where the records of a regret journal lead to its end, they state the end's exchange and a right settlement of it, with the end's regret
+pub record IsRegrettedAt (journal : List Record) (s : State) (r : Regretted) : Type 0 where
+  pub says : Says journal (regretted_records r)
+  pub right : IsRightRegret r
+  pub exchange : r.exchange ≡ exchange_at s
+  pub regret : r.settlement.regret ≡ s.regret
+
+abbrev pub AreRegretted : List Record → State → Type 0
+AreRegretted journal s = (r : Regretted) × IsRegrettedAt journal s r
+
+abbrev pub DoneIsRegretted : Type 0
+DoneIsRegretted = (journal : List Record) (s : State) → AllByRecursion IsRecord journal → Leads nothing journal (passing s) → s.place ≡ done → s.kind ≡ regret_kind → AreRegretted journal s
+
+abbrev pub ChecksGiveRegret : Type 0
+ChecksGiveRegret = (journal : List Record) → HasKind regret_kind journal → AllByRecursion IsRecord journal → Checks journal → (r : Regretted) × Says journal (regretted_records r) × IsRightRegret r
 
 -- the numbers of a yes
 pub data Yes : Type 0 where

@@ -5,6 +5,8 @@ use crate::rule::Rule;
 pub enum Answer {
     /// A journal of kind assign passes every test: the value of its sets at lower bounds.
     Assign { value: i128 },
+    /// A journal of kind regret passes every test: the regret of its final sets.
+    Regret { amount: i128 },
     /// The first failed test: its line, from 1, and its rule.
     No { line: u64, rule: Rule },
 }

@@ -35,7 +35,7 @@ fn feed_all(checker: &mut Checker, bytes: &[u8]) -> Result<(), CheckEnd>
 
 /// Checks the bytes of a journal.
 ///
-/// `Grammar` or `Unended` is answered exactly where a line is no record or the last one has no newline, and names the least such line. Else `OtherKind` is answered exactly where there is no line, or the first is no head of an assign journal. Else the answer is `Assign` exactly where every test passes, with the value of the sets at lower bounds, or `No` with the first failed test. `NoMemory` is answered where memory runs out.
+/// `Grammar` or `Unended` is answered exactly where a line is no record or the last one has no newline, and names the least such line. Else `OtherKind` is answered exactly where there is no line, or the first is no head of an assign or a regret journal. Else the answer is `Assign` or `Regret` exactly where every test passes, with the value of the sets at lower bounds or with the regret of the final sets, or `No` with the first failed test. `NoMemory` is answered where memory runs out.
 pub fn check(alloc: Global, bytes: &[u8]) -> Result<Answer, CheckEnd>
     ensures { AnswersBytes bytes.now result }
 {

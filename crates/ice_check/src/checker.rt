@@ -1,8 +1,8 @@
 //! The checker, which takes one record at a time.
-ghost use Rattle.std.specs.Prelude.{◌≡◌, IsTrue, IfOk, OnOk, OnErr, IsOk};
+ghost use Rattle.std.specs.Prelude.{◌≡◌, ◌<◌, ◌^◌, IsTrue, IfOk, OnOk, OnErr, IsOk};
 ghost use Rattle.ice_journal.specs.Lines.{record_of};
 ghost use Rattle.ice_journal.specs.Ranges.{IsRecord};
-ghost use Rattle.ice_check.specs.Progress.{nothing, out_of_memory, is_ready, IsAfter};
+ghost use Rattle.ice_check.specs.Progress.{nothing, out_of_memory, is_ready, next_line, IsAfter};
 ghost use Rattle.ice_check.specs.Answers.{EndsWith};
 
 use crate::answer::{Answer, CheckEnd};
@@ -47,9 +47,10 @@ impl Checker {
 
     /// Takes the next record.
     ///
-    /// After `NoMemory` it takes no more records, and each later call answers `NoMemory`. Where `ready` is true, no memory is wanted.
+    /// Fewer than 2^63 records came before it. After `NoMemory` it takes no more records, and each later call answers `NoMemory`. Where `ready` is true, no memory is wanted.
     pub fn feed(&mut self, line: &Line) -> Result<(), NoMemory>
-        requires { IsRecord (record_of line.now) }
+        requires lawful { IsRecord (record_of line.now) }
+        requires few { next_line self.old < 2 ^ 63 }
         ensures after { OnOk result (IsAfter self.old (record_of line.now) self.new) }
         ensures stopped { OnErr result (self.new ≡ out_of_memory) }
         ensures ready { IsTrue (is_ready self.old) → IsOk result }
@@ -67,7 +68,7 @@ impl Checker {
     {
         !matches!(
             self.stage,
-            Stage::Begin | Stage::Describing(_) | Stage::OutOfMemory
+            Stage::Begin | Stage::Describing(_, _) | Stage::OutOfMemory
         )
     }
 

@@ -1,7 +1,7 @@
 //! Laws of the checker's definitions, which hold of every journal.
 
 ghost use Rattle.ice_check.specs.Progress.{RecordsLeadOn, ProgressFindsTheFirstFailure};
-ghost use Rattle.ice_check.specs.Theorems.{DoneIsAssigned, ChecksGiveAssigned};
+ghost use Rattle.ice_check.specs.Theorems.{DoneIsAssigned, ChecksGiveAssigned, DoneIsRegretted, ChecksGiveRegret};
 ghost use Rattle.ice_check.specs.Answers.{EndIsAnswer, OneAnswer};
 
 /// One more record leads on from where the records before it led.
@@ -26,6 +26,18 @@ pub fn done_is_assigned()
 #[tactic(auto, using(crate::proofs::Assigned::checked_is_right))]
 pub fn checks_give_assigned()
     ensures { ChecksGiveAssigned }
+{}
+
+/// A regret journal whose records lead to its end states a lawful exchange, the best assignment at lower values, and its exact regret: those of the state.
+#[tactic(auto, using(crate::proofs::Regretted::done_is_right))]
+pub fn done_is_regretted()
+    ensures { DoneIsRegretted }
+{}
+
+/// A regret journal that passes every test states a lawful exchange, the best assignment at lower values, and its exact regret.
+#[tactic(auto, using(crate::proofs::Regretted::checked_is_right))]
+pub fn checks_give_regret()
+    ensures { ChecksGiveRegret }
 {}
 
 /// What is answered where the records end is the answer to their bytes.

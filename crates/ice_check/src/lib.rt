@@ -2,15 +2,25 @@
 #![tactic(auto)]
 
 mod answer;
+mod assign;
+mod broken;
 mod bytes;
 mod checker;
+mod describing;
+mod groups;
+mod head;
 pub mod laws;
 mod lines;
+mod log;
 mod memory;
+mod next;
+mod regret;
 mod rule;
 mod stage;
 mod stated;
-mod steps;
+mod steps_in;
+#[cfg(test)]
+mod tests;
 mod value;
 
 pub use answer::{Answer, CheckEnd};

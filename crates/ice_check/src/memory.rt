@@ -13,3 +13,21 @@ impl From<ice_tree::NoMemory> for NoMemory {
         NoMemory
     }
 }
+
+impl From<ice_best::NoMemory> for NoMemory {
+    fn from(_: ice_best::NoMemory) -> NoMemory {
+        NoMemory
+    }
+}
+
+impl From<ice_bound::NoMemory> for NoMemory {
+    fn from(_: ice_bound::NoMemory) -> NoMemory {
+        NoMemory
+    }
+}
+
+impl From<ice_refute::NoMemory> for NoMemory {
+    fn from(_: ice_refute::NoMemory) -> NoMemory {
+        NoMemory
+    }
+}

@@ -7,10 +7,14 @@ ghost use Rattle.ice_check.specs.Answers.{EndsWith};
 ghost use Rattle.ice_check.specs.Stages.{progress_of, IsWithin};
 
 use crate::answer::{Answer, CheckEnd};
+use crate::assign::{end, pass_end, state};
+use crate::describing::{begin, describe};
+use crate::groups::Groups;
+use crate::head::Head;
 use crate::memory::NoMemory;
+use crate::regret;
 use crate::rule::Rule;
 use crate::stated::Stated;
-use crate::steps::{begin, describe, end, pass_end, state};
 use ice_journal::Line;
 use ice_section::Section;
 use std::alloc::Global;
@@ -23,13 +27,15 @@ pub(crate) enum Stage {
     /// The first record is no head of a kind that is checked.
     OtherKind,
     /// The exchange is being described.
-    Describing(Section),
-    /// Its sets are being stated.
+    Describing(Head, Box<Section>),
+    /// The sets of an assign journal are being stated.
     Stating(Stated),
     /// All its sets are stated.
     AwaitsEnd(Stated),
-    /// The journal has ended.
+    /// It has ended.
     Done(Stated),
+    /// The groups of a regret journal are being stated, or it has ended.
+    Regret(Box<Groups>),
     /// The first failed test.
     Failed { line: u64, rule: Rule },
     /// No memory was left for a record.
@@ -49,10 +55,11 @@ impl Stage {
         match self {
             Stage::Begin => begin(alloc, line),
             Stage::OtherKind => Ok(Stage::OtherKind),
-            Stage::Describing(section) => describe(alloc, number, section, line),
+            Stage::Describing(head, section) => describe(alloc, number, head, section, line),
             Stage::Stating(stated) => Ok(state(number, stated, line)),
             Stage::AwaitsEnd(stated) => Ok(end(number, stated, line)),
             Stage::Done(stated) => Ok(pass_end(number, stated, line)),
+            Stage::Regret(groups) => Ok(regret::take(number, groups, line)),
             Stage::Failed { line, rule } => Ok(Stage::Failed { line, rule }),
             Stage::OutOfMemory => Err(NoMemory),
         }
@@ -67,12 +74,13 @@ impl Stage {
             Stage::Done(stated) => Ok(Answer::Assign {
                 value: stated.value(),
             }),
+            Stage::Regret(groups) => Ok(regret::answer(number, groups)),
             Stage::Failed { line, rule } => Ok(Answer::No {
                 line: *line,
                 rule: *rule,
             }),
             Stage::OutOfMemory => Err(CheckEnd::NoMemory),
-            Stage::Describing(_) | Stage::Stating(_) | Stage::AwaitsEnd(_) => Ok(Answer::No {
+            Stage::Describing(_, _) | Stage::Stating(_) | Stage::AwaitsEnd(_) => Ok(Answer::No {
                 line: number,
                 rule: Rule::Short,
             }),

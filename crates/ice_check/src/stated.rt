@@ -1,16 +1,19 @@
-//! The sets that an assign journal states.
+//! The sets that a journal states.
 ghost use Rattle.std.specs.Prelude.{◌≡◌, ◌<◌, ◌≤◌, ◌++◌, [], ◌∷◌, length, IfOk, IsTrue, ◌↔◌, MatchBool};
 ghost use Rattle.ice_defs.specs.Exchange.{trees_of, opening_bounds};
 ghost use Rattle.ice_defs.specs.Set.{IsSatisfied};
-ghost use Rattle.ice_check.specs.Assigning.{AreBalanced, AreShort};
+ghost use Rattle.ice_defs.specs.Lawful.{IsExchange};
+ghost use Rattle.ice_bound.specs.Conditions.{AreWeightsOf};
+ghost use Rattle.ice_check.specs.Assigning.{AreBalanced, AreShort, AreSized};
 ghost use Rattle.ice_defs.specs.Trade.{set_of, tree_of, total_value};
 ghost use Rattle.ice_defs.specs.Weighing.{lower_weights};
 
-use crate::value::total_value;
+use crate::value::{total_value, total_worth};
 use ice_trade::Exchange;
-use ice_tree::{Assignment, NoMemory, NodeSet, Tree};
+use ice_tree::{AllWeights, Assignment, Bounds, NoMemory, NodeSet, Tree};
 use std::alloc::Global;
 use std::marker::Model;
+use std::mem;
 
 /// An exchange, and the sets that are stated for its first bidders.
 #[derive(Drop)]
@@ -83,5 +86,42 @@ impl Stated {
         ensures { result ≡ total_value self.now.sets (lower_weights (opening_bounds self.now.exchange)) }
     {
         total_value(&self.sets, self.exchange.bounds(), self.taken)
+    }
+
+    /// The trees of the bidders.
+    pub(crate) fn trees(&self) -> &[Tree]
+        ensures value { result.now ≡ trees_of self.now.exchange }
+        ensures lawful { IsExchange self.now.exchange }
+    {
+        self.exchange.trees()
+    }
+
+    /// The opening bounds of the bidders.
+    pub(crate) fn bounds(&self) -> &[Bounds]
+        ensures value { result.now ≡ opening_bounds self.now.exchange }
+        ensures lawful { IsExchange self.now.exchange }
+    {
+        self.exchange.bounds()
+    }
+
+    /// The value of the sets at weights, where each bidder has one.
+    pub(crate) fn value_at(&self, weights: &AllWeights) -> i128
+        requires full { length self.now.sets ≡ length (trees_of self.now.exchange) }
+        requires weights { AreWeightsOf (trees_of self.now.exchange) weights.now }
+        ensures { result ≡ total_value self.now.sets weights.now }
+    {
+        total_worth(self.exchange.trees(), &self.sets, weights)
+    }
+
+    /// Hands over the sets, of which each bidder has one, for room for new ones.
+    pub(crate) fn hand_over(&mut self, sets: &mut Assignment)
+        requires full { length self.old.sets ≡ length (trees_of self.old.exchange) }
+        requires room { AreSized (trees_of self.old.exchange) sets.old }
+        ensures left { self.new ≡ record { exchange = self.old.exchange; sets = [] } }
+        ensures sets { sets.new ≡ self.old.sets }
+        ensures room { AreSized (trees_of self.old.exchange) sets.new }
+    {
+        mem::swap(&mut self.sets, sets);
+        self.taken = 0;
     }
 }

@@ -1,12 +1,13 @@
-//! The value of a set at lower values.
-ghost use Rattle.std.specs.Prelude.{◌≡◌, ℕ, take, ◌<◌, ◌≤◌, if◌then◌else◌, length, pos, neg_ℤ, ◌≤ℤ◌};
+//! The value of sets: at lower values, and at any weights.
+ghost use Rattle.std.specs.Prelude.{◌≡◌, ℕ, ◌*◌, ◌^◌, take, ◌<◌, ◌≤◌, if◌then◌else◌, length, pos, neg_ℤ, ◌≤ℤ◌};
 ghost use Rattle.ice_defs.specs.Exchange.{IsBetween};
 ghost use Rattle.ice_defs.specs.Lawful.{AreBounds};
-ghost use Rattle.ice_defs.specs.Trade.{set_of, weights_of, total_value};
+ghost use Rattle.ice_defs.specs.Trade.{tree_of, set_of, weights_of, total_value};
 ghost use Rattle.ice_defs.specs.Weighing.{lower_weights};
+ghost use Rattle.ice_bound.specs.Conditions.{AreWeightsOf};
 ghost use Rattle.ice_defs.specs.Set.{has, weight_of, value};
 
-use ice_tree::{Assignment, Bounds, NodeSet};
+use ice_tree::{AllWeights, Assignment, Bounds, NodeSet, Tree};
 
 /// The lower value of a node inside, and 0 outside.
 fn node_value(set: &NodeSet, bounds: &Bounds, node: u16) -> i64
@@ -54,6 +55,34 @@ pub(crate) fn total_value(sets: &Assignment, bounds: &[Bounds], taken: u8) -> i1
     let mut total = 0;
     for bidder in 0..taken {
         total += i128::from(bidder_value(sets, bounds, bidder));
+    }
+    total
+}
+
+/// The value of a bidder's set at weights.
+fn bidder_worth(trees: &[Tree], sets: &Assignment, weights: &AllWeights, bidder: u8) -> i128
+    requires bidder { bidder < length trees.now }
+    requires count { length sets.now ≡ length trees.now }
+    requires sizes { (b : ℕ) → b < length trees.now → length (set_of sets.now b) ≡ length (tree_of trees.now b) }
+    requires weights { AreWeightsOf trees.now weights.now }
+    ensures value { result ≡ value (set_of sets.now bidder) (weights_of weights.now bidder) }
+    ensures low { neg_ℤ (pos (200 * 2 ^ 90)) ≤ℤ result }
+    ensures high { result ≤ℤ pos (200 * 2 ^ 90) }
+{
+    trees[usize::from(bidder)].value(sets.of(bidder), weights.of(bidder))
+}
+
+/// The value of the sets at weights.
+pub(crate) fn total_worth(trees: &[Tree], sets: &Assignment, weights: &AllWeights) -> i128
+    requires few { length trees.now ≤ 40 }
+    requires count { length sets.now ≡ length trees.now }
+    requires sizes { (b : ℕ) → b < length trees.now → length (set_of sets.now b) ≡ length (tree_of trees.now b) }
+    requires weights { AreWeightsOf trees.now weights.now }
+    ensures { result ≡ total_value sets.now weights.now }
+{
+    let mut total = 0;
+    for bidder in 0..trees.len() as u8 {
+        total += bidder_worth(trees, sets, weights, bidder);
     }
     total
 }

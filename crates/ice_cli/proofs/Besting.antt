@@ -3,7 +3,7 @@ use Rattle.std.proofs.Common.{◌≡◌, ◌∙◌, ap, sym, subst, ℕ, List}
 use Rattle.ice_defs.specs.Exchange.{names_of}
 use Rattle.ice_edge.specs.declared.status.Status.TheVariants as status
 use Rattle.ice_cli.specs.declared.reply.Reply.{Reply}
-use Rattle.ice_cli.specs.declared.reply.Reply.TheVariants.{Yes, No, Refused, Unread, Words, NoMemory}
+use Rattle.ice_cli.specs.declared.reply.Reply.TheVariants.{Yes, YesRegret, No, Refused, Unread, Words, NoMemory}
 use Rattle.ice_cli.specs.declared.best_set.BestSet.{BestSet}
 use Rattle.ice_cli.specs.Call.{Call}
 use Rattle.ice_cli.specs.Output.{refused_line, unread_line}
@@ -27,12 +27,14 @@ sets_answer call before after exchange prices bests part are text = (
 
 pub reply_answers : (call : Call) (exchange prices : List ℕ) (reply : Reply) → IsBestReply call exchange prices reply → call.text ≡ reply_text reply → BestAnswers call exchange prices (reply_status reply)
 reply_answers call exchange prices (Yes value) (at_exchange h) text = absurd h
+reply_answers call exchange prices (YesRegret amount) (at_exchange h) text = absurd h
 reply_answers call exchange prices (No line rule) (at_exchange h) text = absurd h
 reply_answers call exchange prices (Refused file fault) (at_exchange (e, h)) text = exchange_refused (fault_of fault) h (text ∙ ap (λ n. refused_line n (fault_of fault)) e)
 reply_answers call exchange prices (Unread file) (at_exchange (e, h)) text = exchange_unread h (text ∙ ap unread_line e)
 reply_answers call exchange prices Words (at_exchange h) text = absurd h
 reply_answers call exchange prices NoMemory (at_exchange h) text = text
 reply_answers call exchange prices (Yes value) (at_prices ex told h) text = absurd h
+reply_answers call exchange prices (YesRegret amount) (at_prices ex told h) text = absurd h
 reply_answers call exchange prices (No line rule) (at_prices ex told h) text = absurd h
 reply_answers call exchange prices (Refused file fault) (at_prices ex told (e, h)) text = prices_refused (fault_of fault) ex told h (text ∙ ap (λ n. refused_line n (fault_of fault)) e)
 reply_answers call exchange prices (Unread file) (at_prices ex told (e, h)) text = other_unread ex told h (text ∙ ap unread_line e)

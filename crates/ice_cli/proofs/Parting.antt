@@ -4,7 +4,7 @@ use Rattle.ice_defs.specs.FileFault.{FileFault}
 use Rattle.ice_edge.specs.Edge.{Rose}
 use Rattle.ice_cli.specs.declared.reply.FileFault.TheVariants.{TooLong}
 use Rattle.ice_cli.specs.declared.reply.Reply.{Reply}
-use Rattle.ice_cli.specs.declared.reply.Reply.TheVariants.{Yes, No, Refused, Unread, Words, NoMemory}
+use Rattle.ice_cli.specs.declared.reply.Reply.TheVariants.{Yes, YesRegret, No, Refused, Unread, Words, NoMemory}
 use Rattle.ice_cli.specs.Call.{Call, file_limit, OfTold, OfFile, IsRefused, too_long, at_fault}
 use Rattle.ice_cli.specs.Replies.{fault_of}
 use Rattle.ice_cli.specs.FileReplies.{Told, told, IsLater, HasPart, IsFileReply, IsFaultReply}
@@ -77,6 +77,7 @@ refused_anyway call name HasFault fault (at_fault bytes h told) = absurd h
 -- a file that was not had is not had whatever its bytes' faults are
 pub not_had : (call : Call) (number : ℕ) (name : List ℕ) (HasFault : List ℕ → FileFault → Type 0) (reply : Reply) → IsFileReply call number name (λ bytes fault. ⊥) reply → IsFileReply call number name HasFault reply
 not_had call number name HasFault (Yes value) h = absurd h
+not_had call number name HasFault (YesRegret amount) h = absurd h
 not_had call number name HasFault (No line rule) h = absurd h
 not_had call number name HasFault (Refused file fault) (e, h) = (e, refused_anyway call name HasFault (fault_of fault) h)
 not_had call number name HasFault (Unread file) h = h
@@ -87,6 +88,7 @@ not_had call number name HasFault NoMemory h = tt
 pub fault_of_told : (call : Call) (number : ℕ) (name bytes : List ℕ) (HasFault : List ℕ → FileFault → Type 0) (reply : Reply) → OfFile call name file_limit (λ told. told ≡ bytes)
     → IsFaultReply number (HasFault bytes) reply → IsFileReply call number name HasFault reply
 fault_of_told call number name bytes HasFault (Yes value) told h = absurd h
+fault_of_told call number name bytes HasFault (YesRegret amount) told h = absurd h
 fault_of_told call number name bytes HasFault (No line rule) told h = absurd h
 fault_of_told call number name bytes HasFault (Refused file fault) told (e, h) = (e, at_fault bytes h told)
 fault_of_told call number name bytes HasFault (Unread file) told h = absurd h

@@ -7,10 +7,10 @@ use Rattle.ice_edge.specs.declared.status.Status.TheVariants as status
 use Rattle.ice_edge.specs.Edge.{Appends}
 use Rattle.ice_cli.specs.declared.reply.FileFault.TheVariants.{TooLong}
 use Rattle.ice_cli.specs.declared.reply.Reply.{Reply}
-use Rattle.ice_cli.specs.declared.reply.Reply.TheVariants.{Yes, No, Refused, Unread, Words, NoMemory}
+use Rattle.ice_cli.specs.declared.reply.Reply.TheVariants.{Yes, YesRegret, No, Refused, Unread, Words, NoMemory}
 use Rattle.ice_journal.specs.Records.{Record}
 use Rattle.ice_journal.specs.Journal.{IsJournal}
-use Rattle.ice_check.specs.Theorems.{of_assigned}
+use Rattle.ice_check.specs.Theorems.{of_assigned, of_regret}
 use Rattle.ice_cli.specs.Call.{Call, OverlongRose, journal_limit, OfTold, too_long, at_fault}
 use Rattle.ice_cli.specs.CheckServed.{CheckAnswers}
 use Rattle.ice_cli.specs.Output.{refused_line}
@@ -47,6 +47,8 @@ pub answered : (call : Call) (name bytes : List ℕ) (reply : Reply) → IfSome 
     → IsReplyTo bytes reply → call.text ≡ reply_text reply → CheckAnswers call name (reply_status reply)
 answered call name bytes (Yes value) told fits (journal, is, holds) text =
     (of_assigned value, (journal, holds, told_journal (call.holds name) bytes journal is told fits), text)
+answered call name bytes (YesRegret amount) told fits (journal, is, holds) text =
+    (of_regret amount, (journal, holds, told_journal (call.holds name) bytes journal is told fits), text)
 answered call name bytes (No line rule) told fits (journal, is, holds) text =
     (record { line = line; rule = rule }, (journal, holds, told_journal (call.holds name) bytes journal is told fits), text)
 answered call name bytes (Refused file which) told fits (e, fault) text =

@@ -6,12 +6,12 @@ use Rattle.ice_check.specs.Answers.{OfJournal}
 use Rattle.ice_cli.specs.CheckServed.{other_kind, IsCheckFault}
 use Rattle.ice_edge.specs.declared.status.Status.{Status}
 use Rattle.ice_edge.specs.declared.status.Status.TheVariants as status
-use Rattle.ice_check.specs.Theorems.{of_assigned, IsYes}
+use Rattle.ice_check.specs.Theorems.{of_assigned, of_regret, IsYes}
 use Rattle.ice_defs.specs.FileFault.{FileFault, at_line}
 use Rattle.ice_cli.specs.declared.reply.FileFault as declared
 use Rattle.ice_cli.specs.declared.reply.FileFault.TheVariants.{AtLine, OtherKind, TooLong}
 use Rattle.ice_cli.specs.declared.reply.Reply.{Reply}
-use Rattle.ice_cli.specs.declared.reply.Reply.TheVariants.{Yes, No, Refused, Unread, Words, NoMemory}
+use Rattle.ice_cli.specs.declared.reply.Reply.TheVariants.{Yes, YesRegret, No, Refused, Unread, Words, NoMemory}
 use Rattle.ice_cli.specs.Output.{yes_line, no_line, words_line, refused_line, unread_line}
 
 -- a line's number, or `-` where the fault is of the whole file
@@ -27,6 +27,7 @@ fault_of TooLong = record { number = 61; place = codes "-" }
 
 abbrev pub reply_text : Reply → List ℕ
 reply_text (Yes value) = yes_line (of_assigned value)
+reply_text (YesRegret amount) = yes_line (of_regret amount)
 reply_text (No line rule) = no_line (record { line = line; rule = rule })
 reply_text (Refused file fault) = refused_line file (fault_of fault)
 reply_text (Unread file) = unread_line file
@@ -35,6 +36,7 @@ reply_text NoMemory = []
 
 abbrev pub reply_status : Reply → Status
 reply_status (Yes value) = status.Done
+reply_status (YesRegret amount) = status.Done
 reply_status (No line rule) = status.No
 reply_status (Refused file fault) = status.Input
 reply_status (Unread file) = status.ReadFault
@@ -49,6 +51,7 @@ IsSaid text status_then result old new faults faults_after =
 -- the reply to the bytes of the first file: what the checker answers of them
 abbrev pub IsReplyTo : List ℕ → Reply → Type 0
 IsReplyTo bytes (Yes value) = OfJournal bytes (λ journal. Checks journal × IsYes journal (of_assigned value))
+IsReplyTo bytes (YesRegret amount) = OfJournal bytes (λ journal. Checks journal × IsYes journal (of_regret amount))
 IsReplyTo bytes (No line rule) = OfJournal bytes (λ journal. IsChecked journal × FirstFailure journal (Some (record { line = line; rule = rule })))
 IsReplyTo bytes (Refused file fault) = (file ≡ 1) × IsCheckFault bytes (fault_of fault)
 IsReplyTo bytes (Unread file) = ⊥

@@ -46,6 +46,8 @@ impl FileFault {
 pub enum Reply {
     /// The checker's yes to a journal of kind assign, with the value of its sets.
     Yes { value: i128 },
+    /// The checker's yes to a journal of kind regret, with the regret of its final sets.
+    YesRegret { amount: i128 },
     /// The checker's no: the line of the first failed test, and its rule.
     No { line: u64, rule: Rule },
     /// The file with this number has this fault.
@@ -97,7 +99,7 @@ impl Reply {
         ensures { result ≡ reply_status self.now }
     {
         match self {
-            Reply::Yes { .. } => Status::Done,
+            Reply::Yes { .. } | Reply::YesRegret { .. } => Status::Done,
             Reply::No { .. } => Status::No,
             Reply::Refused { .. } => Status::Input,
             Reply::Unread { .. } => Status::ReadFault,
@@ -115,6 +117,10 @@ impl Reply {
             Reply::Yes { value } => {
                 to.word(b"yes");
                 to.number(value);
+            }
+            Reply::YesRegret { amount } => {
+                to.word(b"yes");
+                to.number(amount);
             }
             Reply::No { line, rule } => {
                 to.word(b"no");

@@ -23,6 +23,7 @@ fn reply_to_bytes(alloc: Global, bytes: &[u8]) -> Reply
 {
     match ice_check::check(alloc, bytes) {
         Ok(Answer::Assign { value }) => Reply::Yes { value },
+        Ok(Answer::Regret { amount }) => Reply::YesRegret { amount },
         Ok(Answer::No { line, rule }) => Reply::No { line, rule },
         Err(CheckEnd::Grammar { line }) => Reply::Refused {
             file: 1,

@@ -54,6 +54,27 @@ const EXACT: [&str; 11] = [
     "end assign",
 ];
 
+/// The regret of the market of `SAMPLE`.
+const REGRET: [&str; 17] = [
+    "ice 1 regret",
+    "settings 50 0 100 1 5 200",
+    "good A",
+    "bidder s 1",
+    "node sell 0 1 -10 -10",
+    "bidder b 0",
+    "node buy 0 1 20 30",
+    "final 10",
+    "set 1",
+    "set 1",
+    "leaf 640",
+    "rival 10",
+    "set 1",
+    "set 1",
+    "leaf 640",
+    "regret 0",
+    "end regret",
+];
+
 /// One change of a journal: another text in the place of a line (from 1, 0 for none), and what `check` writes of it.
 struct Case {
     line: usize,
@@ -183,6 +204,19 @@ const EXACT_CASES: [Case; 1] = [Case {
     output: "no 10 excess\n",
 }];
 
+const REGRET_CASES: [Case; 2] = [
+    Case {
+        line: 0,
+        text: "",
+        output: "yes 0\n",
+    },
+    Case {
+        line: 11,
+        text: "leaf 576\n",
+        output: "no 11 above\n",
+    },
+];
+
 /// The journal of these lines, with one of them changed.
 fn journal(alloc: Global, lines: &[&str], case: &Case) -> Result<String, Fail> {
     let mut text = String::new(alloc);
@@ -244,7 +278,8 @@ fn answers_all<R: Abort + AllocGlobal>(rt: &R, lines: &[&str], cases: &[Case]) -
 fn journals_are_answered(rt: HostRuntime) -> Result<(), Fail> {
     answers_all(&rt, &SAMPLE, &SAMPLE_CASES)?;
     answers_all(&rt, &CHOICE, &CHOICE_CASES)?;
-    answers_all(&rt, &EXACT, &EXACT_CASES)
+    answers_all(&rt, &EXACT, &EXACT_CASES)?;
+    answers_all(&rt, &REGRET, &REGRET_CASES)
 }
 
 /// The sample cut after each of its bytes: inside a line its end is missing, and after a newline the next record is.

@@ -1,6 +1,6 @@
-use Rattle.std.proofs.Common.{sym, subst, arith}
+use Rattle.std.proofs.Common.{◌∷◌, length, sym, ap, subst, arith, length-append}
 use Rattle.ice_journal.specs.Lines.{record_of}
-use Rattle.ice_check.proofs.Reading.{HasRead, nothing_read, few_read, one_read}
+use Rattle.ice_check.proofs.Reading.{HasRead, nothing_read, few_read, few_before, one_read}
 use Rattle.ice_check.proofs.bytes.feed_all.Goals as goal
 
 pub loop-rest-init : goal.loop-rest-init
@@ -20,6 +20,11 @@ pub overflow_add-read : goal.overflow_add-read
 overflow_add-read c =
     let few = few_read c.args.bytes.now c.loop-rest.rest.now c.loop-rest.read c.loop-rest.checker c.loop-rest.invariant in
     omega arith
+
+pub feed-requires-clause-few : goal.feed-requires-clause-few
+feed-requires-clause-few c =
+    let few = few_before c.args.bytes.now c.loop-rest.rest.now c.loop-rest.read c.loop-rest.checker c.loop-rest.invariant in
+    omega (arith, few, ap length c.in-Some.ensures.0, length-append c.in-Some.text.now (10 ∷ c.in-Some.after.now))
 
 pub loop-rest-preserved : goal.loop-rest-preserved
 loop-rest-preserved c =

@@ -1,4 +1,4 @@
-use Rattle.std.proofs.Common.{refl, rules, Some, IfSome, ◌≡◌, ◌≤◌, length}
+use Rattle.std.proofs.Common.{refl, rules, Some, IfSome, ◌≡◌, ◌≤◌, ℕ, List, length, sym, subst}
 use Rattle.ice_cli.specs.Call.{Call, journal_limit}
 use Rattle.ice_cli.specs.Replies.{reply_text, reply_status}
 use Rattle.ice_cli.proofs.Replying.{answered, refused_overlong}
@@ -9,7 +9,8 @@ returns-in-Err-TooLong g c words before after = refused_overlong _ c.args.name.n
 
 pub returns-in-Ok : goal.returns-in-Ok
 returns-in-Ok g c words before after =
-    let told : IfSome (g.H.Shelf.holds c.args.shelf.now c.args.name.now) (λ file. file ≡ Some c.deref.result.now) = search rules in
+    let told : IfSome (g.H.Shelf.holds c.args.shelf.now c.args.name.now) (λ file. file ≡ Some c.deref.result.now) =
+    subst (λ (bytes : List ℕ). IfSome (g.H.Shelf.holds c.args.shelf.now c.args.name.now) (λ file. file ≡ Some bytes)) (sym c.deref.ensures.value) c.in-Ok.ensures.bytes in
     let fits : length c.deref.result.now ≤ journal_limit = search rules in
     let call : Call = record {
       words = words;

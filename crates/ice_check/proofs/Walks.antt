@@ -1,0 +1,46 @@
+-- The weights, the sides and the sets that a walk of an exchange's logs begins with.
+use Rattle.std.proofs.Common.{◌<◌, ◌≤◌, ℕ, zero, suc, List, [], ◌∷◌, length, map, replicate, false, sym, ◌∙◌, ap, arith}
+use Rattle.std.specs.List.{AllByRecursion}
+use Rattle.std.proofs.lemmas.List.{length-map, get_or-map, length-replicate}
+use Rattle.ice_defs.specs.Tree.{Tree}
+use Rattle.ice_defs.specs.Trade.{Assignment, tree_of}
+use Rattle.ice_defs.specs.Bounds.{Bounds, bounds_of}
+use Rattle.ice_defs.specs.Exchange.{Bidder, Exchange, trees_of, opening_bounds}
+use Rattle.ice_defs.specs.Lawful.{AreBounds, IsBidder, IsExchange}
+use Rattle.ice_tree.specs.Alike.{AreChosen}
+use Rattle.ice_bound.specs.Conditions.{AreBoundsOf}
+use Rattle.ice_check.specs.Assigning.{AreSized}
+
+each_bounds : (goods : ℕ) (bidders : List Bidder) → AllByRecursion (IsBidder goods) bidders → (b : ℕ) → b < length (map (λ x. x.tree) bidders)
+    → AreBounds (length (tree_of (map (λ x. x.tree) bidders) b)) (bounds_of (map (λ x. x.bounds) bidders) b)
+each_bounds goods [] are b there = absurd (omega arith)
+each_bounds goods (x ∷ bidders) are zero there = are.0.bounds
+each_bounds goods (x ∷ bidders) are (suc b) there = each_bounds goods bidders are.1 b (omega arith)
+
+-- the opening bounds of an exchange are bounds of its trees
+pub opening_are_bounds : (ex : Exchange) → IsExchange ex → AreBoundsOf (trees_of ex) (opening_bounds ex)
+opening_are_bounds ex lawful = record {
+  same_length = length-map ex.bidders (λ (b : Bidder). b.bounds) ∙ sym (length-map ex.bidders (λ (b : Bidder). b.tree));
+  each = each_bounds (length ex.goods) ex.bidders lawful.bidders;
+}
+
+pub few_trees : (ex : Exchange) → IsExchange ex → (0 < length (trees_of ex)) × (length (trees_of ex) ≤ 40)
+few_trees ex lawful =
+    let count = length-map ex.bidders (λ (b : Bidder). b.tree) in
+    (omega (arith, count, lawful.bidders_count.0), omega (arith, count, lawful.bidders_count.1))
+
+-- sets of the nodes of the trees are sets of the nodes of their bounds
+pub sized_chosen : (ts : List Tree) (bounds : List Bounds) (sets : Assignment) → AreBoundsOf ts bounds → AreSized ts sets → AreChosen sets bounds
+sized_chosen ts bounds sets are h = record {
+  count = h.count ∙ sym are.same_length;
+  nodes = λ b l.
+      let there : b < length ts = omega (arith, are.same_length) in
+      h.nodes b there ∙ sym (are.each b there).lo_count;
+}
+
+-- empty sets have the sizes of their trees
+pub empty_sized : (ts : List Tree) → AreSized ts (map (λ t. replicate (length t) false) ts)
+empty_sized ts = record {
+  count = length-map ts (λ (t : Tree). replicate (length t) false);
+  nodes = λ b l. ap length (get_or-map (λ (t : Tree). replicate (length t) false) ts b [] [] l) ∙ length-replicate (length (tree_of ts b)) false;
+}

@@ -1,0 +1,173 @@
+//! The logs of a journal's groups, walked step by step.
+ghost use Rattle.std.specs.Prelude.{◌≡◌, ◌<◌, ◌≤◌, ◌↔◌, [], ◌∷◌, length, replicate, pos, IsTrue, Some, IfOk, OnOk, IfErr};
+ghost use Rattle.ice_defs.specs.Exchange.{trees_of, exact_of, opening_bounds};
+ghost use Rattle.ice_defs.specs.Weighing.{lower_weights, perturbed_weights};
+ghost use Rattle.ice_tree.specs.Alike.{AreChosen};
+ghost use Rattle.ice_bound.specs.Conditions.{AreBoundsOf};
+ghost use Rattle.ice_refute.specs.Code.{step_of, CountsGoods};
+ghost use Rattle.ice_refute.specs.Waiting.{first_side, nodes_of};
+ghost use Rattle.ice_refute.specs.Passing.{PassesAt, HasFault};
+ghost use Rattle.ice_journal.specs.Lines.{record_of, version_of};
+ghost use Rattle.ice_journal.specs.Ranges.{IsRecord};
+ghost use Rattle.ice_defs.specs.Steps.{sides_after};
+ghost use Rattle.ice_check.specs.Fields.{multipliers_after};
+ghost use Rattle.ice_check.specs.Logs.{IsWalkOf, IsStepOf, HasSameWalk, rule_of_fault, FailsAt, PassesStep, FailsStep};
+
+use crate::memory::NoMemory;
+use crate::rule::Rule;
+use crate::steps_in::{misstates, step_in};
+use ice_best::Fixings;
+use ice_bound::{Desk, Multipliers};
+use ice_journal::{Line, Version};
+use ice_refute::{LogFault, Step, Walk};
+use ice_trade::Exchange;
+use ice_tree::{AllWeights, Assignment, Bounds, Tree};
+use std::alloc::Global;
+
+/// What a log is walked with: the weights of its group, the side that it begins with, where the walk has come, and the
+/// multipliers of the leaf before.
+#[derive(Drop)]
+pub(crate) struct LogWalk {
+    pub(crate) weights: AllWeights,
+    start: Fixings,
+    walk: Walk,
+    desk: Desk,
+    before: Multipliers,
+}
+
+/// The rule of a step's fault.
+fn rule_of(fault: LogFault) -> Rule
+    ensures { result ≡ rule_of_fault fault }
+{
+    match fault {
+        LogFault::Fixed { .. } => Rule::Fixed,
+        LogFault::Sign { .. } => Rule::Sign,
+        LogFault::Above { .. } => Rule::Above,
+        LogFault::NotDead { .. } => Rule::Alive,
+        LogFault::Short => Rule::Short,
+        LogFault::Long { .. } => Rule::Order,
+    }
+}
+
+impl LogWalk {
+    /// No log yet, at the lower values of the exchange, with the memory for all its logs.
+    pub(crate) fn new(alloc: Global, exchange: &Exchange) -> Result<LogWalk, NoMemory>
+        ensures walk { IfOk result (IsWalkOf (trees_of exchange.now) (exact_of exchange.now)) }
+        ensures weights { IfOk result (λ log. log.weights ≡ lower_weights (opening_bounds exchange.now)) }
+    {
+        let trees = exchange.trees();
+        let exact = exchange.exact();
+        let mut weights = AllWeights::new(alloc, trees)?;
+        weights.fill_lower(exchange.bounds());
+        Ok(LogWalk {
+            weights,
+            start: Fixings::free(alloc, trees)?,
+            walk: Walk::new(alloc, trees)?,
+            desk: Desk::new(alloc, trees, exact)?,
+            before: Multipliers::zero(exact.len() as u8),
+        })
+    }
+
+    /// Changes the weights to those that these sets perturb.
+    pub(crate) fn perturb(&mut self, trees: &[Tree], bounds: &[Bounds], sets: &Assignment)
+        requires walk { IsWalkOf trees.now self.old.desk.room self.old }
+        requires bounds { AreBoundsOf trees.now bounds.now }
+        requires chosen { AreChosen sets.now bounds.now }
+        ensures walk { IsWalkOf trees.now self.old.desk.room self.new }
+        ensures weights { self.new.weights ≡ perturbed_weights sets.now bounds.now }
+    {
+        self.weights.fill_perturbed(bounds, sets);
+    }
+
+    /// Begins a log.
+    pub(crate) fn begin(&mut self)
+        requires few { length self.old.start ≤ 40 }
+        requires nodes { nodes_of self.old.start ≡ self.old.walk.nodes }
+        ensures sides { self.new.walk.sides ≡ self.old.start ∷ [] }
+        ensures before { self.new.before ≡ replicate (length self.old.before) (pos 0) }
+        ensures same { HasSameWalk self.old self.new }
+    {
+        self.walk.begin(&self.start);
+        self.before = Multipliers::zero(self.before.len());
+    }
+
+    /// Whether the log has closed all its sides.
+    pub(crate) fn is_closed(&self) -> bool
+        ensures { IsTrue result ↔ (self.now.walk.sides ≡ []) }
+    {
+        self.walk.is_closed()
+    }
+
+    /// Walks a step.
+    fn step(&mut self, trees: &[Tree], target: i128, step: Step) -> Result<(), Rule>
+        requires walk { IsWalkOf trees.now self.old.desk.room self.old }
+        requires few { length trees.now ≤ 40 }
+        requires opened { 0 < length self.old.walk.sides }
+        requires goods { CountsGoods (length self.old.before) (step_of step) }
+        ensures passes { OnOk result (PassesAt trees.now self.old.desk.room self.old.weights target (first_side self.old.walk.sides) (step_of step)) }
+        ensures sides { OnOk result (self.new.walk.sides ≡ sides_after self.old.walk.sides (step_of step)) }
+        ensures before { OnOk result (self.new.before ≡ multipliers_after self.old.before (step_of step)) }
+        ensures fault { IfErr result (FailsAt trees.now self.old.desk.room self.old.weights target (first_side self.old.walk.sides) (step_of step)) }
+        ensures same { HasSameWalk self.old self.new }
+        ensures goods { length self.new.before ≡ length self.old.before }
+    {
+        if let Err(fault) = self
+            .walk
+            .step(trees, &self.weights, target, &step, &mut self.desk)
+        {
+            return Err(rule_of(fault));
+        }
+        if let Step::Leaf { m } = step {
+            self.before = m;
+        }
+        Ok(())
+    }
+
+    /// Takes the next record of the log, which states this step.
+    fn take_step(
+        &mut self,
+        trees: &[Tree],
+        target: i128,
+        version: Version,
+        line: &Line,
+        step: Step,
+    ) -> Result<(), Rule>
+        requires walk { IsWalkOf trees.now self.old.desk.room self.old }
+        requires few { length trees.now ≤ 40 }
+        requires opened { 0 < length self.old.walk.sides }
+        requires stated { IsStepOf (Some step) (version_of version) self.old.before (record_of line.now) }
+        ensures passes { OnOk result (PassesStep trees.now self.old.desk.room self.old.weights target (version_of version) self.old.walk.sides self.old.before (record_of line.now) self.new.walk.sides self.new.before) }
+        ensures fails { IfErr result (FailsStep trees.now self.old.desk.room self.old.weights target (version_of version) self.old.walk.sides self.old.before (record_of line.now)) }
+        ensures walk { IsWalkOf trees.now self.old.desk.room self.new }
+        ensures weights { self.new.weights ≡ self.old.weights }
+    {
+        if misstates(version, &self.before, line) {
+            return Err(Rule::Near);
+        }
+        self.step(trees, target, step)
+    }
+
+    /// Takes the next record of the log, of a journal of this version, where no feasible sets are to be worth more than the
+    /// target. It answers the first test that the record fails.
+    pub(crate) fn take(
+        &mut self,
+        trees: &[Tree],
+        target: i128,
+        version: Version,
+        line: &Line,
+    ) -> Result<(), Rule>
+        requires lawful { IsRecord (record_of line.now) }
+        requires walk { IsWalkOf trees.now self.old.desk.room self.old }
+        requires few { length trees.now ≤ 40 }
+        requires opened { 0 < length self.old.walk.sides }
+        ensures passes { OnOk result (PassesStep trees.now self.old.desk.room self.old.weights target (version_of version) self.old.walk.sides self.old.before (record_of line.now) self.new.walk.sides self.new.before) }
+        ensures fails { IfErr result (FailsStep trees.now self.old.desk.room self.old.weights target (version_of version) self.old.walk.sides self.old.before (record_of line.now)) }
+        ensures walk { IsWalkOf trees.now self.old.desk.room self.new }
+        ensures weights { self.new.weights ≡ self.old.weights }
+    {
+        match step_in(version, &self.before, line) {
+            Some(step) => self.take_step(trees, target, version, line, step),
+            None => Err(Rule::Order),
+        }
+    }
+}
