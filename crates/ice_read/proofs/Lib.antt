@@ -5,3 +5,6 @@ pub mod Refusing
 pub mod Pairs
 pub mod Grown
 pub mod Nodes
+pub mod NoGoods
+pub mod Trees
+pub mod Named

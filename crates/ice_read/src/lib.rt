@@ -6,6 +6,7 @@ mod choose;
 mod fault;
 mod goods;
 mod leaf;
+mod own;
 mod place;
 mod settings;
 mod tree;
