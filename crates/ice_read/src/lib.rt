@@ -1,9 +1,11 @@
 //! Exchange and round files in JSON.
 #![tactic(auto)]
 
+mod bidders;
 mod cause;
 mod choose;
 mod fault;
+mod file;
 mod goods;
 mod leaf;
 mod own;
