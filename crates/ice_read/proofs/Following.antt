@@ -5,6 +5,10 @@ use Rattle.std.proofs.lemmas.List.{drop_all}
 use Rattle.ice_defs.specs.Exchange.{Good, Bidder, Exchange}
 use Rattle.ice_defs.specs.FileFault.{FileFault, Path, Read, refuse, ◌>>=◌}
 use Rattle.ice_defs.specs.Lawful.{good_names}
+use Rattle.ice_defs.specs.Tree.{Tree}
+use Rattle.ice_defs.specs.Bounds.{Bounds}
+use Rattle.ice_defs.specs.Making.{bidder_refusal}
+use Rattle.std.proofs.Math.ListN.{length-map}
 use Rattle.ice_trade.specs.declared.faults.MakeFault.{MakeFault}
 use Rattle.ice_trade.specs.Fault.{make_fault_number}
 use Rattle.serde_json.specs.Data.{Data, Items, null, boolean, number, string, array, object}
@@ -13,8 +17,9 @@ use Rattle.serde_json.specs.View.{view, items_view}
 use Rattle.serde_json.specs.declared.value.Value.{Value}
 use Rattle.ice_read.specs.declared.fault.ReadFault.{ReadFault}
 use Rattle.ice_read.specs.declared.cause.ReadCause.TheVariants.{Make}
-use Rattle.ice_read.specs.Values.{at_index, has_exactly}
-use Rattle.ice_read.specs.ExchangeFile.{unless_refused, good_value, add_good, goods_from, bidder_at, add_bidder, bidders_from}
+use Rattle.ice_read.specs.Values.{at_index, has_exactly, of_member, text_of}
+use Rattle.ice_read.specs.TreeFile.{tree_at}
+use Rattle.ice_read.specs.ExchangeFile.{unless_refused, good_value, add_good, goods_from, bidder_at, add_bidder, bidders_from, own_at}
 use Rattle.ice_read.specs.Reading.{good_added, bidder_added}
 use Rattle.ice_read.specs.Fault.{fault_at}
 use Rattle.ice_read.proofs.Placing.{refused}
@@ -70,3 +75,17 @@ module _ (ex : Exchange) (path : Path) (vs : List Value) (i : ℕ) where
 
   pub no_more_bidder : length vs ≤ i → bidders_from (good_names ex) path i ex.bidders (items_view (drop i vs)) ≡ Ok ex.bidders
   no_more_bidder h = rw (drop_all i vs h)
+
+-- ---- a bidder
+
+pub bidder_chain : (ex : Exchange) (path : Path) (d : Data) (name own same : List ℕ) (tree : Tree) (bounds : Bounds) → true ≡ has_exactly (codes "name" ∷ codes "own" ∷ codes "tree" ∷ []) d → of_member path d (codes "name") text_of ≡ Ok name
+    → of_member path d (codes "own") (own_at (good_names ex)) ≡ Ok own → same ≡ own → of_member path d (codes "tree") (tree_at (good_names ex)) ≡ Ok (record { tree = tree; bounds = bounds })
+    → bidder_added ex path d ≡ add_bidder path (length (good_names ex)) ex.bidders (record { name = name; own = same; tree = tree; bounds = bounds })
+bidder_chain ex path d name own same tree bounds exact named owned is grown = rw (← exact, named, owned, grown, is)
+
+pub bidder_made : (ex : Exchange) (path : Path) (b : Bidder) → bidder_refusal (length ex.goods) ex.bidders b ≡ None → add_bidder path (length (good_names ex)) ex.bidders b ≡ Ok (ex.bidders ++ b ∷ [])
+bidder_made ex path b due = rw (length-map ex.goods (λ good. good.name), due)
+
+pub bidder_unmade : (ex : Exchange) (path : Path) (b : Bidder) (fault : MakeFault) (outer : ReadFault) → bidder_refusal (length ex.goods) ex.bidders b ≡ make_fault_number fault → IsSome (bidder_refusal (length ex.goods) ex.bidders b)
+    → outer ≡ record { place = []; cause = Make fault } → add_bidder path (length (good_names ex)) ex.bidders b ≡ Err (fault_at path outer)
+bidder_unmade ex path b fault outer due some is = rw (length-map ex.goods (λ good. good.name)) (unmade (bidder_refusal (length ex.goods) ex.bidders b) fault outer (ex.bidders ++ b ∷ []) path due some is)

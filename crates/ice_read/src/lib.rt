@@ -4,6 +4,7 @@
 mod bidders;
 mod cause;
 mod choose;
+mod exchange;
 mod fault;
 mod file;
 mod goods;
@@ -15,5 +16,6 @@ mod tree;
 mod values;
 
 pub use cause::ReadCause;
+pub use exchange::read_exchange;
 pub use fault::ReadFault;
 pub use place::Place;
