@@ -10,3 +10,4 @@ pub mod Trees
 pub mod Named
 pub mod Bytes
 pub mod Following
+pub mod Filing

@@ -22,7 +22,7 @@ use std::alloc::Global;
 
 fn settings_member(value: &Value, name: &str) -> Result<Settings, ReadFault>
     requires { length name.now ≤ 32 }
-    ensures reading { IsReading result (λ path. of_member path (view value.now) name.now settings_at) }
+    ensures { IsReading result (λ path. of_member path (view value.now) name.now settings_at) }
 {
     match settings_of(member(value, name)?) {
         Ok(settings) => Ok(settings),
