@@ -19,3 +19,6 @@ pub use cause::ReadCause;
 pub use exchange::read_exchange;
 pub use fault::ReadFault;
 pub use place::Place;
+
+#[cfg(test)]
+mod exchange_tests;
