@@ -5,3 +5,9 @@ pub mod Refusing
 pub mod Pairs
 pub mod Grown
 pub mod Nodes
+pub mod NoGoods
+pub mod Trees
+pub mod Named
+pub mod Bytes
+pub mod Following
+pub mod Filing

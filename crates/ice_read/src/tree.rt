@@ -67,3 +67,18 @@ fn take_node(
         Err(fault) => Err(ReadFault::of(ReadCause::Tree(fault))),
     }
 }
+
+/// The tree of a bidder, with its opening bounds.
+pub(crate) fn tree_of(exchange: &ExchangeMaker, value: &Value) -> Result<(Tree, Bounds), ReadFault>
+    ensures reading { MatchResult result (λ made. (path : Path) → tree_at (good_names exchange.now) path (view value.now) ≡ Ok (record { tree = made.0; bounds = made.1 })) (λ fault. IsFault fault (λ path. tree_at (good_names exchange.now) path (view value.now))) }
+    ensures tree { IfOk result (λ made. IsLimitedTree (length exchange.now.goods) made.0) }
+    ensures bounds { IfOk result (λ made. AreBounds (length made.0) made.1) }
+    ensures short { IfErr result (λ fault. length fault.place ≤ 157) }
+{
+    let mut maker = TreeMaker::new(exchange.goods().max(1));
+    take_node(exchange, &mut maker, value)?;
+    let Ok(made) = maker.finish() else {
+        unreachable!()
+    };
+    Ok(made)
+}
