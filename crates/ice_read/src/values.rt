@@ -1,0 +1,83 @@
+//! Values of a file: of the type that their place asks for, whole, and in range.
+ghost use Rattle.std.specs.Prelude.{◌≡◌, ◌<◌, ◌≤◌, [], ◌∷◌, ℕ, length, map, codes, MatchResult, IfOk, IfErr};
+ghost use Rattle.serde_json.specs.View.{view, items_view, members_view};
+ghost use Rattle.serde_json.specs.Data.{null};
+ghost use Rattle.ice_defs.specs.Exchange.{IsBetween};
+ghost use Rattle.ice_defs.specs.FileFault.{Path};
+ghost use Rattle.ice_read.specs.Values.{object_of, array_of, text_of, whole_of, has_exactly, member_or_null, of_member};
+ghost use Rattle.ice_read.specs.Fault.{IsFault, IsReading};
+
+use crate::cause::ReadCause;
+use crate::fault::ReadFault;
+use serde_json::{Map, Value};
+
+/// The members of an object.
+pub(crate) fn object_of(value: &Value) -> Result<&Map<String, Value>, ReadFault>
+    ensures reading { MatchResult result (λ members. (path : Path) → object_of path (view value.now) ≡ Ok (members_view members.now.entries)) (λ fault. IsFault fault (λ path. object_of path (view value.now))) }
+    ensures place { IfErr result (λ fault. fault.place ≡ []) }
+{
+    let Some(found) = value.as_object() else {
+        return Err(ReadFault::of(ReadCause::Shape));
+    };
+    Ok(found)
+}
+
+/// The elements of an array.
+pub(crate) fn array_of(value: &Value) -> Result<&Vec<Value>, ReadFault>
+    ensures reading { MatchResult result (λ items. (path : Path) → array_of path (view value.now) ≡ Ok (items_view items.now.items)) (λ fault. IsFault fault (λ path. array_of path (view value.now))) }
+    ensures place { IfErr result (λ fault. fault.place ≡ []) }
+{
+    let Some(found) = value.as_array() else {
+        return Err(ReadFault::of(ReadCause::Shape));
+    };
+    Ok(found)
+}
+
+/// A text.
+pub(crate) fn text_of(value: &Value) -> Result<&str, ReadFault>
+    ensures reading { MatchResult result (λ text. (path : Path) → text_of path (view value.now) ≡ Ok text.now) (λ fault. IsFault fault (λ path. text_of path (view value.now))) }
+    ensures place { IfErr result (λ fault. fault.place ≡ []) }
+{
+    let Some(found) = value.as_str() else {
+        return Err(ReadFault::of(ReadCause::Shape));
+    };
+    Ok(found)
+}
+
+/// A whole number between these limits.
+pub(crate) fn whole_of(value: &Value, low: i64, high: i64) -> Result<i64, ReadFault>
+    ensures reading { IsReading result (λ path. whole_of path low high (view value.now)) }
+    ensures place { IfErr result (λ fault. fault.place ≡ []) }
+    ensures between { IfOk result (IsBetween low high) }
+{
+    if !value.is_number() {
+        return Err(ReadFault::of(ReadCause::Shape));
+    }
+    match value.as_i64() {
+        Some(number) if low <= number && number <= high => Ok(number),
+        None if !value.is_u64() => Err(ReadFault::of(ReadCause::NotWhole)),
+        _ => Err(ReadFault::of(ReadCause::Range)),
+    }
+}
+
+/// Whether this is an object that has exactly these members.
+pub(crate) fn has_exactly(value: &Value, names: &[&str]) -> bool
+    ensures { result ≡ has_exactly (map (λ name. name.now) names.now) (view value.now) }
+{
+    match value.as_object() {
+        Some(members) => members.len() == names.len()
+            && names.iter().all(|name| value.get(*name).is_some()),
+        None => false,
+    }
+}
+
+/// A member of an object. Where it isn't there, no value is of the type that its place asks for.
+pub(crate) fn member<'a>(value: &'a Value, name: &str) -> Result<&'a Value, ReadFault>
+    requires { length name.now < 256 }
+    ensures { MatchResult result (λ found. view found.now ≡ member_or_null name.now (view value.now)) (λ fault. (member_or_null name.now (view value.now) ≡ null) × (fault ≡ record { place = 46 ∷ name.now; cause = ReadCause.Shape })) }
+{
+    let Some(found) = value.get(name) else {
+        return Err(ReadFault::of(ReadCause::Shape).under(name));
+    };
+    Ok(found)
+}
