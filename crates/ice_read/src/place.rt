@@ -17,7 +17,12 @@ impl Model for Place {
 
     ghost Value = { List ℕ };
 
+    ghost use Rattle.ice_read.specs.Places.{is_dotted};
+    ghost use Rattle.std.specs.Prelude.{IsTrue};
+
     ghost view = { λ p. p.text.bytes };
+
+    ghost invariant = { λ p. IsTrue (is_dotted p.text.bytes) };
 }
 
 impl std::fmt::Display for Place {
@@ -40,7 +45,10 @@ impl Place {
     pub fn text(&self) -> &str
         ensures { result.now ≡ shown self.now }
     {
-        self.text.as_str().strip_prefix('.').unwrap_or("-")
+        match self.text.as_str().strip_prefix('.') {
+            Some(text) => text,
+            None => "-",
+        }
     }
 
     /// The same place, told from an object that has it in this member.

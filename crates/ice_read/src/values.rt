@@ -1,5 +1,7 @@
 //! Values of a file: of the type that their place asks for, whole, and in range.
-ghost use Rattle.std.specs.Prelude.{◌≡◌, ◌<◌, ◌≤◌, [], ◌∷◌, ℕ, length, map, codes, MatchResult, IfOk, IfErr};
+ghost use Rattle.std.specs.Prelude.{◌≡◌, ◌&&◌, int_le, ◌<◌, ◌≤◌, [], ◌∷◌, ℕ, length, map, codes, MatchResult, IfOk, IfErr, is_some, option_and_then};
+ghost use Rattle.std.specs.List.{list_all};
+ghost use Rattle.serde_json.specs.Find.{get, as_number, as_integer};
 ghost use Rattle.serde_json.specs.View.{view, items_view, members_view};
 ghost use Rattle.serde_json.specs.Data.{null};
 ghost use Rattle.ice_defs.specs.Exchange.{IsBetween};
@@ -44,6 +46,20 @@ pub(crate) fn text_of(value: &Value) -> Result<&str, ReadFault>
     Ok(found)
 }
 
+fn is_between(low: i64, number: i64, high: i64) -> bool
+    ensures { result ≡ (int_le low number && int_le number high) }
+{
+    low <= number && number <= high
+}
+
+// Whether a value is a whole number.
+#[tactic(auto, using(crate::proofs::Whole::wholes))]
+fn is_whole(value: &Value) -> bool
+    ensures { result ≡ is_some (option_and_then as_integer (as_number (view value.now))) }
+{
+    value.is_i64() || value.is_u64()
+}
+
 /// A whole number between these limits.
 pub(crate) fn whole_of(value: &Value, low: i64, high: i64) -> Result<i64, ReadFault>
     ensures reading { IsReading result (λ path. whole_of path low high (view value.now)) }
@@ -53,11 +69,20 @@ pub(crate) fn whole_of(value: &Value, low: i64, high: i64) -> Result<i64, ReadFa
     if !value.is_number() {
         return Err(ReadFault::of(ReadCause::Shape));
     }
+    if !is_whole(value) {
+        return Err(ReadFault::of(ReadCause::NotWhole));
+    }
     match value.as_i64() {
-        Some(number) if low <= number && number <= high => Ok(number),
-        None if !value.is_u64() => Err(ReadFault::of(ReadCause::NotWhole)),
+        Some(number) if is_between(low, number, high) => Ok(number),
         _ => Err(ReadFault::of(ReadCause::Range)),
     }
+}
+
+// Whether an object has each of these members.
+fn has_each(value: &Value, names: &[&str]) -> bool
+    ensures { result ≡ list_all (λ name. is_some (get name.now (view value.now))) names.now }
+{
+    names.iter().all(|name| value.get(*name).is_some())
 }
 
 /// Whether this is an object that has exactly these members.
@@ -65,8 +90,7 @@ pub(crate) fn has_exactly(value: &Value, names: &[&str]) -> bool
     ensures { result ≡ has_exactly (map (λ name. name.now) names.now) (view value.now) }
 {
     match value.as_object() {
-        Some(members) => members.len() == names.len()
-            && names.iter().all(|name| value.get(*name).is_some()),
+        Some(members) => members.len() == names.len() && has_each(value, names),
         None => false,
     }
 }
