@@ -1,3 +1,13 @@
 pub mod Placing
 pub mod Whole
 pub mod Exactly
+pub mod Spelled
+pub mod Naming
+pub mod Rereading
+pub mod Owning
+pub mod Levels
+pub mod Regrowing
+pub mod Recovering
+pub mod Respelling
+pub mod Owed
+pub mod Returning

@@ -6,3 +6,4 @@ pub mod Written
 pub mod Places
 pub mod Cause
 pub mod Fault
+pub mod Laws

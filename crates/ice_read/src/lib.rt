@@ -3,9 +3,11 @@
 
 mod cause;
 mod fault;
+mod laws;
 mod place;
 mod values;
 
 pub use cause::ReadCause;
 pub use fault::ReadFault;
+pub use laws::written_is_read;
 pub use place::Place;
