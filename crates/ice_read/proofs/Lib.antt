@@ -11,3 +11,7 @@ pub mod Recovering
 pub mod Respelling
 pub mod Owed
 pub mod Returning
+pub mod Bytes
+pub mod Listing
+pub mod Bidding
+pub mod Numbered

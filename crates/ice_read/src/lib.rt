@@ -3,11 +3,14 @@
 
 mod cause;
 mod fault;
+mod file;
 mod laws;
 mod place;
+mod round;
 mod values;
 
 pub use cause::ReadCause;
 pub use fault::ReadFault;
 pub use laws::written_is_read;
 pub use place::Place;
+pub use round::read_round;
