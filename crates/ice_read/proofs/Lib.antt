@@ -15,3 +15,4 @@ pub mod Bytes
 pub mod Listing
 pub mod Bidding
 pub mod Numbered
+pub mod Refusing

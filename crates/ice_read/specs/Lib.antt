@@ -7,3 +7,4 @@ pub mod Places
 pub mod Cause
 pub mod Fault
 pub mod Laws
+pub mod Reading

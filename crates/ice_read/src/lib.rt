@@ -4,9 +4,12 @@
 mod cause;
 mod fault;
 mod file;
+mod goods;
 mod laws;
+mod leaf;
 mod place;
 mod round;
+mod settings;
 mod values;
 
 pub use cause::ReadCause;

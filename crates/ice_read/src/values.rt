@@ -1,5 +1,5 @@
 //! Values of a file: of the type that their place asks for, whole, and in range.
-ghost use Rattle.std.specs.Prelude.{◌≡◌, ◌&&◌, int_le, ◌<◌, ◌≤◌, [], ◌∷◌, ℕ, length, map, codes, MatchResult, IfOk, IfErr, is_some, option_and_then};
+ghost use Rattle.std.specs.Prelude.{◌≡◌, ◌&&◌, int_le, ◌+◌, ◌<◌, ◌≤◌, [], ◌∷◌, ℕ, length, map, codes, MatchResult, IfOk, IfErr, pos, is_some, option_and_then};
 ghost use Rattle.std.specs.List.{list_all};
 ghost use Rattle.serde_json.specs.Find.{get, as_number, as_integer};
 ghost use Rattle.serde_json.specs.View.{view, items_view, members_view};
@@ -104,4 +104,69 @@ pub(crate) fn member<'a>(value: &'a Value, name: &str) -> Result<&'a Value, Read
         return Err(ReadFault::of(ReadCause::Shape).under(name));
     };
     Ok(found)
+}
+
+/// A whole number between these limits, which is not negative.
+pub(crate) fn natural_of(value: &Value, low: u32, high: u32) -> Result<u32, ReadFault>
+    ensures reading { MatchResult result (λ number. (path : Path) → whole_of path (pos low) (pos high) (view value.now) ≡ Ok (pos number)) (λ fault. IsFault fault (λ path. whole_of path (pos low) (pos high) (view value.now))) }
+    ensures place { IfErr result (λ fault. fault.place ≡ []) }
+    ensures between { IfOk result (λ number. (low ≤ number) × (number ≤ high)) }
+{
+    let number = whole_of(value, i64::from(low), i64::from(high))?;
+    Ok(number as u32)
+}
+
+/// A whole number between these limits, which is not negative, in a member of an object.
+pub(crate) fn natural_member(
+    value: &Value,
+    name: &str,
+    low: u32,
+    high: u32,
+) -> Result<u32, ReadFault>
+    requires { length name.now ≤ 32 }
+    ensures reading { MatchResult result (λ number. (path : Path) → of_member path (view value.now) name.now (λ p. whole_of p (pos low) (pos high)) ≡ Ok (pos number)) (λ fault. IsFault fault (λ path. of_member path (view value.now) name.now (λ p. whole_of p (pos low) (pos high)))) }
+    ensures short { IfErr result (λ fault. length fault.place ≤ length name.now + 1) }
+    ensures between { IfOk result (λ number. (low ≤ number) × (number ≤ high)) }
+{
+    match natural_of(member(value, name)?, low, high) {
+        Ok(number) => Ok(number),
+        Err(fault) => Err(fault.under(name)),
+    }
+}
+
+/// A whole number between these limits, in a member of an object.
+pub(crate) fn whole_member(value: &Value, name: &str, low: i64, high: i64) -> Result<i64, ReadFault>
+    requires { length name.now ≤ 32 }
+    ensures reading { IsReading result (λ path. of_member path (view value.now) name.now (λ p. whole_of p low high)) }
+    ensures short { IfErr result (λ fault. length fault.place ≤ length name.now + 1) }
+    ensures between { IfOk result (IsBetween low high) }
+{
+    match whole_of(member(value, name)?, low, high) {
+        Ok(number) => Ok(number),
+        Err(fault) => Err(fault.under(name)),
+    }
+}
+
+/// A text, in a member of an object.
+pub(crate) fn text_member<'a>(value: &'a Value, name: &str) -> Result<&'a str, ReadFault>
+    requires { length name.now ≤ 32 }
+    ensures reading { MatchResult result (λ text. (path : Path) → of_member path (view value.now) name.now text_of ≡ Ok text.now) (λ fault. IsFault fault (λ path. of_member path (view value.now) name.now text_of)) }
+    ensures short { IfErr result (λ fault. length fault.place ≤ length name.now + 1) }
+{
+    match text_of(member(value, name)?) {
+        Ok(text) => Ok(text),
+        Err(fault) => Err(fault.under(name)),
+    }
+}
+
+/// The elements of an array, in a member of an object.
+pub(crate) fn array_member<'a>(value: &'a Value, name: &str) -> Result<&'a Vec<Value>, ReadFault>
+    requires { length name.now ≤ 32 }
+    ensures reading { MatchResult result (λ items. (path : Path) → of_member path (view value.now) name.now array_of ≡ Ok (items_view items.now.items)) (λ fault. IsFault fault (λ path. of_member path (view value.now) name.now array_of)) }
+    ensures short { IfErr result (λ fault. length fault.place ≤ length name.now + 1) }
+{
+    match array_of(member(value, name)?) {
+        Ok(items) => Ok(items),
+        Err(fault) => Err(fault.under(name)),
+    }
 }
