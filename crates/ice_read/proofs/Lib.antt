@@ -8,6 +8,7 @@ pub mod Owning
 pub mod Levels
 pub mod Regrowing
 pub mod Recovering
+pub mod Floatless
 pub mod Respelling
 pub mod Owed
 pub mod Returning
@@ -16,3 +17,4 @@ pub mod Listing
 pub mod Bidding
 pub mod Numbered
 pub mod Refusing
+pub mod Listed

@@ -187,17 +187,24 @@ all_there names distinct (name ∷ rest) k at = (
   all_there names distinct rest (k + 1) (λ i l. let e : k + suc i ≡ k + 1 + i = omega arith in (omega (arith, (at (suc i) (omega arith)).0), (at (suc i) (omega arith)).1 ∙ ap (λ n. get_or names n []) e)),
 )
 
+-- nothing is owned of so many goods
+abbrev zeros : ℕ → List ℕ
+zeros n = replicate n 0
+
+length-zeros : (n : ℕ) → length (zeros n) ≡ n
+length-zeros n = length-replicate {A = ℕ} n 0
+
 pub own_again : (path : Path) (goods : List Good) (own : List ℕ) → IsDistinct bytes_eq (map (λ good. good.name) goods) → length own ≡ length goods → AllByRecursion (λ amount. amount ≤ 1000000) own
     → own_at (map (λ good. good.name) goods) path (object (own_members goods own)) ≡ Ok own
 own_again path goods own distinct size few =
     let names : List (List ℕ) = map (λ good. good.name) goods in
     let count : length names ≡ length goods = length-map goods (λ (x : Good). x.name) in
-    let zeros : length (replicate (length names) 0) ≡ length names = length-replicate {A = ℕ} (length names) 0 in
+    let none : length (zeros (length names)) ≡ length names = length-zeros (length names) in
     let there = all_there names distinct names 0 (λ i l. let e : 0 + i ≡ i = omega arith in (omega arith, sym (ap (λ n. get_or names n []) e))) in
-    let r : Reads names path (replicate (length names) 0) (own_members goods own) =
-    reads names path (replicate (length names) 0) (own_members goods own) (owned_members names goods own there few) (rising_members goods own) (zeros) in
-    r.same ∙ ap Ok (ext_get_or 0 r.result own (omega (arith, r.size, zeros, count, size)) (λ i l.
-    let inside : i < length names = omega (arith, r.size, zeros) in
+    let r : Reads names path (zeros (length names)) (own_members goods own) =
+    reads names path (zeros (length names)) (own_members goods own) (owned_members names goods own there few) (rising_members goods own) none in
+    r.same ∙ ap Ok (ext_get_or 0 r.result own (omega (arith, r.size, none, count, size)) (λ i l.
+    let inside : i < length names = omega (arith, r.size, none) in
     r.each (get_or names i []) i (place_of_name names i distinct inside)
     ∙ ap (λ n. amount_or n (get_member (get_or names i []) (own_members goods own))) (get_or-replicate (length names) i 0 0 inside)
     ∙ amount_at goods own i distinct size (omega (arith, count))))

@@ -18,7 +18,7 @@ use Rattle.ice_defs.specs.Lawful.{IsLimitedKind, IsBidder}
 use Rattle.ice_defs.specs.Exchange.{Good, Bidder}
 use Rattle.ice_defs.specs.FileFault.{Path, Read, ◌>>=◌}
 use Rattle.ice_read.specs.Values.{at_member, at_index, natural}
-use Rattle.ice_read.specs.TreeFile.{Draft, no_draft, with_node, good_at, make, children_at, closed_at, choose_at, node_of, node_at, tree_at}
+use Rattle.ice_read.specs.TreeFile.{Draft, no_draft, with_node, good_at, make, children_at, closed_at, Opened, choose_at, node_of, node_at, tree_at}
 use Rattle.ice_read.specs.Written.{whole_data, items_of, good_name, leaf_data, kind_data, node_data}
 use Rattle.ice_read.proofs.Naming.{place_of_name}
 use Rattle.ice_read.proofs.Rereading.{then, whole_again}
@@ -141,7 +141,9 @@ module _ (goods : List Good) (distinct : IsDistinct bytes_eq (map (λ good. good
       (rw (whole_again (at_index (at_member path (codes "choose")) 1) (pos 0) (pos 199) (pos most) (omega (arith, ints)) (omega (arith, ints, fits.1)))
       (rw (whole_again (at_member path (codes "lo")) (neg_ℤ (pos 1000000000)) (pos 1000000000) (lo_at n) (is.bounds.low n l) (omega (arith, ints, is.bounds.ordered n l, is.bounds.high n l)))
       (rw (whole_again (at_member path (codes "hi")) (neg_ℤ (pos 1000000000)) (pos 1000000000) (hi_at n) (omega (arith, ints, is.bounds.low n l, is.bounds.ordered n l)) (is.bounds.high n l))
-      ((ap (λ r. r >>= λ made. children_at (read_child (length (front n).tree)) (at_member path (codes "of")) 0 (items_of children) made >>= λ full. closed_at path (record { least = least; most = most }) (items_len (items_of children)) full)
+      ((ap
+      (λ (r : Read Draft). (r >>= λ made. Ok (record { interval = record { least = least; most = most }; items = items_of children; made = made }))
+      >>= λ (o : Opened). children_at (read_child (length (front n).tree)) (at_member path (codes "of")) 0 o.items o.made >>= λ full. closed_at path o.interval (items_len o.items) full)
       (ap (λ k. make names levels (parent_of b.tree n) path (front n) k (lo_at n) (hi_at n)) (sym kind) ∙ made levels n path l e)
       ∙ ap (λ k. children_at (read_child k) (at_member path (codes "of")) 0 (items_of children) (front (suc n)) >>= λ full. closed_at path (record { least = least; most = most }) (items_len (items_of children)) full) (front_size n (omega arith))
       ∙ ap (λ r. r >>= λ full. closed_at path (record { least = least; most = most }) (items_len (items_of children)) full) below

@@ -7,6 +7,7 @@ use Rattle.std.proofs.lemmas.List.{get_or-map, length-map}
 use Rattle.json.proofs.Printed.Utf8.{are_ascii, IsUtf8-are_ascii}
 use Rattle.serde_json.specs.Data.{Data, null, array, object, Members}
 use Rattle.serde_json.specs.Read.{max_depth}
+use Rattle.serde_json.specs.Written.{has_float}
 use Rattle.ice_defs.specs.declared.NodeKind.{NodeKind}
 use Rattle.ice_defs.specs.declared.NodeKind.TheVariants.{Choose, Buy, Sell}
 use Rattle.ice_defs.specs.Tree.{IsInterval, kind_of, is_child, children_of}
@@ -17,6 +18,7 @@ use Rattle.ice_defs.specs.Exchange.{Settings, AreSettings, Good, Bidder, Exchang
 use Rattle.ice_terms.proofs.Names.{name_text}
 use Rattle.ice_read.specs.Values.{value_of}
 use Rattle.ice_read.specs.Written.{whole_data, items_of, Member, members_of, object_of, is_called, good_name, good_data, own_members, kind_data, node_data, bidder_data, settings_data, exchange_data, exchange_text}
+use Rattle.ice_read.proofs.Floatless.{floatless}
 use Rattle.ice_read.proofs.Naming.{all_at}
 use Rattle.ice_read.proofs.Owning.{spelled_members, rising_members}
 use Rattle.ice_read.proofs.Levels.{from, numbers_from, few_pass}
@@ -180,3 +182,6 @@ exchange_spelled ex is =
 -- the text is read as the value
 pub value_again : (ex : Exchange) → IsExchange ex → value_of (exchange_text ex) ≡ Some (exchange_data ex)
 value_again ex is = value_of-spelled (exchange_data ex) (spelled_deeper 35 max_depth (exchange_data ex) (omega arith) (exchange_spelled ex is))
+
+pub exchange_no_float : (ex : Exchange) → IsExchange ex → has_float (exchange_data ex) ≡ false
+exchange_no_float ex is = floatless (exchange_data ex) (exchange_spelled ex is).numbers

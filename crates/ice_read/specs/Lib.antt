@@ -8,3 +8,4 @@ pub mod Cause
 pub mod Fault
 pub mod Laws
 pub mod Reading
+pub mod Parts

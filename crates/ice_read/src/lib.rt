@@ -7,13 +7,17 @@ mod file;
 mod goods;
 mod laws;
 mod leaf;
+mod memory;
 mod place;
 mod round;
 mod settings;
 mod values;
+mod write;
 
 pub use cause::ReadCause;
 pub use fault::ReadFault;
 pub use laws::written_is_read;
+pub use memory::NoMemory;
 pub use place::Place;
 pub use round::read_round;
+pub use write::write_exchange;
