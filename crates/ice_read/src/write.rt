@@ -183,3 +183,6 @@ pub fn write_exchange(alloc: Global, ex: &Exchange) -> Result<Vec<u8>, NoMemory>
     let value = exchange_value(alloc, ex)?;
     Ok(value.to_vec(alloc)?)
 }
+
+#[cfg(test)]
+mod tests;
