@@ -18,3 +18,9 @@ pub mod Bidding
 pub mod Numbered
 pub mod Refusing
 pub mod Listed
+pub mod Pairs
+pub mod Grown
+pub mod Nodes
+pub mod NoGoods
+pub mod Trees
+pub mod Named

@@ -2,13 +2,14 @@
 use Rattle.std.proofs.Common.{◌≡◌, ℕ, suc, ◌-◌, ◌≤◌, List, length, false, refl, sym, ◌∙◌, arith}
 use Rattle.std.specs.Prelude.{ℤ, pos, codes, Option, Some, None, Ok}
 use Rattle.ice_defs.specs.declared.NodeKind.{NodeKind}
+use Rattle.ice_defs.specs.declared.NodeKind.TheVariants.{Choose}
 use Rattle.ice_defs.specs.Making.{TreeDraft, innermost, is_complete, node_refusal, draft_refusal, with_node}
-use Rattle.ice_defs.specs.FileFault.{Path, refuse}
-use Rattle.serde_json.specs.Data.{Data}
+use Rattle.ice_defs.specs.FileFault.{Path, refuse, ◌>>=◌}
+use Rattle.serde_json.specs.Data.{Data, Items}
 use Rattle.ice_read.specs.declared.leaf.Side.{Side}
-use Rattle.ice_read.specs.Values.{of_member, whole_of}
-use Rattle.ice_read.specs.TreeFile.{good_at, value_at, make}
-use Rattle.ice_read.specs.Reading.{side_word, side_kind, taken, levels_below, leaf_below}
+use Rattle.ice_read.specs.Values.{of_member, array_of, whole_of}
+use Rattle.ice_read.specs.TreeFile.{Interval, good_at, value_at, interval_at, make}
+use Rattle.ice_read.specs.Reading.{side_word, side_kind, taken, levels_below, leaf_below, opened_below}
 
 -- a maker with an incomplete tree refuses by the level of the node
 draft_refusal-node : (goods : ℕ) (d : TreeDraft) (kind : NodeKind) (lo hi : ℤ) → is_complete d ≡ false → length d.opened ≤ 16
@@ -36,3 +37,9 @@ pub leaf_chain : (goods : List (List ℕ)) (d : TreeDraft) (side : Side) (path :
 leaf_chain goods d side path value word good units lo hi is named counted low high =
     let named_good = rw is at named in
     rw (named_good, counted, low, high)
+
+-- the parts of a choose node
+pub opened_chain : (goods : List (List ℕ)) (d : TreeDraft) (path : Path) (value : Data) (interval : Interval) (lo hi : ℤ) (items : Items) → of_member path value (codes "choose") interval_at ≡ Ok interval
+    → of_member path value (codes "lo") value_at ≡ Ok lo → of_member path value (codes "hi") value_at ≡ Ok hi → of_member path value (codes "of") array_of ≡ Ok items
+    → opened_below goods d path value ≡ (make goods (levels_below d) (innermost d.opened) path (taken d) (Choose interval.least interval.most) lo hi >>= λ made. Ok (record { interval = interval; items = items; made = made }))
+opened_chain goods d path value interval lo hi items chosen low high children = rw (chosen, low, high, children)

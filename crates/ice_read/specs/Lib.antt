@@ -9,3 +9,4 @@ pub mod Fault
 pub mod Laws
 pub mod Reading
 pub mod Parts
+pub mod Owned

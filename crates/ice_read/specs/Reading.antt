@@ -1,9 +1,10 @@
 -- How the readers of trees follow the definitions.
-use Rattle.std.specs.Prelude.{ℕ, ◌-◌, List, length, codes}
+use Rattle.std.specs.Prelude.{ℕ, ◌-◌, ◌<◌, ◌≤◌, ◌≡◌, false, List, [], length, codes}
 use Rattle.serde_json.specs.Data.{Data}
 use Rattle.ice_defs.specs.declared.NodeKind.{NodeKind}
 use Rattle.ice_defs.specs.declared.NodeKind.TheVariants as kind
-use Rattle.ice_defs.specs.Making.{TreeDraft, innermost}
+use Rattle.ice_defs.specs.Making.{TreeDraft, innermost, is_complete}
+use Rattle.ice_defs.specs.Tree.{children_of}
 use Rattle.ice_defs.specs.FileFault.{Path, Read}
 use Rattle.ice_read.specs.declared.leaf.Side.{Side}
 use Rattle.ice_read.specs.declared.leaf.Side.TheVariants.{Buy, Sell}
@@ -34,3 +35,10 @@ opened_below goods d path = opened_at goods (levels_below d) (innermost d.opened
 
 abbrev pub node_below : List (List ℕ) → TreeDraft → Path → Data → Read Draft
 node_below goods d path = node_at goods (levels_below d) (innermost d.opened) path (taken d)
+
+-- a tree that another node may come to, and in which no node is told to be under one that isn't there
+pub record IsWaiting (d : TreeDraft) : Type 0 where
+  pub going : is_complete d ≡ false
+  pub deep : length d.opened ≤ 16
+  pub under : 0 < length d.tree → innermost d.opened < length d.tree
+  pub childless : (n : ℕ) → length d.tree ≤ n → children_of d.tree n ≡ []

@@ -2,15 +2,18 @@
 #![tactic(auto)]
 
 mod cause;
+mod choose;
 mod fault;
 mod file;
 mod goods;
 mod laws;
 mod leaf;
 mod memory;
+mod own;
 mod place;
 mod round;
 mod settings;
+mod tree;
 mod values;
 mod write;
 

@@ -66,7 +66,8 @@ impl Place {
     /// The same place, told from an array that has it at this index.
     pub(crate) fn at(self, index: u16) -> Place
         requires { length self ≤ 250 }
-        ensures { result ≡ (46 ∷ decimal index) ++ self }
+        ensures place { result ≡ (46 ∷ decimal index) ++ self }
+        ensures short { length result ≤ length self + 6 }
     {
         self.under(Buffer::new().format(index))
     }
