@@ -250,4 +250,5 @@ module _ (goods : List Good) (distinct : IsDistinct bytes_eq (map (λ good. good
       ap (λ p. node_at names levels p path no_draft (node_data goods b levels 0)) (sym is.tree.tree.root_parent) ∙ r.same ∙ ap (λ k. Ok (front k)) (root_ends b.tree is.tree.tree depth is.tree.depth.1 r.next r.end) ∙ ap Ok whole_front
 
   pub tree_again : (path : Path) → tree_at names path (node_data goods b 16 0) ≡ Ok (record { tree = b.tree; bounds = b.bounds })
+  unfolding tree_at
   tree_again path = root_again 16 refl path

@@ -24,12 +24,12 @@ push-requires c = let room : length c.loop-index.values.items < 200 = omega (ari
 pub returns-in-Err-clause-reading : goal.returns-in-Err-clause-reading
 returns-in-Err-clause-reading c =
     fault_read (view c.args.value.now) c.deref-item-items.result.now c.loop-index.index c.loop-index.values.items c.item-item.result c.in-Err.fault c.at.result c.loop-index.invariant c.loop-index-test.true c.item-item.is
-    c.in-Err.ensures.reading c.at.ensures
+    c.in-Err.ensures.reading c.at.ensures.fault
 
 pub returns-in-Err-clause-place : goal.returns-in-Err-clause-place
 returns-in-Err-clause-place c =
     let short : length (decimal c.loop-index.index) ≤ 3 = length-decimal-le 3 c.loop-index.index (omega arith) (omega (arith, c.deref-item-items.ensures.len)) (omega (arith, c.deref-item-items.ensures.len)) in
-    omega (arith, short, place_length (decimal c.loop-index.index) c.in-Err.fault c.at.result c.at.ensures, ap length c.in-Err.ensures.place)
+    omega (arith, short, place_length (decimal c.loop-index.index) c.in-Err.fault c.at.result c.at.ensures.fault, ap length c.in-Err.ensures.place)
 
 pub returns-clause-reading : goal.returns-clause-reading
 returns-clause-reading c = all_read (view c.args.value.now) c.deref-item-items.result.now c.loop-index.index c.loop-index.values.items c.loop-index.invariant c.loop-index-test.false
