@@ -1,5 +1,5 @@
 -- What is read of the parts of a round file, step by step.
-use Rattle.std.proofs.Common.{◌≡◌, ℕ, suc, ◌+◌, ◌<◌, ◌≤◌, Bool, true, false, cond, ltb, List, [], ◌∷◌, ◌++◌, length, get_or, ℤ, pos, neg_ℤ, ◌≤ℤ◌, Ok, Err, refl, sym, ap, ◌∙◌, arith, append-nil, length-append}
+use Rattle.std.proofs.Common.{◌≡◌, ℕ, suc, ◌+◌, ◌<◌, ◌≤◌, true, false, cond, ltb, List, [], ◌∷◌, ◌++◌, length, get_or, ℤ, pos, neg_ℤ, ◌≤ℤ◌, Ok, Err, refl, sym, ap, ◌∙◌, arith, append-nil, length-append}
 use Rattle.std.specs.Prelude.{codes, decimal, IsTrue, int_le}
 use Rattle.std.specs.List.{list_all}
 use Rattle.std.proofs.lemmas.Bool.{lt-ltb, le-ltb, and_from, cond-true, cond-false, false_from_ne_true}
@@ -17,7 +17,6 @@ use Rattle.ice_defs.specs.Exchange.{IsBetween}
 use Rattle.ice_defs.specs.FileFault.{Path, Read, refuse, ◌>>=◌}
 use Rattle.ice_defs.specs.Round.{Submission}
 use Rattle.ice_read.specs.declared.fault.ReadFault.{ReadFault}
-use Rattle.ice_read.specs.declared.cause.ReadCause.{ReadCause}
 use Rattle.ice_read.specs.declared.cause.ReadCause.TheVariants.{Shape}
 use Rattle.ice_read.specs.Fault.{fault_at, IsFault}
 use Rattle.ice_read.specs.Values.{at_member, at_index, array_of, text_of, has_exactly, member_or_null, of_member, each}

@@ -1,7 +1,7 @@
 -- A fault of a file has a number, and so it is no want of memory.
-use Rattle.std.proofs.Common.{◌≡◌, ◌≢◌, ℕ, suc, Bool, true, false, cond, ltb, Option, Some, None, ℤ, pos, neg_ℤ, Ok, Err, List, [], ◌∷◌, sym, ap, ◌∙◌, subst, arith}
+use Rattle.std.proofs.Common.{◌≡◌, ◌≢◌, ℕ, suc, Bool, true, false, cond, ltb, ℤ, pos, neg_ℤ, Ok, Err, [], ◌∷◌, ap, subst, arith}
 use Rattle.std.specs.Prelude.{codes, ◌&&◌, int_le, unwrap_or}
-use Rattle.serde_json.specs.Data.{Num, unsigned, negative, float, Data, null, boolean, number, string, array, object, Items, no_items, item}
+use Rattle.serde_json.specs.Data.{unsigned, negative, float, Data, null, boolean, number, string, array, object, Items, no_items, item}
 use Rattle.serde_json.specs.Events.{items_len}
 use Rattle.ice_defs.specs.Name.{is_name}
 use Rattle.ice_defs.specs.FileFault.{Path, Read, refuse, ◌>>=◌}

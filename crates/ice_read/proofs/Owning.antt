@@ -1,26 +1,26 @@
 -- The owned amounts that are written are read again, in whatever order their members stand.
-use Rattle.std.proofs.Common.{◌≡◌, ◌≢◌, ℕ, zero, suc, ◌+◌, ◌<◌, ◌≤◌, ◌^◌, ◌==◌, Bool, true, false, cond, List, [], ◌∷◌, ◌++◌, length, map, get_or, replicate, ℤ, pos, ◌≤ℤ◌, Option, Some, None, Result, Ok, Err, Ordering, Less, Equal, Greater, nat_cmp, IsUtf8, refl, sym, ap, ◌∙◌, subst, arith, is_eq}
+use Rattle.std.proofs.Common.{◌≡◌, ℕ, zero, suc, ◌+◌, ◌<◌, ◌≤◌, ◌==◌, Bool, true, false, cond, List, [], ◌∷◌, length, map, get_or, replicate, pos, Option, Some, None, Ok, Ordering, Less, Equal, Greater, nat_cmp, IsUtf8, refl, sym, ap, ◌∙◌, subst, arith, is_eq}
 use Rattle.std.specs.Prelude.{slice_set, slice_index}
 use Rattle.std.specs.Ordering.{match_ordering}
 use Rattle.std.specs.Cmp.Lexicographic.{slice_cmp}
 use Rattle.std.specs.List.{AllByRecursion, IsDistinct, position}
 use Rattle.std.specs.Str.{bytes_eq}
 use Rattle.std.proofs.lemmas.Int.{ints}
-use Rattle.std.proofs.lemmas.Bool.{eqb-true, cases_eq}
-use Rattle.std.proofs.lemmas.List.{length-set, length-replicate, length-map, get_or-set_same, get_or-set_other, get_or-replicate, get_or-map, ext_get_or}
+use Rattle.std.proofs.lemmas.Bool.{eqb-true}
+use Rattle.std.proofs.lemmas.List.{length-set, length-replicate, length-map, get_or-set_same, get_or-set_other, get_or-replicate, ext_get_or}
 use Rattle.std.proofs.lemmas.Cmp.{nat_list_cmp_total, tied_itself}
 use Rattle.std.proofs.lemmas.Map.Text.{is_eq-slice_cmp}
 use Rattle.serde_json.specs.Data.{Data, unsigned, number, object, Members, no_members, member, put}
 use Rattle.serde_json.specs.Find.{get_member}
 use Rattle.serde_json.proofs.Views.{get_member-put, get_member-put_other}
-use Rattle.ice_defs.specs.FileFault.{Path, Read, refuse, ◌>>=◌}
+use Rattle.ice_defs.specs.FileFault.{Path}
 use Rattle.ice_defs.specs.Exchange.{Good}
-use Rattle.ice_read.specs.Values.{at_member, whole_of, natural}
+use Rattle.ice_read.specs.Values.{at_member, whole_of}
 use Rattle.ice_read.specs.ExchangeFile.{own_from, own_at}
 use Rattle.ice_read.specs.Written.{whole_data, own_members}
 use Rattle.ice_read.proofs.Naming.{name_same, same_name, all_at, place_of_name, name_at_place}
-use Rattle.ice_read.proofs.Rereading.{then, whole_again}
-use Rattle.ice_read.proofs.Spelled.{IsSpelled, unsigned_spelled, IsBefore, AreRising, AreRising-put, AreMembersSpelled, AreMembersSpelled-put}
+use Rattle.ice_read.proofs.Rereading.{whole_again}
+use Rattle.ice_read.proofs.Spelled.{unsigned_spelled, IsBefore, AreRising, AreRising-put, AreMembersSpelled, AreMembersSpelled-put}
 
 abbrev compare : List ℕ → List ℕ → Ordering
 compare = slice_cmp nat_cmp

@@ -1,12 +1,12 @@
 -- An exchange that is written as a value is read again from it.
-use Rattle.std.proofs.Common.{◌≡◌, ℕ, zero, suc, ◌+◌, ◌<◌, ◌≤◌, ◌||◌, not, Bool, true, false, cond, ltb, leb, eqb, List, [], ◌∷◌, ◌++◌, length, map, Option, Some, None, Ok, Err, refl, sym, ap, ◌∙◌, subst, arith, append_assoc, length-append}
+use Rattle.std.proofs.Common.{◌≡◌, ℕ, suc, ◌+◌, ◌<◌, ◌≤◌, ◌||◌, not, Bool, true, false, ltb, leb, eqb, List, [], ◌∷◌, ◌++◌, length, map, None, Ok, refl, sym, ap, ◌∙◌, subst, arith, append_assoc, length-append}
 use Rattle.std.specs.Prelude.{codes, IsTrue, is_some}
 use Rattle.std.specs.List.{AllByRecursion, IsDistinct, list_any}
 use Rattle.std.specs.Str.{bytes_eq}
 use Rattle.std.proofs.lemmas.Bool.{or_from, lt-leb, le-ltb, ne_eqb, cond-false}
 use Rattle.std.proofs.lemmas.List.{append-nil, length-map}
 use Rattle.std.proofs.lemmas.List.Sums.{sum_by-append, sum_by-cons}
-use Rattle.serde_json.specs.Data.{Data, string, array, object}
+use Rattle.serde_json.specs.Data.{Data, array}
 use Rattle.ice_defs.specs.Name.{is_name}
 use Rattle.ice_defs.specs.Making.{good_refusal, node_count, over_sale, bidder_refusal, exchange_refusal}
 use Rattle.ice_defs.specs.Lawful.{IsBidder, IsExchange}
@@ -14,8 +14,8 @@ use Rattle.ice_defs.specs.Exchange.{Settings, Good, Bidder, Exchange}
 use Rattle.ice_defs.specs.FileFault.{Path, Read, ◌>>=◌}
 use Rattle.ice_read.specs.Values.{at_member, at_index}
 use Rattle.ice_read.specs.TreeFile.{Draft, tree_at}
-use Rattle.ice_read.specs.ExchangeFile.{unless_refused, add_good, good_value, goods_from, goods_at, own_at, add_bidder, bidder_at, bidders_from, bidders_at, not_empty, exchange_of_value}
-use Rattle.ice_read.specs.Written.{items_of, good_data, own_members, node_data, bidder_data, settings_data, exchange_data}
+use Rattle.ice_read.specs.ExchangeFile.{unless_refused, add_good, good_value, goods_from, goods_at, add_bidder, bidder_at, bidders_from, bidders_at, not_empty, exchange_of_value}
+use Rattle.ice_read.specs.Written.{items_of, good_data, node_data, bidder_data, exchange_data}
 use Rattle.ice_read.proofs.Rereading.{settings_again}
 use Rattle.ice_read.proofs.Owning.{own_again}
 use Rattle.ice_read.proofs.Regrowing.{tree_again}

@@ -1,5 +1,5 @@
 -- The tree that is written for a lawful bidder is read again, node by node in preorder.
-use Rattle.std.proofs.Common.{◌≡◌, ℕ, zero, suc, ◌+◌, ◌-◌, ◌<◌, ◌≤◌, ◌&&◌, not, Bool, true, false, cond, ltb, leb, List, [], ◌∷◌, ◌++◌, length, map, take, get_or, ℤ, pos, neg_ℤ, ◌≤ℤ◌, Option, Some, None, Ok, Err, refl, sym, ap, ◌∙◌, ◌⊎◌, inl, inr, subst, arith}
+use Rattle.std.proofs.Common.{◌≡◌, ℕ, zero, suc, ◌+◌, ◌-◌, ◌<◌, ◌≤◌, ◌&&◌, not, true, false, ltb, leb, List, [], ◌∷◌, ◌++◌, length, map, take, get_or, ℤ, pos, neg_ℤ, ◌≤ℤ◌, Some, None, Ok, refl, sym, ap, ◌∙◌, ◌⊎◌, inl, inr, subst, arith}
 use Rattle.std.specs.Prelude.{codes, int_le, int_lt}
 use Rattle.std.specs.List.{filter, IsDistinct, position}
 use Rattle.std.specs.Str.{bytes_eq}
@@ -11,17 +11,17 @@ use Rattle.serde_json.specs.Data.{Data, string}
 use Rattle.serde_json.specs.Events.{items_len}
 use Rattle.ice_defs.specs.declared.NodeKind.{NodeKind}
 use Rattle.ice_defs.specs.declared.NodeKind.TheVariants.{Choose, Buy, Sell}
-use Rattle.ice_defs.specs.Tree.{Tree, IsTree, IsInterval, kind_of, parent_of, is_child, children_of, no_node}
+use Rattle.ice_defs.specs.Tree.{IsInterval, kind_of, parent_of, is_child, children_of, no_node}
 use Rattle.ice_defs.specs.Set.{weight_of}
 use Rattle.ice_defs.specs.Making.{is_value, is_lawful_kind, node_refusal, close_refusal}
 use Rattle.ice_defs.specs.Lawful.{IsLimitedKind, IsBidder}
 use Rattle.ice_defs.specs.Exchange.{Good, Bidder}
 use Rattle.ice_defs.specs.FileFault.{Path, Read, ◌>>=◌}
-use Rattle.ice_read.specs.Values.{at_member, at_index, natural}
-use Rattle.ice_read.specs.TreeFile.{Draft, no_draft, with_node, good_at, make, children_at, closed_at, Opened, choose_at, node_of, node_at, tree_at}
-use Rattle.ice_read.specs.Written.{whole_data, items_of, good_name, leaf_data, kind_data, node_data}
+use Rattle.ice_read.specs.Values.{at_member, at_index}
+use Rattle.ice_read.specs.TreeFile.{Draft, no_draft, with_node, good_at, make, children_at, closed_at, Opened, node_of, node_at, tree_at}
+use Rattle.ice_read.specs.Written.{items_of, good_name, kind_data, node_data}
 use Rattle.ice_read.proofs.Naming.{place_of_name}
-use Rattle.ice_read.proofs.Rereading.{then, whole_again}
+use Rattle.ice_read.proofs.Rereading.{whole_again}
 use Rattle.ice_read.proofs.Levels.{from, few_pass, IsUnder, Ends, next_child, next_depth, under_next, leaf_ends, children_from, no_later_child, next_children, under_more, root_ends}
 
 -- ---- what the maker takes

@@ -1,9 +1,8 @@
 -- What is written of the parts of an exchange is read again.
-use Rattle.std.proofs.Common.{◌≡◌, ℕ, zero, suc, ◌+◌, ◌<◌, ◌≤◌, ◌&&◌, Bool, true, false, cond, List, [], ◌∷◌, ◌++◌, length, map, ℤ, pos, negsuc, ◌≤ℤ◌, Option, Some, None, Ok, Err, refl, sym, ap, ◌∙◌, subst, arith}
+use Rattle.std.proofs.Common.{◌≡◌, ◌&&◌, true, ℤ, pos, negsuc, ◌≤ℤ◌, Ok, ap, arith}
 use Rattle.std.specs.Prelude.{codes, int_le}
-use Rattle.std.proofs.lemmas.Bool.{and_from, cond-true, cond-false}
+use Rattle.std.proofs.lemmas.Bool.{and_from, cond-true}
 use Rattle.std.proofs.lemmas.Int.{ints}
-use Rattle.serde_json.specs.Data.{Data}
 use Rattle.ice_defs.specs.FileFault.{Path, Read, refuse, ◌>>=◌}
 use Rattle.ice_defs.specs.Exchange.{Settings, AreSettings}
 use Rattle.ice_read.specs.Values.{at_member, whole_of}

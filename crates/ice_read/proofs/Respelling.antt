@@ -1,11 +1,11 @@
 -- The value that a lawful exchange is written as has a text that is read as the value.
-use Rattle.std.proofs.Common.{◌≡◌, ℕ, zero, suc, ◌+◌, ◌<◌, ◌≤◌, Bool, true, false, List, [], ◌∷◌, length, map, get_or, ℤ, pos, negsuc, neg_ℤ, ◌≤ℤ◌, Some, IsUtf8, refl, sym, ap, ◌∙◌, subst, arith, cond}
+use Rattle.std.proofs.Common.{◌≡◌, ℕ, zero, suc, ◌+◌, ◌<◌, ◌≤◌, Bool, true, false, List, [], ◌∷◌, length, map, ℤ, pos, negsuc, neg_ℤ, ◌≤ℤ◌, Some, IsUtf8, refl, sym, ap, subst, arith, cond}
 use Rattle.std.specs.Prelude.{codes, IsTrue}
 use Rattle.std.specs.List.{AllByRecursion, filter}
 use Rattle.std.proofs.lemmas.Int.{ints}
 use Rattle.std.proofs.lemmas.List.{get_or-map, length-map}
 use Rattle.json.proofs.Printed.Utf8.{are_ascii, IsUtf8-are_ascii}
-use Rattle.serde_json.specs.Data.{Data, null, array, object, Members}
+use Rattle.serde_json.specs.Data.{Data, null, array, object}
 use Rattle.serde_json.specs.Read.{max_depth}
 use Rattle.serde_json.specs.Written.{has_float}
 use Rattle.ice_defs.specs.declared.NodeKind.{NodeKind}

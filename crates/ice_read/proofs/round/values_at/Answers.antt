@@ -1,4 +1,4 @@
-use Rattle.std.proofs.Common.{◌≡◌, ◌<◌, ◌≤◌, ◌∷◌, [], ◌++◌, refl, sym, subst, ◌∙◌, ap, arith, rules, length, decimal, lit<}
+use Rattle.std.proofs.Common.{◌≡◌, ◌<◌, ◌≤◌, ◌∷◌, [], ◌++◌, refl, ◌∙◌, ap, arith, rules, length, decimal, lit<}
 use Rattle.std.proofs.lemmas.Fmt.{length-decimal-le}
 use Rattle.serde_json.specs.View.{view}
 use Rattle.ice_read.specs.declared.cause.ReadCause.TheVariants.{Range}
