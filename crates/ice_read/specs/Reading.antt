@@ -5,7 +5,10 @@ use Rattle.ice_defs.specs.declared.NodeKind.{NodeKind}
 use Rattle.ice_defs.specs.declared.NodeKind.TheVariants as kind
 use Rattle.ice_defs.specs.Making.{TreeDraft, innermost, is_complete}
 use Rattle.ice_defs.specs.Tree.{children_of}
-use Rattle.ice_defs.specs.FileFault.{Path, Read}
+use Rattle.ice_defs.specs.FileFault.{Path, Read, ◌>>=◌}
+use Rattle.ice_defs.specs.Exchange.{Good, Bidder, Exchange}
+use Rattle.ice_defs.specs.Lawful.{good_names}
+use Rattle.ice_read.specs.ExchangeFile.{good_value, add_good, bidder_at, add_bidder}
 use Rattle.ice_read.specs.declared.leaf.Side.{Side}
 use Rattle.ice_read.specs.declared.leaf.Side.TheVariants.{Buy, Sell}
 use Rattle.ice_read.specs.TreeFile.{Draft, Opened, leaf_at, opened_at, node_at}
@@ -42,3 +45,10 @@ pub record IsWaiting (d : TreeDraft) : Type 0 where
   pub deep : length d.opened ≤ 16
   pub under : 0 < length d.tree → innermost d.opened < length d.tree
   pub childless : (n : ℕ) → length d.tree ≤ n → children_of d.tree n ≡ []
+
+-- what an exchange that is being made has with one good more, or one bidder more
+abbrev pub good_added : Exchange → Path → Data → Read (List Good)
+good_added ex path d = good_value path d >>= λ good. add_good path ex.goods good
+
+abbrev pub bidder_added : Exchange → Path → Data → Read (List Bidder)
+bidder_added ex path d = bidder_at (good_names ex) path d >>= λ b. add_bidder path (length (good_names ex)) ex.bidders b
