@@ -1,9 +1,11 @@
 -- Files that are fetched in a part of a call, and what is replied where one is not had.
-use Rattle.std.specs.Prelude.{ℕ, ◌≤◌, ◌≡◌, List, Option}
+use Rattle.std.specs.Prelude.{ℕ, ◌≤◌, ◌≡◌, List, Option, Some, None}
 use Rattle.ice_defs.specs.FileFault.{FileFault}
 use Rattle.ice_section.specs.declared.faults.LineFileFault.{LineFileFault}
 use Rattle.ice_section.specs.declared.faults.LineFileFault.TheVariants as fault
-use Rattle.ice_cli.specs.declared.reply.FileFault.TheVariants.{AtLine}
+use Rattle.ice_read.specs.declared.fault.ReadFault.{ReadFault}
+use Rattle.ice_read.specs.Cause.{cause_number}
+use Rattle.ice_cli.specs.declared.reply.FileFault.TheVariants.{AtLine, AtPlace}
 use Rattle.ice_cli.specs.declared.reply.Reply.{Reply}
 use Rattle.ice_cli.specs.declared.reply.Reply.TheVariants.{Refused, Unread, NoMemory}
 use Rattle.ice_cli.specs.Call.{Call, FaultRose, file_limit, IsRefused}
@@ -49,3 +51,11 @@ IsFaultReply number IsFault other = ⊥
 abbrev pub IsLineReply : ℕ → LineFileFault → Reply → Type 0
 IsLineReply file (fault.Fault number line) reply = reply ≡ Refused file (AtLine number line)
 IsLineReply file fault.NoMemory reply = reply ≡ NoMemory
+
+-- the reply to a fault that the reader of JSON found in the file with this number: every number has its place; want of memory has no number
+abbrev pub IsPlaceReply : ℕ → ReadFault → Reply → Type 0
+IsPlaceReply file fault reply = numbered (cause_number fault.cause)
+  where
+    numbered : Option ℕ → Type 0
+    numbered (Some number) = reply ≡ Refused file (AtPlace number fault.place)
+    numbered None = reply ≡ NoMemory

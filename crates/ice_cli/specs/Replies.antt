@@ -1,5 +1,5 @@
 -- The text and the status of a reply.
-use Rattle.std.specs.Prelude.{◌≡◌, ◌⊎◌, ℕ, List, [], codes, decimal, Option, Some, None}
+use Rattle.std.specs.Prelude.{◌≡◌, ◌⊎◌, ℕ, List, [], codes, Option, Some}
 use Rattle.ice_edge.specs.Edge.{Rose, Appends, AppendsFront}
 use Rattle.ice_check.specs.Checks.{IsChecked, FirstFailure, Checks}
 use Rattle.ice_check.specs.Answers.{OfJournal}
@@ -8,20 +8,17 @@ use Rattle.ice_edge.specs.declared.status.Status.{Status}
 use Rattle.ice_edge.specs.declared.status.Status.TheVariants as status
 use Rattle.ice_check.specs.Theorems.{of_assigned, of_regret, IsYes}
 use Rattle.ice_defs.specs.FileFault.{FileFault, at_line}
+use Rattle.ice_read.specs.Places.{shown}
 use Rattle.ice_cli.specs.declared.reply.FileFault as declared
-use Rattle.ice_cli.specs.declared.reply.FileFault.TheVariants.{AtLine, OtherKind, TooLong}
+use Rattle.ice_cli.specs.declared.reply.FileFault.TheVariants.{AtLine, AtPlace, OtherKind, TooLong}
 use Rattle.ice_cli.specs.declared.reply.Reply.{Reply}
 use Rattle.ice_cli.specs.declared.reply.Reply.TheVariants.{Yes, YesRegret, No, Refused, Unread, Words, NoMemory}
 use Rattle.ice_cli.specs.Output.{yes_line, no_line, words_line, refused_line, unread_line}
 
--- a line's number, or `-` where the fault is of the whole file
-abbrev pub place_text : Option ℕ → List ℕ
-place_text None = codes "-"
-place_text (Some line) = decimal line
-
 -- the number and the place of a file's fault
 abbrev pub fault_of : declared.FileFault → FileFault
 fault_of (AtLine number line) = at_line number line
+fault_of (AtPlace number place) = record { number = number; place = shown place }
 fault_of OtherKind = other_kind
 fault_of TooLong = record { number = 61; place = codes "-" }
 

@@ -145,7 +145,7 @@ const CASES: [Case; 8] = [
         words: &FILES,
         exchange: "{",
         prices: TWO_PRICES,
-        output: "refused 1 53 -\n",
+        output: "refused 1 1 -\n",
         other: "",
         status: Status::Input,
     },

@@ -3,10 +3,11 @@ ghost use Rattle.std.specs.Prelude.{◌≡◌, IfOk, IfErr, Ok as Found};
 ghost use Rattle.ice_section.specs.LineFile.{IsPricesOfLines};
 ghost use Rattle.ice_cli.specs.Call.{Call, file_limit, OfTold};
 ghost use Rattle.ice_cli.specs.Files.{is_line_form, IsExchangeOf, IsExchangeFault, IsPricesFault};
-ghost use Rattle.ice_cli.specs.FileReplies.{told, IsLater, HasPart, IsFileReply, IsFaultReply, IsLineReply};
+ghost use Rattle.ice_cli.specs.FileReplies.{told, IsLater, HasPart, IsFileReply, IsFaultReply, IsLineReply, IsPlaceReply};
 
 use crate::reply::{FileFault, Reply};
 use ice_edge::{FetchFault, Shelf};
+use ice_read::ReadFault;
 use ice_section::{LineFileFault, read_exchange_lines, read_prices_lines};
 use ice_terms::Prices;
 use ice_trade::Exchange;
@@ -42,8 +43,8 @@ fn is_line_form(bytes: &[u8]) -> bool
     }
 }
 
-/// The reply to a fault of the file with this number.
-fn fault_reply(file: u8, fault: LineFileFault) -> Reply
+/// The reply to a fault in a line of the file with this number.
+fn line_reply(file: u8, fault: LineFileFault) -> Reply
     ensures { IsLineReply file fault result }
 {
     match fault {
@@ -55,20 +56,35 @@ fn fault_reply(file: u8, fault: LineFileFault) -> Reply
     }
 }
 
+/// The reply to a fault in the JSON file with this number.
+fn place_reply(file: u8, fault: ReadFault) -> Reply
+    ensures { IsPlaceReply file fault result }
+{
+    let ReadFault { place, cause } = fault;
+    match cause.number() {
+        Some(number) => Reply::Refused {
+            file,
+            fault: FileFault::AtPlace { number, place },
+        },
+        None => Reply::NoMemory,
+    }
+}
+
 /// The exchange of the bytes of the file with this number.
 fn exchange_of(alloc: Global, file: u8, bytes: &[u8]) -> Result<Exchange, Reply>
     ensures exchange { IfOk result (λ exchange. IsExchangeOf bytes.now (Found exchange)) }
     ensures reply { IfErr result (IsFaultReply file (IsExchangeFault bytes.now)) }
 {
-    if !is_line_form(bytes) {
-        return Err(Reply::Refused {
-            file,
-            fault: FileFault::OtherKind,
-        });
-    }
-    match read_exchange_lines(alloc, bytes) {
-        Ok(exchange) => Ok(exchange),
-        Err(fault) => Err(fault_reply(file, fault)),
+    if is_line_form(bytes) {
+        match read_exchange_lines(alloc, bytes) {
+            Ok(exchange) => Ok(exchange),
+            Err(fault) => Err(line_reply(file, fault)),
+        }
+    } else {
+        match ice_read::read_exchange(alloc, bytes) {
+            Ok(exchange) => Ok(exchange),
+            Err(fault) => Err(place_reply(file, fault)),
+        }
     }
 }
 
@@ -79,7 +95,7 @@ fn prices_of(file: u8, bytes: &[u8], goods: u8) -> Result<Prices, Reply>
 {
     match read_prices_lines(bytes, goods) {
         Ok(prices) => Ok(prices),
-        Err(fault) => Err(fault_reply(file, fault)),
+        Err(fault) => Err(line_reply(file, fault)),
     }
 }
 

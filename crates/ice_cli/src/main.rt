@@ -8,6 +8,8 @@ mod best_set;
 mod best_tests;
 mod command;
 mod files;
+#[cfg(test)]
+mod json_tests;
 mod outcome;
 mod reply;
 mod serve;

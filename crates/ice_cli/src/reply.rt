@@ -1,17 +1,21 @@
 //! What a call replies: one line, and the status that goes with it.
-ghost use Rattle.std.specs.Prelude.{◌≡◌, ◌≢◌, [], ◌++◌, ◌∷◌, ℕ, ◌≤◌, ◌<◌, length, codes};
+ghost use Rattle.std.specs.Prelude.{◌≡◌, ◌≢◌, [], ◌+◌, ◌++◌, ◌∷◌, ℕ, ◌≤◌, ◌<◌, length, codes};
+ghost use Rattle.ice_line.specs.Writing.{with_field};
 ghost use Rattle.ice_cli.specs.Output.{rule_word};
-ghost use Rattle.ice_cli.specs.Replies.{fault_of, place_text, reply_text, reply_status};
+ghost use Rattle.ice_cli.specs.Replies.{fault_of, reply_text, reply_status};
 
 use ice_check::Rule;
 use ice_edge::Status;
 use ice_line::LineWriter;
+use ice_read::Place;
 
 /// Why a file is refused.
-#[derive(Clone, Copy)]
+#[derive(Drop)]
 pub enum FileFault {
     /// The fault with this number, at this line.
     AtLine { number: u8, line: u64 },
+    /// The fault with this number, at this value of a JSON file.
+    AtPlace { number: u8, place: Place },
     /// It is of another kind than the command reads.
     OtherKind,
     /// It has more bytes than it may have.
@@ -23,26 +27,29 @@ impl FileFault {
     fn number(&self) -> u8
         ensures { result ≡ (fault_of self.now).number }
     {
-        match *self {
-            FileFault::AtLine { number, .. } => number,
+        match self {
+            FileFault::AtLine { number, .. } | FileFault::AtPlace { number, .. } => *number,
             FileFault::OtherKind => 53,
             FileFault::TooLong => 61,
         }
     }
 
-    /// The line at fault; none where the file is at fault as a whole.
-    fn line(&self) -> Option<u64>
-        ensures { place_text result ≡ (fault_of self.now).place }
+    /// Writes the line or the value at fault; `-` where the file is at fault as a whole.
+    fn write_place(&self, to: &mut LineWriter)
+        requires { length to.old ≤ 1000 }
+        ensures field { to.new ≡ with_field to.old (fault_of self.now).place }
+        ensures len { length to.new ≤ length to.old + 257 }
     {
-        match *self {
-            FileFault::AtLine { line, .. } => Some(line),
-            FileFault::OtherKind | FileFault::TooLong => None,
+        match self {
+            FileFault::AtLine { line, .. } => to.natural(*line),
+            FileFault::AtPlace { place, .. } => to.word(place.text().as_bytes()),
+            FileFault::OtherKind | FileFault::TooLong => to.word(b"-"),
         }
     }
 }
 
 /// What a call replies in one line. Files are numbered from 1, in the order of the words.
-#[derive(Clone, Copy)]
+#[derive(Drop)]
 pub enum Reply {
     /// The checker's yes to a journal of kind assign, with the value of its sets.
     Yes { value: i128 },
@@ -113,10 +120,10 @@ impl Reply {
         requires { to.old ≡ [] }
         ensures { result.now ≡ reply_text self.now }
     {
-        match *self {
+        match self {
             Reply::Yes { value } => {
                 to.word(b"yes");
-                to.number(value);
+                to.number(*value);
             }
             Reply::YesRegret { amount } => {
                 to.word(b"yes");
@@ -124,21 +131,18 @@ impl Reply {
             }
             Reply::No { line, rule } => {
                 to.word(b"no");
-                to.number(i128::from(line));
-                to.word(rule_word(rule));
+                to.number(i128::from(*line));
+                to.word(rule_word(*rule));
             }
             Reply::Refused { file, fault } => {
                 to.word(b"refused");
-                to.natural(u64::from(file));
+                to.natural(u64::from(*file));
                 to.natural(u64::from(fault.number()));
-                match fault.line() {
-                    Some(line) => to.natural(line),
-                    None => to.word(b"-"),
-                }
+                fault.write_place(to);
             }
             Reply::Unread { file } => {
                 to.word(b"unread");
-                to.natural(u64::from(file));
+                to.natural(u64::from(*file));
             }
             Reply::Words => {
                 to.word(b"words");

@@ -41,9 +41,10 @@ impl Place {
         }
     }
 
-    /// The place as text.
+    /// The place as text, of at most 256 bytes.
     pub fn text(&self) -> &str
-        ensures { result.now ≡ shown self.now }
+        ensures text { result.now ≡ shown self.now }
+        ensures short { length result.now ≤ 256 }
     {
         match self.text.as_str().strip_prefix('.') {
             Some(text) => text,

@@ -7,6 +7,6 @@ undotted : (bs same : List ℕ) → IsTrue (is_dotted bs) → same ≡ bs → ((
 undotted [] same dotted e none = refl
 undotted (b ∷ rest) same dotted e none = let first : b ≡ 46 = grind arith in absurd (none rest (rw (← first) e))
 
-pub returns-in-None : goal.returns-in-None
-returns-in-None c = rw (← c.self.view_is) (undotted c.self.inside.text.bytes c.as_str.result.now c.self.invariant c.as_str.ensures.value
+pub returns-in-None-clause-text : goal.returns-in-None-clause-text
+returns-in-None-clause-text c = rw (← c.self.view_is) (undotted c.self.inside.text.bytes c.as_str.result.now c.self.invariant c.as_str.ensures.value
     (λ rest e. c.in-None.ensures.cases rest (e ∙ sym (ap (λ dot. dot ++ rest) (encode_ascii 46 (omega arith))))))
