@@ -127,7 +127,7 @@ impl Reply {
             }
             Reply::YesRegret { amount } => {
                 to.word(b"yes");
-                to.number(amount);
+                to.number(*amount);
             }
             Reply::No { line, rule } => {
                 to.word(b"no");
