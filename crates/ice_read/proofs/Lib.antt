@@ -24,6 +24,5 @@ pub mod Nodes
 pub mod NoGoods
 pub mod Trees
 pub mod Named
-pub mod Bytes
 pub mod Following
 pub mod Filing
