@@ -1,5 +1,6 @@
-use crate::read_exchange;
+use crate::{ReadFault, read_exchange};
 use std::alloc::Global;
+use std::process::Abort;
 use std::test::Fail;
 
 const BASE: &str =
@@ -15,15 +16,31 @@ const SELLS: &str = r#"{"sell":"A","units":1,"lo":-10,"hi":-10}"#;
 
 const BUYS: &str = r#"{"buy":"A","units":1,"lo":20,"hi":30}"#;
 
-// What stands in the file, what stands there instead, and the number and the place of the fault.
-const CHANGES: [(&str, &str, u8, &str); 68] = [
-    (BASE, BASE, 0, ""),
+// What stands in the file, and what may stand there instead.
+const ACCEPTED: [(&str, &str); 3] = [
+    (BASE, BASE),
+    (r#"["A"]"#, r#"[{"exact":"A"}]"#),
+    (
+        SELLS,
+        r#"{"choose":[0,1],"lo":0,"hi":0,"of":[{"sell":"A","units":1,"lo":-1,"hi":-1},{"sell":"A","units":1,"lo":-1,"hi":-1}]}"#,
+    ),
+];
+
+// What stands in a file, what stands there instead, and the number and the place of the fault.
+type Change = (&'static str, &'static str, u8, &'static str);
+
+const WHOLE_FAULTS: [Change; 8] = [
     (BASE, "", 1, "-"),
     (BASE, "{", 1, "-"),
     (BASE, "ice 1 exchange", 1, "-"),
     (BASE, "[]", 2, "-"),
     (r#""goods":["A"],"#, "", 2, "-"),
     (r#""goods":["A"],"#, r#""goods":["A"],"x":1,"#, 2, "-"),
+    (r#""cap":100"#, r#""cap":1e400"#, 1, "-"),
+    (BIDDERS, "[]", 16, "-"),
+];
+
+const SETTINGS_FAULTS: [Change; 16] = [
     (SETTINGS, "7", 2, "settings"),
     (r#""weight":50,"#, "", 2, "settings"),
     (r#""weight":50,"#, r#""weight":50,"x":1,"#, 2, "settings"),
@@ -44,7 +61,6 @@ const CHANGES: [(&str, &str, u8, &str); 68] = [
     (r#""cap":100"#, r#""cap":"x""#, 2, "settings.cap"),
     (r#""cap":100"#, r#""cap":0"#, 4, "settings.cap"),
     (r#""cap":100"#, r#""cap":1e2"#, 3, "settings.cap"),
-    (r#""cap":100"#, r#""cap":1e400"#, 1, "-"),
     (
         r#""improve":1"#,
         r#""improve":1000000001"#,
@@ -71,7 +87,9 @@ const CHANGES: [(&str, &str, u8, &str); 68] = [
         3,
         "settings.branches",
     ),
-    (r#"["A"]"#, r#"[{"exact":"A"}]"#, 0, ""),
+];
+
+const GOODS_FAULTS: [Change; 7] = [
     (r#"["A"]"#, r#""A""#, 2, "goods"),
     (r#"["A"]"#, "[1]", 2, "goods.0"),
     (r#"["A"]"#, r#"[{"exact":"A","x":1}]"#, 2, "goods.0"),
@@ -84,22 +102,29 @@ const CHANGES: [(&str, &str, u8, &str); 68] = [
         "goods.1",
     ),
     (r#"["A"]"#, r#"["A","A"]"#, 10, "goods.1"),
-    (r#"["A"]"#, "[]", 5, "bidders.0.own"),
+];
+
+const BIDDERS_FAULTS: [Change; 7] = [
     (BIDDERS, "7", 2, "bidders"),
-    (BIDDERS, "[]", 16, "-"),
     (BIDDERS, "[7]", 2, "bidders.0"),
     (r#""name":"s","#, "", 2, "bidders.0"),
     (r#""name":"s""#, r#""name":1"#, 2, "bidders.0.name"),
     (r#""name":"s""#, r#""name":"s s""#, 13, "bidders.0"),
     (r#""name":"b""#, r#""name":"s""#, 11, "bidders.1"),
+    (r#"{"A":1}"#, r#"{"A":0}"#, 14, "bidders.0"),
+];
+
+const OWNED_FAULTS: [Change; 7] = [
+    (r#"["A"]"#, "[]", 5, "bidders.0.own"),
     (r#"{"A":1}"#, "[]", 2, "bidders.0.own"),
     (r#"{"A":1}"#, r#"{"A":"x"}"#, 2, "bidders.0.own.A"),
     (r#"{"A":1}"#, r#"{"A":1.5}"#, 3, "bidders.0.own.A"),
     (r#"{"A":1}"#, r#"{"A":-1}"#, 4, "bidders.0.own.A"),
     (r#"{"A":1}"#, r#"{"A":1000001}"#, 4, "bidders.0.own.A"),
     (r#"{"A":1}"#, r#"{"B":1}"#, 5, "bidders.0.own"),
-    (r#"{"A":1}"#, r#"{"A":0}"#, 14, "bidders.0"),
-    (SELLS, "5", 2, "bidders.0.tree"),
+];
+
+const LEAVES_FAULTS: [Change; 8] = [
     (r#""lo":-10"#, r#""lo":-10.5"#, 3, "bidders.0.tree.lo"),
     (r#""lo":-10"#, r#""lo":-9"#, 21, "bidders.0.tree"),
     (r#""hi":30"#, r#""hi":1000000001"#, 4, "bidders.1.tree.hi"),
@@ -123,6 +148,10 @@ const CHANGES: [(&str, &str, u8, &str); 68] = [
         4,
         "bidders.1.tree.units",
     ),
+];
+
+const NODES_FAULTS: [Change; 12] = [
+    (SELLS, "5", 2, "bidders.0.tree"),
     (
         BUYS,
         r#"{"choose":7,"lo":0,"hi":0,"of":[]}"#,
@@ -189,33 +218,76 @@ const CHANGES: [(&str, &str, u8, &str); 68] = [
         14,
         "bidders.0",
     ),
-    (
-        SELLS,
-        r#"{"choose":[0,1],"lo":0,"hi":0,"of":[{"sell":"A","units":1,"lo":-1,"hi":-1},{"sell":"A","units":1,"lo":-1,"hi":-1}]}"#,
-        0,
-        "",
-    ),
 ];
 
-// Whether a file is refused with this number at this place; 0 stands for a file that is accepted.
-fn is_told(alloc: Global, text: &str, number: u8, place: &str) -> bool {
-    match read_exchange(alloc, text.as_bytes()) {
-        Ok(_) => number == 0,
-        Err(fault) => fault.number() == Some(number) && fault.place.text() == place,
-    }
+// The file with a part of it changed.
+fn changed(alloc: Global, old: &str, new: &str) -> Result<String, Fail> {
+    let (before, after) = BASE.split_once(old).ok_or("no such part")?;
+    Ok(format!(in alloc; "{before}{new}{after}")?)
+}
+
+// The first fault of a file.
+fn fault_of(alloc: Global, text: &str) -> Result<ReadFault, Fail> {
+    Ok(
+        read_exchange(alloc, text.as_bytes())
+            .err()
+            .ok_or("no fault")?,
+    )
 }
 
 #[test]
-fn changes(rt: HostRuntime) -> Result<(), Fail> {
-    for (old, new, number, place) in CHANGES {
-        let (before, after) = BASE.split_once(old).ok_or(old)?;
-        let text = format!(in rt.alloc(); "{before}{new}{after}")?;
-        assert!(rt;
-            is_told(rt.alloc(), text.as_str(), number, place),
-            "{number} {place}"
-        );
+fn accepted(rt: HostRuntime) -> Result<(), Fail> {
+    for (old, new) in ACCEPTED {
+        let text = changed(rt.alloc(), old, new)?;
+        assert!(rt; read_exchange(rt.alloc(), text.as_bytes()).is_ok(), "{new}");
     }
     Ok(())
+}
+
+// Each change is refused with its number at its place.
+fn check_faults(rt: &impl Abort, alloc: Global, changes: &[Change]) -> Result<(), Fail> {
+    for (old, new, number, place) in changes {
+        let text = changed(alloc, old, new)?;
+        let fault = fault_of(alloc, text.as_str())?;
+        assert_eq!(rt; fault.number(), Some(*number), "{new}");
+        assert_eq!(rt; fault.place.text(), *place, "{new}");
+    }
+    Ok(())
+}
+
+#[test]
+fn whole(rt: HostRuntime) -> Result<(), Fail> {
+    check_faults(&rt, rt.alloc(), &WHOLE_FAULTS)
+}
+
+#[test]
+fn settings(rt: HostRuntime) -> Result<(), Fail> {
+    check_faults(&rt, rt.alloc(), &SETTINGS_FAULTS)
+}
+
+#[test]
+fn goods(rt: HostRuntime) -> Result<(), Fail> {
+    check_faults(&rt, rt.alloc(), &GOODS_FAULTS)
+}
+
+#[test]
+fn bidders(rt: HostRuntime) -> Result<(), Fail> {
+    check_faults(&rt, rt.alloc(), &BIDDERS_FAULTS)
+}
+
+#[test]
+fn owned(rt: HostRuntime) -> Result<(), Fail> {
+    check_faults(&rt, rt.alloc(), &OWNED_FAULTS)
+}
+
+#[test]
+fn leaves(rt: HostRuntime) -> Result<(), Fail> {
+    check_faults(&rt, rt.alloc(), &LEAVES_FAULTS)
+}
+
+#[test]
+fn nodes(rt: HostRuntime) -> Result<(), Fail> {
+    check_faults(&rt, rt.alloc(), &NODES_FAULTS)
 }
 
 // The file with these values in the place of its bidders.
@@ -233,7 +305,8 @@ fn large(rt: HostRuntime) -> Result<(), Fail> {
     for _ in 0..200 {
         brackets.push(']')?;
     }
-    assert!(rt; is_told(rt.alloc(), brackets.as_str(), 1, "-"));
+    let fault = fault_of(rt.alloc(), brackets.as_str())?;
+    assert_eq!(rt; fault.number(), Some(1));
 
     let mut many = String::new(rt.alloc());
     for number in 0..41 {
@@ -244,7 +317,9 @@ fn large(rt: HostRuntime) -> Result<(), Fail> {
         many.push_str(bidder.as_str())?;
     }
     let text = with_bidders(rt.alloc(), many.as_str())?;
-    assert!(rt; is_told(rt.alloc(), text.as_str(), 12, "bidders.40"));
+    let fault = fault_of(rt.alloc(), text.as_str())?;
+    assert_eq!(rt; fault.number(), Some(12));
+    assert_eq!(rt; fault.place.text(), "bidders.40");
 
     let mut deep = String::new(rt.alloc());
     let mut place = String::new(rt.alloc());
@@ -260,6 +335,8 @@ fn large(rt: HostRuntime) -> Result<(), Fail> {
     }
     deep.push_str("}")?;
     let text = with_bidders(rt.alloc(), deep.as_str())?;
-    assert!(rt; is_told(rt.alloc(), text.as_str(), 24, place.as_str()));
+    let fault = fault_of(rt.alloc(), text.as_str())?;
+    assert_eq!(rt; fault.number(), Some(24));
+    assert_eq!(rt; fault.place.text(), place.as_str());
     Ok(())
 }
