@@ -1,0 +1,17 @@
+use Rattle.std.proofs.Common.{◌≡◌, ◌∙◌}
+use Rattle.std.proofs.lemmas.Result.{err_from_is_err_and}
+use Rattle.serde_json.specs.View.{view}
+use Rattle.ice_defs.specs.FileFault.{Path}
+use Rattle.ice_read.specs.ExchangeFile.{goods_at}
+use Rattle.ice_read.proofs.Placing.{deeper, missing}
+use Rattle.ice_read.proofs.exchange.take_goods_member.Goals as goal
+
+pub returns-in_err-member-clause-refused : goal.returns-in_err-member-clause-refused
+returns-in_err-member-clause-refused c =
+    let p = err_from_is_err_and c.from_residual.result c.from_residual.ensures.1 in
+    rw p.1 (λ path. rw c.in_err-member.ensures.0 (missing c.args.name.now p.0 (p.2 ∙ c.in_err-member.ensures.1) path))
+
+pub returns-in-Err-clause-refused : goal.returns-in-Err-clause-refused
+returns-in-Err-clause-refused c =
+    let read = λ (p : Path). goods_at p (view c.in_ok-member.field-0.now) in
+    λ path. rw (← c.in_ok-member.ensures) (deeper read c.args.name.now c.in-Err.fault c.under.result c.in-Err.ensures.refused c.under.ensures path)

@@ -1,0 +1,27 @@
+use Rattle.std.proofs.Common.{◌≡◌, ◌∙◌, ◌≤◌, ◌+◌, length, pos, refl, arith, append-nil}
+use Rattle.serde_json.specs.View.{view}
+use Rattle.ice_defs.specs.FileFault.{Path}
+use Rattle.ice_defs.specs.Lawful.{good_names}
+use Rattle.ice_read.specs.declared.cause.ReadCause.TheVariants.{UnknownGood}
+use Rattle.ice_read.specs.Values.{whole_of}
+use Rattle.ice_read.proofs.Placing.{refused, deeper}
+use Rattle.ice_read.proofs.Named.{short_good, known_good}
+use Rattle.ice_read.proofs.own.take_amount.Goals as goal
+
+pub returns-in_default-clause-refused : goal.returns-in_default-clause-refused
+returns-in_default-clause-refused c = λ path. rw (← c.in_default.ensures) (refused 5 UnknownGood c.of.result c.of.ensures refl path)
+
+pub under-requires : goal.under-requires
+under-requires c =
+    let short = short_good c.args.name.now (good_names c.args.exchange.now) c.in-Some.good c.requires.named c.in-Some.ensures in
+    rw c.in-Err.ensures.place (omega (arith, short))
+
+pub returns-in-Err-clause-refused : goal.returns-in-Err-clause-refused
+returns-in-Err-clause-refused c = λ path.
+    let read = λ (p : Path). whole_of p (pos 0) (pos 1000000) (view c.args.value.now) in
+    known_good (good_names c.args.exchange.now) path c.args.own.now.items c.args.name.now (view c.args.value.now) c.in-Some.good _ c.in-Some.ensures (deeper read c.args.name.now c.in-Err.fault c.under.result c.in-Err.ensures.reading c.under.ensures path)
+
+pub returns-in-Err-clause-short : goal.returns-in-Err-clause-short
+returns-in-Err-clause-short c =
+    let short = short_good c.args.name.now (good_names c.args.exchange.now) c.in-Some.good c.requires.named c.in-Some.ensures in
+    rw (c.under.ensures, c.in-Err.ensures.place, append-nil c.args.name.now) (omega (arith, short))

@@ -1,0 +1,12 @@
+use Rattle.std.proofs.Common.{◌≡◌, ℕ, IsTrue, List, [], ◌∷◌, ◌++◌, refl, ap, sym, ◌∙◌, arith}
+use Rattle.std.proofs.lemmas.Str.Ascii.{encode_ascii}
+use Rattle.ice_read.specs.Places.{shown, is_dotted}
+use Rattle.ice_read.proofs.place.Place.text.Goals as goal
+
+undotted : (bs same : List ℕ) → IsTrue (is_dotted bs) → same ≡ bs → ((rest : List ℕ) → same ≡ 46 ∷ rest → ⊥) → 45 ∷ [] ≡ shown bs
+undotted [] same dotted e none = refl
+undotted (b ∷ rest) same dotted e none = let first : b ≡ 46 = grind arith in absurd (none rest (rw (← first) e))
+
+pub returns-in-None : goal.returns-in-None
+returns-in-None c = rw (← c.self.view_is) (undotted c.self.inside.text.bytes c.as_str.result.now c.self.invariant c.as_str.ensures.value
+    (λ rest e. c.in-None.ensures.cases rest (e ∙ sym (ap (λ dot. dot ++ rest) (encode_ascii 46 (omega arith))))))

@@ -1,0 +1,12 @@
+pub mod Values
+pub mod TreeFile
+pub mod ExchangeFile
+pub mod RoundFile
+pub mod Written
+pub mod Places
+pub mod Cause
+pub mod Fault
+pub mod Laws
+pub mod Reading
+pub mod Parts
+pub mod Owned
