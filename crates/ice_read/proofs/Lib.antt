@@ -11,3 +11,4 @@ pub mod Named
 pub mod Bytes
 pub mod Following
 pub mod Filing
+pub mod LineForm
