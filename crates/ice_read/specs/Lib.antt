@@ -6,5 +6,7 @@ pub mod Written
 pub mod Places
 pub mod Cause
 pub mod Fault
+pub mod Laws
 pub mod Reading
+pub mod Parts
 pub mod Owned

@@ -8,17 +8,25 @@ mod exchange;
 mod fault;
 mod file;
 mod goods;
+mod laws;
 mod leaf;
+mod memory;
 mod own;
 mod place;
+mod round;
 mod settings;
 mod tree;
 mod values;
+mod write;
 
 pub use cause::ReadCause;
 pub use exchange::read_exchange;
 pub use fault::ReadFault;
+pub use laws::written_is_read;
+pub use memory::NoMemory;
 pub use place::Place;
+pub use round::read_round;
+pub use write::write_exchange;
 
 #[cfg(test)]
 mod exchange_tests;

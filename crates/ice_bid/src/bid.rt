@@ -1,0 +1,75 @@
+ghost use Rattle.std.specs.Prelude.{◌≡◌};
+ghost use Rattle.ice_bid.specs.Bids.{AreValues, IsBid};
+
+use arrayvec::ArrayVec;
+use ice_terms::Name;
+use std::marker::Model;
+
+/// A bid of a round: the name of a bidder, and at most 200 lower and 200 upper values, each at most 1,000,000,000 in
+/// size. Whether the name is a bidder's, and whether the values count the nodes of its tree, is judged later.
+#[derive(Drop)]
+pub struct Bid {
+    bidder: Name,
+    lo: ArrayVec<i64, 200>,
+    hi: ArrayVec<i64, 200>,
+}
+
+impl Model for Bid {
+    ghost use Rattle.ice_defs.specs.Round.{Submission};
+    ghost use Rattle.ice_bid.specs.Bids.{IsBid};
+
+    ghost Value = { Submission };
+
+    ghost view = { λ b. record { name = b.bidder; lo = b.lo.items; hi = b.hi.items } };
+
+    ghost invariant = { λ b. IsBid (record { name = b.bidder; lo = b.lo.items; hi = b.hi.items }) };
+}
+
+/// The same values, kept in place.
+fn list_of(values: &[i64]) -> ArrayVec<i64, 200>
+    requires { AreValues values.now }
+    ensures { result.items ≡ values.now }
+{
+    let mut list = ArrayVec::new();
+    list.try_extend_from_slice(values).unwrap();
+    list
+}
+
+impl Bid {
+    /// The bid of this bidder with these values. It takes no memory.
+    pub fn new(bidder: Name, lo: &[i64], hi: &[i64]) -> Bid
+        requires lo { AreValues lo.now }
+        requires hi { AreValues hi.now }
+        ensures { result ≡ record { name = bidder; lo = lo.now; hi = hi.now } }
+    {
+        Bid {
+            bidder,
+            lo: list_of(lo),
+            hi: list_of(hi),
+        }
+    }
+
+    /// The name of the bidder.
+    pub fn bidder(&self) -> &Name
+        ensures name { result.now ≡ self.now.name }
+        ensures lawful { IsBid self.now }
+    {
+        &self.bidder
+    }
+
+    /// The lower values.
+    pub fn lo(&self) -> &[i64]
+        ensures values { result.now ≡ self.now.lo }
+        ensures lawful { IsBid self.now }
+    {
+        self.lo.as_slice()
+    }
+
+    /// The upper values.
+    pub fn hi(&self) -> &[i64]
+        ensures values { result.now ≡ self.now.hi }
+        ensures lawful { IsBid self.now }
+    {
+        self.hi.as_slice()
+    }
+}

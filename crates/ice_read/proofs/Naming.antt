@@ -1,0 +1,47 @@
+-- Names that differ are found at their places.
+use Rattle.std.proofs.Common.{◌≡◌, ℕ, zero, suc, ◌<◌, Bool, true, false, ltb, List, [], ◌∷◌, length, get_or, Some, None, refl, sym, arith}
+use Rattle.std.specs.List.{AllByRecursion, IsDistinct, position, position_or_len}
+use Rattle.std.specs.Str.{bytes_eq}
+use Rattle.std.proofs.lemmas.Bool.{lt-ltb, cond-true}
+use Rattle.std.proofs.lemmas.List.Sums.{position_or_len_is}
+use Rattle.std.proofs.lemmas.List.Quantifiers.{position-Some}
+use Rattle.std.proofs.lemmas.Slice.Eq.{bytes_eq-Decides}
+
+pub same_name : (a b : List ℕ) → a ≡ b → bytes_eq a b ≡ true
+same_name a b e = (bytes_eq-Decides a b).1 e
+
+pub name_same : (a b : List ℕ) → bytes_eq a b ≡ true → a ≡ b
+name_same a b e = (bytes_eq-Decides a b).0 e
+
+pub all_at : {X : Type 0} (P : X → Type 0) (xs : List X) (i : ℕ) (d : X) → i < length xs → AllByRecursion P xs → P (get_or xs i d)
+all_at P [] i d l all = absurd (omega arith)
+all_at P (x ∷ xs) zero d l all = all.0
+all_at P (x ∷ xs) (suc i) d l all = all_at P xs i d (omega arith) all.1
+
+-- a later name differs from an earlier one
+differs : (names : List (List ℕ)) (k g : ℕ) → IsDistinct bytes_eq names → k < g → g < length names → bytes_eq (get_or names k []) (get_or names g []) ≡ false
+unfolding IsDistinct
+differs [] k g distinct before l = absurd (omega arith)
+differs (x ∷ names) k zero distinct before l = absurd (omega arith)
+differs (x ∷ names) zero (suc g) distinct before l = all_at (λ y. bytes_eq x y ≡ false) names g [] (omega arith) distinct.0
+differs (x ∷ names) (suc k) (suc g) distinct before l = differs names k g distinct.1 (omega arith) (omega arith)
+
+turned_false : (a b : List ℕ) → bytes_eq a b ≡ false → bytes_eq b a ≡ false
+turned_false a b e = by (bytes_eq b a) refl
+  where
+    by : (c : Bool) → bytes_eq b a ≡ c → c ≡ false
+    by true is = let same : bytes_eq a b ≡ true = same_name a b (sym (name_same b a is)) in absurd cc
+    by false is = refl
+
+-- the place of a name
+pub place_of_name : (names : List (List ℕ)) (g : ℕ) → IsDistinct bytes_eq names → g < length names → position (bytes_eq (get_or names g [])) names ≡ Some g
+place_of_name names g distinct l =
+    let here : position_or_len (bytes_eq (get_or names g [])) names ≡ g =
+    position_or_len_is (bytes_eq (get_or names g [])) names g [] (omega arith)
+    (λ k before. turned_false (get_or names k []) (get_or names g []) (differs names k g distinct before l))
+    (λ m. same_name (get_or names g []) (get_or names g []) refl) in
+    rw here (cond-true (ltb g (length names)) (Some g) None (lt-ltb g (length names) l))
+
+-- the name at its place
+pub name_at_place : (names : List (List ℕ)) (name : List ℕ) (g : ℕ) → position (bytes_eq name) names ≡ Some g → (g < length names) × (name ≡ get_or names g [])
+name_at_place names name g e = let found = position-Some (bytes_eq name) names g [] e in (found.0, name_same name (get_or names g []) found.1)
