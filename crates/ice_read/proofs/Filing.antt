@@ -1,6 +1,6 @@
 -- A whole exchange file.
-use Rattle.std.proofs.Common.{◌≡◌, ℕ, true, List, [], ◌∷◌, Option, Some, None, refl, sym, ap, ◌∙◌}
-use Rattle.std.specs.Prelude.{Ok, Err, codes}
+use Rattle.std.proofs.Common.{◌≡◌, true, List, [], ◌∷◌, None, sym, ap, ◌∙◌}
+use Rattle.std.specs.Prelude.{Ok, codes}
 use Rattle.ice_defs.specs.Exchange.{Settings, Good, Bidder, Exchange}
 use Rattle.ice_defs.specs.Making.{exchange_refusal}
 use Rattle.ice_trade.specs.Parts.{no_exchange}

@@ -1,5 +1,5 @@
 -- The goods and bidders of an exchange, one after another.
-use Rattle.std.proofs.Common.{◌≡◌, ℕ, suc, ◌+◌, ◌<◌, ◌≤◌, Bool, true, false, List, [], ◌∷◌, ◌++◌, length, drop, get_or, Option, Some, None, refl, sym, ap, ◌∙◌, arith, rules, add-one, drop-cons}
+use Rattle.std.proofs.Common.{◌≡◌, ℕ, suc, ◌+◌, ◌<◌, ◌≤◌, true, false, List, [], ◌∷◌, ◌++◌, length, drop, get_or, Option, Some, None, refl, sym, ap, ◌∙◌, rules, add-one, drop-cons}
 use Rattle.std.specs.Prelude.{Ok, Err, IsSome, codes, unwrap_or}
 use Rattle.std.proofs.lemmas.List.{drop_all}
 use Rattle.ice_defs.specs.Exchange.{Good, Bidder, Exchange}
@@ -11,7 +11,7 @@ use Rattle.ice_defs.specs.Making.{bidder_refusal}
 use Rattle.std.proofs.Math.ListN.{length-map}
 use Rattle.ice_trade.specs.declared.faults.MakeFault.{MakeFault}
 use Rattle.ice_trade.specs.Fault.{make_fault_number}
-use Rattle.serde_json.specs.Data.{Data, Items, null, boolean, number, string, array, object}
+use Rattle.serde_json.specs.Data.{Data, null, boolean, number, string, array, object}
 use Rattle.serde_json.specs.Find.{as_str}
 use Rattle.serde_json.specs.View.{view, items_view}
 use Rattle.serde_json.specs.declared.value.Value.{Value}

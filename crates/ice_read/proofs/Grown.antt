@@ -1,12 +1,12 @@
 -- What reading a node and its children adds to a tree.
 use Rattle.std.proofs.Common.{◌≡◌, ◌≢◌, ℕ, zero, suc, ◌+◌, ◌-◌, ◌<◌, ◌≤◌, Bool, true, false, cond, ltb, eqb, List, [], ◌∷◌, ◌++◌, length, refl, sym, ap, subst, ◌∙◌, arith, length-append, append-nil, add-zero}
-use Rattle.std.specs.Prelude.{ℤ, pos, codes, Option, Some, None, Ok, Err, ◌&&◌, not, nat_le, nat_lt, int_lt, if◌then◌else◌}
+use Rattle.std.specs.Prelude.{ℤ, pos, codes, Option, Some, None, Ok, Err, ◌&&◌, nat_le, nat_lt}
 use Rattle.std.proofs.lemmas.Bool.Decides.{nat_tests}
 use Rattle.ice_defs.specs.declared.Node.{Node}
 use Rattle.ice_defs.specs.declared.NodeKind.{NodeKind}
 use Rattle.ice_defs.specs.declared.NodeKind.TheVariants.{Choose, Buy, Sell}
-use Rattle.ice_defs.specs.Tree.{Tree, kind_of, parent_of, children_of}
-use Rattle.ice_defs.specs.Making.{close_refusal, node_refusal, is_lawful_kind, is_value}
+use Rattle.ice_defs.specs.Tree.{Tree, kind_of, children_of}
+use Rattle.ice_defs.specs.Making.{close_refusal, node_refusal}
 use Rattle.ice_defs.specs.FileFault.{Path, Read, refuse, ◌>>=◌}
 use Rattle.ice_tree.proofs.Growing.{old_node, last_node, children_of-new, children_of-other}
 use Rattle.serde_json.specs.Data.{Data, Items, no_items, item}

@@ -26,3 +26,4 @@ pub mod Trees
 pub mod Named
 pub mod Following
 pub mod Filing
+pub mod LineForm

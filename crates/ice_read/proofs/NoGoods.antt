@@ -1,15 +1,14 @@
 -- Where there is no good, no tree can be read.
 use Rattle.std.proofs.Common.{◌≡◌, ℕ, zero, suc, ◌<◌, Bool, true, false, List, [], ◌∷◌, length, map, refl, sym, ap, ◌∙◌, arith}
-use Rattle.std.specs.Prelude.{Ok, Err, Some, codes, nat_lt, ◌&&◌}
+use Rattle.std.specs.Prelude.{Ok, Err, codes}
 use Rattle.ice_defs.specs.declared.NodeKind.{NodeKind}
 use Rattle.ice_defs.specs.declared.NodeKind.TheVariants.{Buy, Sell}
 use Rattle.ice_defs.specs.Exchange.{Good}
-use Rattle.ice_defs.specs.Making.{close_refusal}
 use Rattle.ice_defs.specs.FileFault.{Path, Read, refuse, ◌>>=◌}
 use Rattle.serde_json.specs.Data.{Data, Items, no_items, item}
 use Rattle.serde_json.specs.Events.{items_len}
-use Rattle.ice_read.specs.Values.{at_member, at_index, of_member, member_or_null, text_of, whole_of}
-use Rattle.ice_read.specs.TreeFile.{Draft, Opened, no_draft, good_at, value_at, make, leaf_at, opened_at, children_at, closed_at, choose_at, is_buy, is_sell, is_choose, no_child, node_of, node_at}
+use Rattle.ice_read.specs.Values.{at_member, at_index, member_or_null, text_of}
+use Rattle.ice_read.specs.TreeFile.{Draft, Opened, leaf_at, opened_at, children_at, closed_at, choose_at, is_buy, is_sell, is_choose, no_child, node_of, node_at}
 use Rattle.ice_read.proofs.Grown.{step}
 
 leaf_none : (levels parent : ℕ) (path : Path) (draft new : Draft) (word : List ℕ) (kind : ℕ → ℕ → NodeKind) (d : Data) → leaf_at [] levels parent path draft word kind d ≡ Ok new → ⊥

@@ -1,23 +1,23 @@
 -- How a node is read: by its form, and a choose node child by child.
-use Rattle.std.proofs.Common.{◌≡◌, ℕ, zero, suc, ◌+◌, ◌-◌, ◌<◌, ◌≤◌, Bool, true, false, nat_eq, nat_lt, List, [], ◌∷◌, length, drop, get_or, refl, sym, ap, subst, ◌∙◌, arith, add-one, drop-cons}
-use Rattle.std.specs.Prelude.{Option, Some, None, Ok, Err, codes, ◌&&◌, if◌then◌else◌}
+use Rattle.std.proofs.Common.{◌≡◌, ℕ, zero, suc, ◌+◌, ◌-◌, ◌<◌, ◌≤◌, Bool, true, false, nat_eq, nat_lt, List, ◌∷◌, length, drop, get_or, refl, sym, ap, ◌∙◌, arith, add-one, drop-cons}
+use Rattle.std.specs.Prelude.{Some, None, Ok, Err, codes, ◌&&◌}
 use Rattle.std.proofs.lemmas.Bool.Decides.{nat_tests}
 use Rattle.std.proofs.lemmas.List.{drop_all}
 use Rattle.ice_defs.specs.declared.NodeKind.TheVariants.{Choose}
-use Rattle.ice_defs.specs.Tree.{Tree, kind_of, children_of}
-use Rattle.ice_defs.specs.Making.{TreeDraft, innermost, is_complete, close_refusal}
+use Rattle.ice_defs.specs.Tree.{kind_of, children_of}
+use Rattle.ice_defs.specs.Making.{TreeDraft, innermost, close_refusal}
 use Rattle.ice_defs.specs.FileFault.{FileFault, Path, Read, refuse, ◌>>=◌}
-use Rattle.ice_tree.specs.Making.{Making, draft_close_refusal}
+use Rattle.ice_tree.specs.Making.{draft_close_refusal}
 use Rattle.serde_json.specs.Data.{Data, Items}
 use Rattle.serde_json.specs.Events.{items_len}
 use Rattle.serde_json.specs.View.{view, items_view}
 use Rattle.serde_json.specs.declared.value.Value.{Value}
 use Rattle.ice_read.specs.declared.leaf.Side.TheVariants.{Buy, Sell}
 use Rattle.ice_read.specs.Values.{at_member, at_index}
-use Rattle.ice_read.specs.TreeFile.{Draft, Interval, Opened, opened_at, children_at, closed_at, choose_at, is_buy, is_sell, is_choose, no_child, node_of, node_at}
+use Rattle.ice_read.specs.TreeFile.{Draft, Interval, Opened, children_at, closed_at, choose_at, is_buy, is_sell, is_choose, no_child, node_of, node_at}
 use Rattle.ice_read.specs.Reading.{taken, levels_below, leaf_below, opened_below, node_below, IsWaiting}
 use Rattle.ice_read.proofs.Pairs.{items_len-items_view}
-use Rattle.ice_read.proofs.Grown.{IsHeld, AreAdded, IsMade, IsOpened, opened-made, node_at-added, one_added, one_more, none_added, grown, opened_kind, no_child_yet}
+use Rattle.ice_read.proofs.Grown.{IsHeld, AreAdded, IsOpened, opened-made, node_at-added, one_added, one_more, none_added, grown, opened_kind, no_child_yet}
 
 -- how the children of a node are read
 abbrev pub below : List (List ℕ) → ℕ → ℕ → Path → Draft → Data → Read Draft

@@ -1,13 +1,12 @@
 -- The places of faults, told from a value and from what holds it.
 use Rattle.std.proofs.Common.{◌≡◌, ℕ, List, [], ◌∷◌, ◌++◌, refl, sym, ap, ◌∙◌, append_assoc, append-nil}
-use Rattle.std.specs.Prelude.{Result, Err, unwrap_or, decimal}
+use Rattle.std.specs.Prelude.{Result, Err, unwrap_or}
 use Rattle.std.specs.List.{join_with_byte}
-use Rattle.ice_defs.specs.FileFault.{FileFault, Path, Read, place_of, at_path, refuse}
+use Rattle.ice_defs.specs.FileFault.{Path, Read, place_of, refuse}
 use Rattle.ice_read.specs.declared.fault.ReadFault.{ReadFault}
 use Rattle.ice_read.specs.declared.cause.ReadCause.{ReadCause}
 use Rattle.ice_read.specs.Cause.{cause_number}
 use Rattle.ice_read.specs.Places.{dotted, shown}
-use Rattle.ice_read.specs.Values.{at_member, at_index}
 use Rattle.ice_read.specs.Fault.{fault_at, IsFault, IsReading}
 use Rattle.ice_read.specs.declared.cause.ReadCause.TheVariants.{Shape}
 

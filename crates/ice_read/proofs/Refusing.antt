@@ -1,6 +1,6 @@
 -- What the maker of a tree refuses, and what the definitions refuse.
-use Rattle.std.proofs.Common.{◌≡◌, ℕ, suc, ◌-◌, ◌≤◌, List, length, false, refl, sym, ◌∙◌, arith}
-use Rattle.std.specs.Prelude.{ℤ, pos, codes, Option, Some, None, Ok}
+use Rattle.std.proofs.Common.{◌≡◌, ℕ, suc, ◌-◌, ◌≤◌, List, length, false, sym, ◌∙◌, arith}
+use Rattle.std.specs.Prelude.{ℤ, pos, codes, Some, None, Ok}
 use Rattle.ice_defs.specs.declared.NodeKind.{NodeKind}
 use Rattle.ice_defs.specs.declared.NodeKind.TheVariants.{Choose}
 use Rattle.ice_defs.specs.Making.{TreeDraft, innermost, is_complete, node_refusal, draft_refusal, with_node}

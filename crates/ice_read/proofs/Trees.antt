@@ -1,6 +1,6 @@
 -- A whole tree.
-use Rattle.std.proofs.Common.{◌≡◌, ℕ, ◌<◌, Bool, true, false, List, [], length, nat_eq, nat_lt, refl, sym, ap, ◌∙◌, arith, max, subst, map}
-use Rattle.std.specs.Prelude.{Ok, ◌&&◌}
+use Rattle.std.proofs.Common.{◌≡◌, ℕ, true, List, [], length, nat_eq, nat_lt, refl, arith, max, subst, map}
+use Rattle.std.specs.Prelude.{Ok}
 use Rattle.std.proofs.lemmas.Bool.Decides.{nat_tests}
 use Rattle.ice_defs.specs.Exchange.{Good}
 use Rattle.ice_defs.specs.Tree.{Tree}

@@ -1,9 +1,9 @@
 -- Whole numbers of a value.
-use Rattle.std.proofs.Common.{◌≡◌, ℕ, ◌≤◌, ◌^◌, Bool, true, false, Option, Some, None, ℤ, pos, negsuc, ◌≤ℤ◌, FitsSigned, w64, refl, sym, ap, ◌∙◌, arith}
+use Rattle.std.proofs.Common.{◌≡◌, ℕ, ◌≤◌, ◌^◌, Bool, true, false, Some, None, ℤ, pos, FitsSigned, w64, refl, sym, arith}
 use Rattle.std.specs.Prelude.{◌&&◌, int_le, nat_lt, is_some, option_and_then, if◌then◌else◌}
 use Rattle.std.proofs.lemmas.Int.{ints}
 use Rattle.std.proofs.lemmas.Bool.Decides.{nat_tests}
-use Rattle.serde_json.specs.Data.{Data, Num, unsigned, negative, float, null, boolean, number, string, array, object}
+use Rattle.serde_json.specs.Data.{Data, unsigned, negative, float, null, boolean, number, string, array, object}
 use Rattle.serde_json.specs.Find.{as_number, as_i64, as_u64, as_integer}
 use Rattle.ice_defs.specs.FileFault.{Path, refuse}
 use Rattle.ice_read.specs.Values.{whole_of, in_range}

@@ -1,5 +1,5 @@
 -- The faults that the readers answer, and when each is due.
-use Rattle.std.specs.Prelude.{ℕ, ◌≡◌, ◌≢◌, ◌++◌, unwrap_or, [], Result, Ok, Err}
+use Rattle.std.specs.Prelude.{◌≡◌, ◌≢◌, ◌++◌, unwrap_or, [], Result, Ok, Err}
 use Rattle.ice_defs.specs.FileFault.{FileFault, Path, Read}
 use Rattle.ice_read.specs.declared.fault.ReadFault.{ReadFault}
 use Rattle.ice_read.specs.declared.cause.ReadCause.TheVariants.{NoMemory}

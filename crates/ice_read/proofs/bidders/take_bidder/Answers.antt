@@ -1,4 +1,4 @@
-use Rattle.std.proofs.Common.{◌≡◌, ◌∙◌, Ok, refl, sym, ap}
+use Rattle.std.proofs.Common.{◌∙◌, Ok, refl, sym, ap}
 use Rattle.serde_json.specs.View.{view}
 use Rattle.ice_defs.specs.Exchange.{Bidder, Exchange}
 use Rattle.ice_read.specs.declared.cause.ReadCause.TheVariants.{Shape}

@@ -1,6 +1,6 @@
-use Rattle.std.proofs.Common.{◌≡◌, ◌∙◌, [], drop, Err, sym, ap, arith}
+use Rattle.std.proofs.Common.{◌∙◌, [], drop, Err, sym, ap, arith}
 use Rattle.std.specs.Prelude.{decimal}
-use Rattle.serde_json.specs.View.{view, items_view}
+use Rattle.serde_json.specs.View.{items_view}
 use Rattle.ice_defs.specs.Exchange.{Exchange}
 use Rattle.ice_defs.specs.Lawful.{good_names}
 use Rattle.ice_defs.specs.FileFault.{◌>>=◌}

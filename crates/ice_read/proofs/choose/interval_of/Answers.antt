@@ -1,9 +1,8 @@
-use Rattle.std.proofs.Common.{◌≡◌, ◌∙◌, Ok, Bool, true, false, length, nat_eq, refl, arith}
+use Rattle.std.proofs.Common.{◌≡◌, Ok, false, length, nat_eq, refl, arith}
 use Rattle.std.proofs.lemmas.Bool.Decides.{nat_tests}
 use Rattle.std.proofs.lemmas.Result.{err_from_is_err_and}
 use Rattle.serde_json.specs.Data.{no_items, item}
 use Rattle.serde_json.specs.View.{view}
-use Rattle.ice_defs.specs.FileFault.{Path}
 use Rattle.ice_read.specs.declared.cause.ReadCause.TheVariants.{Shape}
 use Rattle.ice_read.specs.Values.{array_of}
 use Rattle.ice_read.proofs.Placing.{refused}

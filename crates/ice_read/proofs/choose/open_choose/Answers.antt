@@ -3,10 +3,9 @@ use Rattle.serde_json.specs.View.{view, items_view}
 use Rattle.ice_defs.specs.declared.NodeKind.TheVariants.{Choose}
 use Rattle.ice_defs.specs.Making.{draft_refusal, with_open}
 use Rattle.ice_tree.specs.Fault.{tree_fault_number}
-use Rattle.ice_defs.specs.FileFault.{◌>>=◌}
 use Rattle.ice_read.specs.declared.cause.ReadCause.TheVariants.{Tree}
 use Rattle.ice_read.specs.Reading.{taken}
-use Rattle.ice_read.specs.TreeFile.{Interval, Opened}
+use Rattle.ice_read.specs.TreeFile.{Interval}
 use Rattle.ice_read.proofs.Placing.{refused}
 use Rattle.ice_read.proofs.Refusing.{opened_chain, made, unmade}
 use Rattle.ice_read.proofs.choose.open_choose.Goals as goal

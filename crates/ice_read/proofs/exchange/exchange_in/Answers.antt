@@ -1,4 +1,4 @@
-use Rattle.std.proofs.Common.{◌≡◌, ◌∙◌, Ok, [], refl, sym, ap}
+use Rattle.std.proofs.Common.{◌∙◌, Ok, [], sym, ap}
 use Rattle.std.proofs.lemmas.Result.{err_from_is_err_and}
 use Rattle.serde_json.specs.View.{view}
 use Rattle.ice_defs.specs.Exchange.{Exchange}

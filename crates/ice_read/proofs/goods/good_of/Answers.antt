@@ -1,4 +1,4 @@
-use Rattle.std.proofs.Common.{◌≡◌, ◌∙◌, refl}
+use Rattle.std.proofs.Common.{◌∙◌, refl}
 use Rattle.serde_json.specs.View.{view}
 use Rattle.ice_read.specs.declared.cause.ReadCause.TheVariants.{Shape}
 use Rattle.ice_read.proofs.Placing.{refused}

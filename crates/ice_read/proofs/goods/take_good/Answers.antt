@@ -1,5 +1,4 @@
-use Rattle.std.proofs.Common.{◌≡◌, ◌∙◌, ◌++◌, ◌∷◌, [], ap}
-use Rattle.serde_json.specs.View.{view}
+use Rattle.std.proofs.Common.{◌∙◌, ◌++◌, ◌∷◌, [], ap}
 use Rattle.ice_defs.specs.Exchange.{Good}
 use Rattle.ice_defs.specs.FileFault.{◌>>=◌}
 use Rattle.ice_defs.specs.Making.{good_refusal}

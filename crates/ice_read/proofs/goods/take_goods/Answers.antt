@@ -1,6 +1,6 @@
-use Rattle.std.proofs.Common.{◌≡◌, ◌∙◌, [], Err, sym, ap, arith}
+use Rattle.std.proofs.Common.{◌∙◌, [], Err, sym, ap, arith}
 use Rattle.std.specs.Prelude.{decimal}
-use Rattle.serde_json.specs.View.{view, items_view}
+use Rattle.serde_json.specs.View.{items_view}
 use Rattle.ice_defs.specs.FileFault.{◌>>=◌}
 use Rattle.ice_read.specs.Values.{at_index}
 use Rattle.ice_read.specs.ExchangeFile.{goods_from}

@@ -1,4 +1,4 @@
-use Rattle.std.proofs.Common.{◌≡◌, ◌∙◌, ◌<◌, refl, sym, ap, rules, arith, max, length, Ok, None, Some}
+use Rattle.std.proofs.Common.{◌≡◌, ◌∙◌, ◌<◌, refl, sym, ap, rules, arith, length, Ok, None, Some}
 use Rattle.std.proofs.Math.ListN.{length-map}
 use Rattle.serde_json.specs.View.{view}
 use Rattle.ice_defs.specs.Lawful.{good_names}

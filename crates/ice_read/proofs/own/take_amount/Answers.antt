@@ -1,4 +1,4 @@
-use Rattle.std.proofs.Common.{◌≡◌, ◌∙◌, ◌≤◌, ◌+◌, length, pos, refl, arith, append-nil}
+use Rattle.std.proofs.Common.{pos, refl, arith, append-nil}
 use Rattle.serde_json.specs.View.{view}
 use Rattle.ice_defs.specs.FileFault.{Path}
 use Rattle.ice_defs.specs.Lawful.{good_names}

@@ -1,15 +1,14 @@
-use Rattle.std.proofs.Common.{◌≡◌, ◌∙◌, ◌∷◌, ℕ, ◌+◌, ◌<◌, ◌≤◌, [], length, subst, Ok, Err, None, Some, refl, sym, ap, rules, arith}
-use Rattle.std.specs.Prelude.{OnOk, IfErr, codes, decimal}
+use Rattle.std.proofs.Common.{◌≡◌, ◌∙◌, ◌+◌, [], length, subst, Ok, Err, refl, sym, ap, arith}
+use Rattle.std.specs.Prelude.{codes, decimal}
 use Rattle.std.proofs.lemmas.Result.{err_from_is_err_and, IfOk-weaker, IfErr-weaker}
 use Rattle.serde_json.specs.View.{view, items_view}
 use Rattle.ice_defs.specs.Lawful.{good_names}
-use Rattle.ice_defs.specs.FileFault.{Path}
 use Rattle.ice_tree.specs.Making.{Making, all_but_first}
 use Rattle.ice_tree.specs.Fault.{tree_fault_number}
 use Rattle.ice_read.specs.declared.cause.ReadCause.TheVariants.{Shape, Tree}
 use Rattle.ice_read.specs.Values.{at_member, at_index}
 use Rattle.ice_read.specs.TreeFile.{node_at}
-use Rattle.ice_read.specs.Reading.{taken, levels_below, node_below}
+use Rattle.ice_read.specs.Reading.{taken, levels_below}
 use Rattle.ice_read.proofs.Placing.{refused, fault_below}
 use Rattle.ice_read.proofs.Nodes.{IsGoing, child_read, same_levels, buys, sells, has_no_form, not_opened, next_child, bad_child, no_more_child, begun, waiting_child, with_child, stopped, finished, not_finished}
 use Rattle.ice_read.proofs.tree.+take_node.Goals as goal

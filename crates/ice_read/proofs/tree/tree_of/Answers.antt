@@ -1,11 +1,11 @@
-use Rattle.std.proofs.Common.{◌≡◌, ◌∙◌, Ok, true, [], refl, sym, ap, rules, arith, max, length}
+use Rattle.std.proofs.Common.{◌≡◌, ◌∙◌, true, [], sym, ap, rules, arith, max, length}
 use Rattle.std.proofs.lemmas.Grind.{common_steps}
 use Rattle.std.proofs.lemmas.Result.{err_from_is_err_and}
 use Rattle.serde_json.specs.View.{view}
 use Rattle.ice_defs.specs.Lawful.{good_names}
-use Rattle.ice_defs.specs.Making.{no_tree, is_complete}
+use Rattle.ice_defs.specs.Making.{is_complete}
 use Rattle.ice_tree.specs.Making.{Making}
-use Rattle.ice_read.specs.Reading.{taken, node_below}
+use Rattle.ice_read.specs.Reading.{node_below}
 use Rattle.ice_read.proofs.Trees.{tree_at-node, complete, limited}
 use Rattle.ice_read.proofs.tree.tree_of.Goals as goal
 

@@ -1,4 +1,4 @@
-use Rattle.std.proofs.Common.{◌≡◌, Bool, true, false, sym, ◌∙◌, ap, length, nat_eq, arith}
+use Rattle.std.proofs.Common.{◌≡◌, true, false, sym, ◌∙◌, length, nat_eq, arith}
 use Rattle.std.proofs.lemmas.Bool.Decides.{nat_tests}
 use Rattle.serde_json.specs.View.{view}
 use Rattle.ice_read.proofs.Exactly.{counted}
