@@ -22,7 +22,7 @@ mod write;
 pub use cause::ReadCause;
 pub use exchange::read_exchange;
 pub use fault::ReadFault;
-pub use laws::written_is_read;
+pub use laws::{line_form_is_no_json, written_is_read};
 pub use memory::NoMemory;
 pub use place::Place;
 pub use round::read_round;
