@@ -16,6 +16,7 @@ pub mod Bytes
 pub mod Listing
 pub mod Bidding
 pub mod Numbered
+pub mod NumberedExchange
 pub mod Refusing
 pub mod Listed
 pub mod Pairs

@@ -1,5 +1,5 @@
 -- A fault of a file has a number, and so it is no want of memory.
-use Rattle.std.proofs.Common.{◌≡◌, ◌≢◌, ℕ, suc, Bool, true, false, cond, ltb, ℤ, pos, neg_ℤ, Ok, Err, [], ◌∷◌, ap, subst, arith}
+use Rattle.std.proofs.Common.{◌≡◌, ◌≢◌, ℕ, suc, Bool, true, false, cond, ltb, ℤ, pos, neg_ℤ, Ok, Err, List, [], ◌∷◌, ap, subst, arith}
 use Rattle.std.specs.Prelude.{codes, ◌&&◌, int_le, unwrap_or}
 use Rattle.serde_json.specs.Data.{unsigned, negative, float, Data, null, boolean, number, string, array, object, Items, no_items, item}
 use Rattle.serde_json.specs.Events.{items_len}
@@ -9,7 +9,7 @@ use Rattle.ice_read.specs.declared.fault.ReadFault.{ReadFault}
 use Rattle.ice_read.specs.declared.cause.ReadCause.TheVariants.{NoMemory}
 use Rattle.ice_read.specs.Cause.{cause_number}
 use Rattle.ice_read.specs.Fault.{fault_at}
-use Rattle.ice_read.specs.Values.{at_member, at_index, array_of, text_of, in_range, whole_of, has_exactly, member_or_null, each}
+use Rattle.ice_read.specs.Values.{at_member, at_index, of_member, array_of, text_of, in_range, whole_of, has_exactly, member_or_null, each}
 use Rattle.ice_read.specs.TreeFile.{value_at}
 use Rattle.ice_read.specs.RoundFile.{values_at, name_at, bid_at}
 
@@ -20,11 +20,15 @@ IsNumbered (Err fault) = fault.number ≢ 0
 pub no_memory : {X : Type 0} (read : Read X) (path : Path) (fault : ReadFault) → IsNumbered read → read ≡ Err (fault_at path fault) → fault.cause ≢ NoMemory
 no_memory read path fault numbered is memory = subst IsNumbered is numbered (ap (λ cause. unwrap_or (cause_number cause) 0) memory)
 
-numbered_then : {A B : Type 0} (r : Read A) (next : A → Read B) → IsNumbered r → ((x : A) → IsNumbered (next x)) → IsNumbered (r >>= next)
+-- nor is the fault of a member of the file
+pub member_no_memory : {X : Type 0} (name : List ℕ) (read : Path → Data → Read X) → ((path : Path) (d : Data) → IsNumbered (read path d)) → (d : Data) (fault : ReadFault) → of_member [] d name read ≡ Err (fault_at [] fault) → fault.cause ≢ NoMemory
+member_no_memory name read numbered d fault is = no_memory (read (at_member [] name) (member_or_null name d)) [] fault (numbered (at_member [] name) (member_or_null name d)) is
+
+pub numbered_then : {A B : Type 0} (r : Read A) (next : A → Read B) → IsNumbered r → ((x : A) → IsNumbered (next x)) → IsNumbered (r >>= next)
 numbered_then (Ok x) next numbered later = later x
 numbered_then (Err fault) next numbered later = numbered
 
-numbered_if : {X : Type 0} (b : Bool) (x y : Read X) → IsNumbered x → IsNumbered y → IsNumbered (cond b x y)
+pub numbered_if : {X : Type 0} (b : Bool) (x y : Read X) → IsNumbered x → IsNumbered y → IsNumbered (cond b x y)
 numbered_if true x y first second = first
 numbered_if false x y first second = second
 
@@ -40,7 +44,7 @@ array_numbered path (string s) = λ e. omega arith
 array_numbered path (array ds) = tt
 array_numbered path (object ms) = λ e. omega arith
 
-text_numbered : (path : Path) (d : Data) → IsNumbered (text_of path d)
+pub text_numbered : (path : Path) (d : Data) → IsNumbered (text_of path d)
 text_numbered path null = λ e. omega arith
 text_numbered path (boolean b) = λ e. omega arith
 text_numbered path (number n) = λ e. omega arith
@@ -51,7 +55,7 @@ text_numbered path (object ms) = λ e. omega arith
 range_numbered : (path : Path) (low high z : ℤ) → IsNumbered (in_range path low high z)
 range_numbered path low high z = numbered_if (int_le low z && int_le z high) (Ok z) (refuse 4 path) tt (λ e. omega arith)
 
-whole_numbered : (low high : ℤ) (path : Path) (d : Data) → IsNumbered (whole_of path low high d)
+pub whole_numbered : (low high : ℤ) (path : Path) (d : Data) → IsNumbered (whole_of path low high d)
 whole_numbered low high path null = λ e. omega arith
 whole_numbered low high path (boolean b) = λ e. omega arith
 whole_numbered low high path (number (unsigned n)) = range_numbered path low high (pos n)

@@ -67,7 +67,8 @@ fn take_bidders_member(
 }
 
 fn exchange_in(alloc: Global, value: &Value) -> Result<Exchange, ReadFault>
-    ensures { IsAnswer result (exchange_of_value (view value.now)) }
+    ensures answer { IsAnswer result (exchange_of_value (view value.now)) }
+    ensures memory { IfErr result (λ fault. fault.cause ≡ ReadCause.NoMemory → fault.place ≡ []) }
 {
     if !has_exactly(value, &["settings", "goods", "bidders"]) {
         return Err(ReadFault::of(ReadCause::Shape));
@@ -86,10 +87,11 @@ fn exchange_in(alloc: Global, value: &Value) -> Result<Exchange, ReadFault>
 
 /// The exchange of the bytes of a file in JSON, or the first fault with its place.
 ///
-/// The outermost object comes first, then its settings, its goods and its bidders, each value for its form before the makers may refuse it. `NotJson` comes where the bytes are no JSON, `Shape` where a value is not of the type that its place asks for or an object has other members, `NotWhole` and `Range` at numbers, `UnknownGood` at the name of a good that is not there, and `Tree` and `Make` where a maker refuses a node, a good, a bidder or the whole. Want of memory is told of the whole file.
+/// The outermost object comes first, then its settings, its goods and its bidders, each value for its form before the makers may refuse it. `NotJson` comes where the bytes are no JSON, `Shape` where a value is not of the type that its place asks for or an object has other members, `NotWhole` and `Range` at numbers, `UnknownGood` at the name of a good that is not there, and `Tree` and `Make` where a maker refuses a node, a good, a bidder or the whole. Want of memory is told of the whole file: its place is `-`.
 pub fn read_exchange(alloc: Global, bytes: &[u8]) -> Result<Exchange, ReadFault>
     ensures exchange { IsAnswer result (exchange_of bytes.now) }
     ensures lawful { IfOk result IsExchange }
+    ensures memory { IfErr result (λ fault. fault.cause ≡ ReadCause.NoMemory → fault.place ≡ []) }
 {
     let value = value_of(alloc, bytes)?;
     exchange_in(alloc, &value)
