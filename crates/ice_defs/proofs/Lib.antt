@@ -1,4 +1,5 @@
 pub mod Products
+pub mod Multiples
 pub mod Sums
 mod Worked
 mod WorkedBound
