@@ -1,4 +1,3 @@
-pub mod Multiples
 pub mod Weights
 pub mod Cancelled
 pub mod Perturbed

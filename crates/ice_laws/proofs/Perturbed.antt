@@ -10,10 +10,11 @@ use Rattle.ice_defs.specs.Market.{Market}
 use Rattle.ice_defs.specs.Regret.{lead, IsRegret}
 use Rattle.ice_defs.proofs.Sums.{sum_below-same}
 use Rattle.ice_defs.proofs.Products.{times_add, times-le}
-use Rattle.ice_laws.specs.Laws.{PerturbedGivesRegret}
-use Rattle.ice_laws.proofs.Multiples.{one_time}
+use Rattle.ice_laws.specs.Laws.{PerturbedGivesRegret, PerturbedAttains}
+use Rattle.ice_defs.proofs.Multiples.{one_time}
 use Rattle.ice_laws.proofs.Weights.{length-perturbed_list, weight_of-perturbed_list, weights_of-lower, length-perturbed, weights_of-perturbed}
 use Rattle.ice_laws.proofs.Cancelled.{total-le}
+use Rattle.ice_laws.proofs.Regrets.{regret_is_one}
 
 -- ---- perturbed weights are a profile
 
@@ -103,3 +104,9 @@ module _ (market : Market) (bounds : List Bounds) (final : Assignment) (same : l
 
 pub perturbed_gives_regret : PerturbedGivesRegret
 perturbed_gives_regret market bounds final best same each feasible is = is_regret market bounds final same each feasible best is
+
+pub perturbed_attains : PerturbedAttains
+perturbed_attains market bounds final rival regret same each feasible is best =
+    let weights : List Weights = perturbed_weights final bounds in
+    let one = regret_is_one market bounds final (total_value rival weights -ℤ total_value final (lower_weights bounds)) regret (is_regret market bounds final same each feasible (total_value rival weights) best) is in
+    (perturbed_profile market bounds final same each feasible, omega (arith, ints, one, total-own market bounds final same each feasible))

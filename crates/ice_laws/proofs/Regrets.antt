@@ -7,7 +7,7 @@ use Rattle.ice_defs.specs.Bounds.{Bounds}
 use Rattle.ice_defs.specs.Market.{Market}
 use Rattle.ice_defs.specs.Regret.{IsRegret}
 use Rattle.ice_laws.specs.Laws.{RegretIsOne, RegretIsNotNegative}
-use Rattle.ice_laws.proofs.Multiples.{times_cancel}
+use Rattle.ice_defs.proofs.Multiples.{times_cancel}
 
 regret-le : (market : Market) (bounds : List Bounds) (final : Assignment) (one other : ℤ) → IsRegret market bounds final one → IsRegret market bounds final other → one ≤ℤ other
 regret-le market bounds final one other is most =

@@ -12,7 +12,7 @@ use Rattle.ice_defs.specs.Judging.{IsNarrowed, IsJudged}
 use Rattle.ice_net.specs.Net.{IsBestNet}
 use Rattle.ice_rules.specs.Profiles.{AreAgainst, AreInFavour}
 use Rattle.ice_rules.specs.Laws.{ExactBidIsAccepted}
-use Rattle.ice_rules.proofs.Multiples.{one_time}
+use Rattle.ice_defs.proofs.Multiples.{one_time}
 use Rattle.ice_rules.proofs.Losses.{AreOrdered, loss_is, best_from_none, ahead_from, gains_from}
 use Rattle.ice_rules.proofs.Reflected.{tabulated, length-tabulated, weight_of-tabulated}
 use Rattle.ice_rules.proofs.Found.{greatest_there}

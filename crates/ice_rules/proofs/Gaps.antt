@@ -1,5 +1,5 @@
 -- By how much one set's net exceeds another's, at all profiles.
-use Rattle.std.proofs.Common.{ℕ, zero, suc, ◌<◌, ◌≤◌, ◌≡◌, Bool, true, false, cond, length, ℤ, pos, ◌-ℤ◌, ◌*ℤ◌, ◌≤ℤ◌, refl, arith, ap, ◌∙◌}
+use Rattle.std.proofs.Common.{ℕ, zero, suc, ◌<◌, ◌≡◌, Bool, true, false, cond, length, ℤ, pos, ◌-ℤ◌, ◌*ℤ◌, ◌≤ℤ◌, refl, arith, ap, ◌∙◌}
 use Rattle.std.proofs.lemmas.Int.{ints}
 use Rattle.std.proofs.Math.IntN.{*ℤ-zero}
 use Rattle.ice_defs.specs.Sum.{sum_below}
@@ -11,7 +11,7 @@ use Rattle.ice_defs.specs.Rules.{net_at}
 use Rattle.ice_defs.proofs.Sums.{sum_below-le}
 use Rattle.ice_defs.proofs.Products.{times-le, sum_below-times}
 use Rattle.ice_rules.specs.Profiles.{AreAgainst, AreInFavour}
-use Rattle.ice_rules.proofs.Multiples.{times_less, one_time, times_swap}
+use Rattle.ice_defs.proofs.Multiples.{times_less, one_time, times_swap}
 
 pub sum_below-less : (f g : ℕ → ℤ) (n : ℕ) → sum_below (λ k. f k -ℤ g k) n ≡ sum_below f n -ℤ sum_below g n
 sum_below-less f g zero = omega (arith, ints)

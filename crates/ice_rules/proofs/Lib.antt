@@ -1,4 +1,3 @@
-pub mod Multiples
 pub mod Gaps
 pub mod Losses
 pub mod Reflected

@@ -11,7 +11,7 @@ use Rattle.ice_net.specs.Net.{IsBestNet}
 use Rattle.ice_defs.proofs.Products.{times-le}
 use Rattle.ice_rules.specs.Profiles.{AreAgainst, AreInFavour}
 use Rattle.ice_rules.specs.Centre.{IsAsGoodAsAny}
-use Rattle.ice_rules.proofs.Multiples.{times_less, one_time, times-lt, times_cancel}
+use Rattle.ice_defs.proofs.Multiples.{times_less, one_time, times-lt, times_cancel}
 use Rattle.ice_rules.proofs.Gaps.{against_favours, in_favour_favours, greatest_gain}
 
 -- no lower value is above the upper one

@@ -1,5 +1,5 @@
 -- A set that is best at the centre of the bounds is as good as any that is best throughout.
-use Rattle.std.proofs.Common.{ℕ, zero, suc, ◌<◌, ◌≤◌, ◌≡◌, Bool, true, false, cond, List, [], ◌∷◌, length, ℤ, pos, ◌+ℤ◌, ◌-ℤ◌, ◌*ℤ◌, ◌≤ℤ◌, refl, arith, ap}
+use Rattle.std.proofs.Common.{ℕ, zero, suc, ◌<◌, ◌≡◌, Bool, true, false, cond, List, [], ◌∷◌, length, ℤ, pos, ◌+ℤ◌, ◌-ℤ◌, ◌*ℤ◌, ◌≤ℤ◌, refl, arith, ap}
 use Rattle.std.proofs.lemmas.Int.{ints}
 use Rattle.std.proofs.Math.IntN.{*ℤ-zero}
 use Rattle.ice_defs.specs.Tree.{Tree}
@@ -12,7 +12,7 @@ use Rattle.ice_net.specs.Net.{IsBestNet}
 use Rattle.ice_defs.proofs.Products.{times_add, times-le, sum_below-times}
 use Rattle.ice_rules.specs.Profiles.{AreCentre}
 use Rattle.ice_rules.specs.Centre.{IsAsGoodAsAny}
-use Rattle.ice_rules.proofs.Multiples.{times_less, times_swap}
+use Rattle.ice_defs.proofs.Multiples.{times_less, times_swap}
 
 -- f 0, f 1, .., f (n - 1)
 pub tabulated : (ℕ → ℤ) → ℕ → List ℤ
