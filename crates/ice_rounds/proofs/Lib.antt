@@ -1,0 +1,10 @@
+pub mod Verdicts
+pub mod Names
+pub mod Order
+pub mod Keeping
+pub mod Entering
+pub mod Taking
+pub mod Single
+pub mod Others
+pub mod Naming
+pub mod Worked

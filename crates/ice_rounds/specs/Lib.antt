@@ -1,0 +1,4 @@
+pub mod Laws
+pub mod Entries
+pub mod Running
+pub mod Keeping
