@@ -1,0 +1,23 @@
+pub mod Lists
+pub mod Dens
+pub mod Dots
+pub mod Programs
+pub mod Excess
+pub mod Solved
+pub mod Accuracy
+pub mod Tops
+pub mod Balanced
+pub mod Feasible
+pub mod Pools
+pub mod Duals
+pub mod Columns
+pub mod Weighed
+pub mod Certified
+pub mod Lowered
+pub mod Pigeons
+pub mod Lowest
+pub mod Traces
+pub mod Ends
+pub mod Scans
+pub mod Sizes
+mod Worked

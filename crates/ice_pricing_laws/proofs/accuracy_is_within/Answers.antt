@@ -1,0 +1,5 @@
+use Rattle.ice_pricing_laws.proofs.Feasible.{accuracy_is_within}
+use Rattle.ice_pricing_laws.proofs.accuracy_is_within.Goals as goal
+
+pub returns : goal.returns
+returns c = accuracy_is_within

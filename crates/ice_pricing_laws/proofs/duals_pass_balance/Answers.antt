@@ -1,0 +1,5 @@
+use Rattle.ice_pricing_laws.proofs.Certified.{duals_pass_balance}
+use Rattle.ice_pricing_laws.proofs.duals_pass_balance.Goals as goal
+
+pub returns : goal.returns
+returns c = duals_pass_balance

@@ -1,0 +1,9 @@
+pub mod Laws
+pub mod Feasible
+pub mod Pools
+pub mod Weights
+pub mod Lowest
+pub mod Traces
+pub mod Ends
+pub mod Scans
+pub mod Sizes
