@@ -13,9 +13,9 @@ use Rattle.ice_defs.specs.Set.{weight_of}
 use Rattle.ice_defs.specs.Bound.{Multipliers}
 use Rattle.ice_defs.specs.Steps.{Step, branch, leaf, dead}
 use Rattle.ice_defs.specs.Exchange.{Good, Bidder, Exchange, exact_of}
-use Rattle.ice_journal.specs.Records.{Record, Version, version_1, version_2, Change}
+use Rattle.ice_journal.specs.Records.{Record, Version, version_1, version_2, Kind, Change}
 use Rattle.ice_journal.specs.Records as line
-use Rattle.ice_journal.specs.Plain.{changed, goods_in, all_zero, plain_records}
+use Rattle.ice_journal.specs.Plain.{changed, goods_in, all_zero, plain_records, plain}
 use Rattle.ice_section.specs.Section.{good_record, node_record}
 use Rattle.ice_section.specs.Described.{node_records, bidder_records, section_records}
 use Rattle.ice_refute.specs.Code.{CountsGoods}
@@ -31,7 +31,7 @@ kept goods m (line.near changes ∷ rest) = kept goods (changed m changes) rest
 kept goods m (line.step s ∷ rest) = kept goods m rest
 kept goods m (r ∷ rest) = kept goods (all_zero goods) rest
 
-plain_more : (goods : ℕ) (m : Multipliers) (xs ys : List Record) → plain_records goods m (xs ++ ys) ≡ plain_records goods m xs ++ plain_records goods (kept goods m xs) ys
+pub plain_more : (goods : ℕ) (m : Multipliers) (xs ys : List Record) → plain_records goods m (xs ++ ys) ≡ plain_records goods m xs ++ plain_records goods (kept goods m xs) ys
 plain_more goods m [] ys = refl
 plain_more goods m (line.near changes ∷ xs) ys = ap (λ (rs : List Record). line.step (leaf (changed m changes)) ∷ rs) (plain_more goods (changed m changes) xs ys)
 plain_more goods m (line.step s ∷ xs) ys = ap (λ (rs : List Record). line.step s ∷ rs) (plain_more goods m xs ys)
@@ -43,7 +43,7 @@ kept_more goods m (line.near changes ∷ xs) ys = kept_more goods (changed m cha
 kept_more goods m (line.step s ∷ xs) ys = kept_more goods m xs ys
 kept_more goods m (r ∷ xs) ys = kept_more goods (all_zero goods) xs ys
 
-goods_more : (xs ys : List Record) → goods_in (xs ++ ys) ≡ goods_in xs + goods_in ys
+pub goods_more : (xs ys : List Record) → goods_in (xs ++ ys) ≡ goods_in xs + goods_in ys
 goods_more [] ys = omega arith
 goods_more (line.good name ∷ xs) ys = omega (arith, goods_more xs ys)
 goods_more (line.exact name ∷ xs) ys = omega (arith, goods_more xs ys)
@@ -250,3 +250,11 @@ section_wrote version ex = record {
     by version_2 =
         plain_same (length (exact_of ex)) (all_zero (length (exact_of ex))) (section_records ex)
         (tt, plain_append (map good_record ex.goods) (flat_map bidder_records ex.bidders) (goods_plain ex.goods) (bidders_plain ex.bidders))
+
+-- ---- the whole journal
+
+-- the version 1 journal
+pub whole_says : (version : Version) (goods : ℕ) (kind : Kind) (rest written : List Record) → Wrote version goods rest written → plain (line.head version kind ∷ rest) ≡ line.head version_1 kind ∷ written
+whole_says version_1 goods kind rest written is = ap (λ (rs : List Record). line.head version_1 kind ∷ rs) is.said
+whole_says version_2 goods kind rest written is =
+    ap (λ (n : ℕ). line.head version_1 kind ∷ plain_records n (all_zero n) rest) is.goods ∙ ap (λ (rs : List Record). line.head version_1 kind ∷ rs) is.said

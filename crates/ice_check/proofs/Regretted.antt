@@ -1,19 +1,14 @@
 -- A regret journal that passes each test states a lawful exchange, the best value at lower values, and the exact regret of its sets.
-use Rattle.std.proofs.Common.{◌≡◌, ◌<◌, ℕ, zero, suc, List, [], ◌∷◌, ◌++◌, length, map, ℤ, refl, sym, ◌∙◌, ap, subst, arith}
-use Rattle.std.specs.Prelude.{None, ◌-ℤ◌}
+use Rattle.std.proofs.Common.{◌≡◌, List, [], ◌∷◌, ◌++◌, refl, sym, ◌∙◌, ap, subst}
+use Rattle.std.specs.Prelude.{None}
 use Rattle.std.specs.List.{AllByRecursion}
-use Rattle.std.proofs.lemmas.List.{append_assoc, append-nil, length-map}
-use Rattle.ice_defs.specs.Trade.{tree_of}
-use Rattle.ice_defs.specs.Bounds.{Bounds, bounds_of}
-use Rattle.ice_defs.specs.Regret.{IsRegret}
-use Rattle.ice_defs.specs.Exchange.{Bidder, Exchange, trees_of, opening_bounds, market_of}
-use Rattle.ice_defs.specs.Lawful.{AreBounds, IsBidder, IsExchange}
-use Rattle.ice_defs.specs.Session.{Settlement}
-use Rattle.ice_defs.specs.Right.{IsSettled}
+use Rattle.std.proofs.lemmas.List.{append_assoc, append-nil}
+use Rattle.ice_defs.specs.Bounds.{Bounds}
+use Rattle.ice_defs.specs.Exchange.{opening_bounds}
 use Rattle.ice_journal.specs.Records.{Record, Version, version_1, version_2, Kind, assign_kind, regret_kind, session_kind, exchange_kind, prices_kind, regret_end}
 use Rattle.ice_journal.specs.Records as line
 use Rattle.ice_journal.specs.Ranges.{IsRecord}
-use Rattle.ice_journal.specs.Plain.{all_zero, plain_records, plain}
+use Rattle.ice_journal.specs.Plain.{plain}
 use Rattle.ice_section.specs.Described.{section_records}
 use Rattle.ice_section.specs.Laws.{SectionIsLawful, SectionRecords}
 use Rattle.ice_section.proofs.Whole.{section_is_lawful, section_records_are}
@@ -28,36 +23,11 @@ use Rattle.ice_check.specs.Written.{regret_records}
 use Rattle.ice_check.specs.Progress.{passing, passes_on, fails_at, list_fails_at, Leads, stays, goes}
 use Rattle.ice_check.proofs.Leading.{failed_passes}
 use Rattle.ice_check.proofs.Heads.{headed, tested_leads, all_left}
-use Rattle.ice_check.proofs.Plaining.{Wrote}
+use Rattle.ice_check.proofs.Plaining.{Wrote, whole_says}
+use Rattle.ice_check.proofs.Past.{past_begins, settled_right}
 use Rattle.ice_check.proofs.Regretting.{AreSettled, IsAt, IsStanding, standing_more}
 
--- the opening bounds of each bidder are bounds of its tree
-each_bounds : (goods : ℕ) (bidders : List Bidder) → AllByRecursion (IsBidder goods) bidders → (b : ℕ) → b < length (map (λ x. x.tree) bidders)
-    → AreBounds (length (tree_of (map (λ x. x.tree) bidders) b)) (bounds_of (map (λ x. x.bounds) bidders) b)
-each_bounds goods [] are b there = absurd (omega arith)
-each_bounds goods (x ∷ bidders) are zero there = are.0.bounds
-each_bounds goods (x ∷ bidders) are (suc b) there = each_bounds goods bidders are.1 b (omega arith)
-
-same_count : (ex : Exchange) → length (opening_bounds ex) ≡ length (trees_of ex)
-same_count ex = length-map ex.bidders (λ (b : Bidder). b.bounds) ∙ sym (length-map ex.bidders (λ (b : Bidder). b.tree))
-
--- the version 1 journal
-whole_says : (version : Version) (goods : ℕ) (kind : Kind) (rest written : List Record) → Wrote version goods rest written → plain (line.head version kind ∷ rest) ≡ line.head version_1 kind ∷ written
-whole_says version_1 goods kind rest written is = ap (λ (rs : List Record). line.head version_1 kind ∷ rs) is.said
-whole_says version_2 goods kind rest written is =
-    ap (λ (n : ℕ). line.head version_1 kind ∷ plain_records n (all_zero n) rest) is.goods ∙ ap (λ (rs : List Record). line.head version_1 kind ∷ rs) is.said
-
 module _ (lawful : SectionIsLawful) (described : SectionRecords) (refutes : LogRefutes) (perturbed : PerturbedGivesRegret) where
-  -- the two groups give the regret
-  settled_right : (ex : Exchange) (x : Settlement) → IsExchange ex → AreSettled ex (opening_bounds ex) x → IsSettled ex (opening_bounds ex) x
-  settled_right ex x exchange are = record {
-    final = are.final;
-    rival = are.rival;
-    regret =
-        subst (IsRegret (market_of ex) (opening_bounds ex) x.final.sets) (ap (λ (v : ℤ). x.rival.value -ℤ v) are.final.value ∙ sym are.amount)
-        (perturbed (market_of ex) (opening_bounds ex) x.final.sets x.rival.value (same_count ex) (each_bounds (length ex.goods) ex.bidders exchange.bidders) are.final.feasible are.rival.best);
-  }
-
   -- what stands at the end
   at_end : (version : Version) (rest : List Record) (s : State) → IsStanding version rest s → IsAt rest s done → AreRegretted (line.head version regret_kind ∷ rest) s
   at_end version rest s h (x, opening, settled, regret, tells) = (
@@ -68,7 +38,7 @@ module _ (lawful : SectionIsLawful) (described : SectionRecords) (refutes : LogR
           ∙ ap (λ (rs : List Record). line.head version_1 regret_kind ∷ rs) (sym (append_assoc (section_records (exchange_at s)) (regret_records x) (line.end regret_end ∷ [])));
       right = record {
         exchange = tells.exchange;
-        settled = settled_right (exchange_at s) x tells.exchange (subst (λ (bounds : List Bounds). AreSettled (exchange_at s) bounds x) opening settled);
+        settled = settled_right perturbed (exchange_at s) (opening_bounds (exchange_at s)) x (past_begins (exchange_at s) tells.exchange).lawful (subst (λ (bounds : List Bounds). AreSettled (exchange_at s) bounds x) opening settled);
       };
       exchange = refl;
       regret = regret;

@@ -12,3 +12,13 @@ pub mod Stages
 pub mod Heads
 pub mod Logs
 pub mod Regretting
+pub mod Stops
+pub mod Reordering
+pub mod Carrying
+pub mod Showing
+pub mod ShowingSession
+pub mod SoFar
+pub mod StepsTaken
+pub mod Earning
+pub mod WrittenLaws
+pub mod Positions

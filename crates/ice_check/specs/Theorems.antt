@@ -9,7 +9,7 @@ use Rattle.ice_defs.specs.Lawful.{IsExchange}
 use Rattle.ice_defs.specs.Session.{Assigned, Regretted, Session}
 use Rattle.ice_defs.specs.Right.{IsSettled, IsRight}
 use Rattle.ice_defs.specs.Headline.{Headline}
-use Rattle.ice_journal.specs.Records.{Record, Kind, assign_kind, regret_kind}
+use Rattle.ice_journal.specs.Records.{Record, Kind, assign_kind, regret_kind, session_kind}
 use Rattle.ice_journal.specs.Records as line
 use Rattle.ice_journal.specs.Ranges.{IsRecord}
 use Rattle.ice_journal.specs.Plain.{plain}
@@ -67,6 +67,24 @@ DoneIsRegretted = (journal : List Record) (s : State) → AllByRecursion IsRecor
 abbrev pub ChecksGiveRegret : Type 0
 ChecksGiveRegret = (journal : List Record) → HasKind regret_kind journal → AllByRecursion IsRecord journal → Checks journal → (r : Regretted) × Says journal (regretted_records r) × IsRightRegret r
 
+-- where the records of a session lead to its end, they state the end's exchange and a right session, with the end's regret and surplus
+pub record IsSessionAt (journal : List Record) (s : State) (x : Session) : Type 0 where
+  pub says : Says journal (session_records x)
+  pub right : IsRight x
+  pub exchange : x.exchange ≡ exchange_at s
+  pub regret : x.closed.settlement.regret ≡ s.regret
+  pub surplus : x.closed.surplus ≡ s.surplus
+
+abbrev pub IsSession : List Record → State → Type 0
+IsSession journal s = (x : Session) × IsSessionAt journal s x
+
+abbrev pub DoneIsRight : Type 0
+DoneIsRight = (journal : List Record) (s : State) → AllByRecursion IsRecord journal → Leads nothing journal (passing s) → s.place ≡ done → s.kind ≡ session_kind → IsSession journal s
+
+-- a session that passes every test is a right one
+abbrev pub ChecksGiveRight : Type 0
+ChecksGiveRight = (journal : List Record) → HasKind session_kind journal → AllByRecursion IsRecord journal → Checks journal → (s : Session) × Says journal (session_records s) × IsRight s
+
 -- the numbers of a yes
 pub data Yes : Type 0 where
   of_assigned : (value : ℤ) → Yes
@@ -78,3 +96,7 @@ abbrev pub IsYes : List Record → Yes → Type 0
 IsYes journal (of_assigned value) = (a : Assigned) × Says journal (assigned_records a) × IsRightAssigned a × (value ≡ total_value a.sets (lower_weights (opening_bounds a.exchange)))
 IsYes journal (of_regret amount) = (r : Regretted) × Says journal (regretted_records r) × IsRightRegret r × (amount ≡ r.settlement.regret)
 IsYes journal (of_session regret surplus) = (s : Session) × Says journal (session_records s) × IsRight s × Headline s × (regret ≡ s.closed.settlement.regret) × (surplus ≡ s.closed.surplus)
+
+-- where the records of a session lead to its end, the checker may say yes to it, with the end's regret and surplus
+abbrev pub SessionIsYes : Type 0
+SessionIsYes = (journal : List Record) (s : State) → AllByRecursion IsRecord journal → Leads nothing journal (passing s) → s.place ≡ done → s.kind ≡ session_kind → IsYes journal (of_session s.regret s.surplus)

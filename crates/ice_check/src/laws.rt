@@ -1,7 +1,9 @@
 //! Laws of the checker's definitions, which hold of every journal.
 
 ghost use Rattle.ice_check.specs.Progress.{RecordsLeadOn, ProgressFindsTheFirstFailure};
-ghost use Rattle.ice_check.specs.Theorems.{DoneIsAssigned, ChecksGiveAssigned, DoneIsRegretted, ChecksGiveRegret};
+ghost use Rattle.ice_check.specs.Theorems.{DoneIsAssigned, ChecksGiveAssigned, DoneIsRegretted, ChecksGiveRegret, DoneIsRight, ChecksGiveRight, SessionIsYes};
+ghost use Rattle.ice_check.specs.Reordering.{OrderOfRoundsIsFree, ReorderedIsMutual};
+ghost use Rattle.ice_check.specs.WrittenLaws.{CarriedAreJoined, FrontIsSoFar, RegretIsWritten, SessionIsWritten};
 ghost use Rattle.ice_check.specs.Answers.{EndIsAnswer, OneAnswer};
 
 /// One more record leads on from where the records before it led.
@@ -40,6 +42,24 @@ pub fn checks_give_regret()
     ensures { ChecksGiveRegret }
 {}
 
+/// A session whose records lead to its end states a lawful exchange and a right session of it, with the regret and the surplus of the state.
+#[tactic(auto, using(crate::proofs::SessionRight::done_is_session))]
+pub fn done_is_right()
+    ensures { DoneIsRight }
+{}
+
+/// A session that passes every test is a right one.
+#[tactic(auto, using(crate::proofs::SessionRight::checked_is_right))]
+pub fn checks_give_right()
+    ensures { ChecksGiveRight }
+{}
+
+/// To a session whose records lead to its end the checker may say yes: it has the headline, with the regret and the surplus of the state.
+#[tactic(auto, using(crate::proofs::SessionRight::session_is_yes))]
+pub fn session_is_yes()
+    ensures { SessionIsYes }
+{}
+
 /// What is answered where the records end is the answer to their bytes.
 #[tactic(auto, using(crate::proofs::Answered::end_answers))]
 pub fn end_is_answer()
@@ -50,4 +70,37 @@ pub fn end_is_answer()
 #[tactic(auto, using(crate::proofs::Answered::one_answer_of_bytes))]
 pub fn bytes_have_one_answer()
     ensures { OneAnswer }
+{}
+
+/// Whether a session journal passes every test doesn't depend on the order of the submissions of different bidders in a round.
+#[tactic(auto, using(crate::proofs::Swapping::order_of_rounds_is_free))]
+pub fn order_of_rounds_is_free()
+    ensures { OrderOfRoundsIsFree }
+{}
+
+/// Either of two journals is reordered from the other.
+#[tactic(auto, using(crate::proofs::Swapping::reordered_is_mutual))]
+pub fn reordered_is_mutual()
+    ensures { ReorderedIsMutual }
+{}
+
+/// Records that lead on are joined.
+#[tactic(auto, using(crate::proofs::CarriedLaws::carried_are_joined))]
+pub fn carried_are_joined()
+    ensures { CarriedAreJoined }
+{}
+
+/// A regret journal of shown groups passes every test.
+pub fn regret_is_written()
+    ensures { RegretIsWritten }
+{}
+
+/// No test fails of a session of shown settlements.
+pub fn session_is_written()
+    ensures { SessionIsWritten }
+{}
+
+/// Each front of records that lead on is a journal so far.
+pub fn front_is_so_far()
+    ensures { FrontIsSoFar }
 {}

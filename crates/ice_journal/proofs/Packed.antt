@@ -36,10 +36,10 @@ changed_front front (a ∷ old) (b ∷ new) same =
     let later : changed (front ++ b ∷ old) (changes_from (suc (length front)) old new) ≡ front ++ b ∷ new = rw (push front b old, push front b new, next_length front b) at (changed_front (front ++ b ∷ []) old new (omega arith)) in
     one_number (int_le a b && int_le b a) front a b old new refl (λ _. later)
 
-leaf_back : (old new : Multipliers) → length old ≡ length new → changed old (changes_from 0 old new) ≡ new
+pub leaf_back : (old new : Multipliers) → length old ≡ length new → changed old (changes_from 0 old new) ≡ new
 leaf_back old new same = changed_front [] old new same
 
-zeros : (goods : ℕ) → length (all_zero goods) ≡ goods
+pub zeros : (goods : ℕ) → length (all_zero goods) ≡ goods
 zeros zero = refl
 zeros (suc n) = ap suc (zeros n)
 
