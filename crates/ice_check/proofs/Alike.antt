@@ -9,7 +9,8 @@ use Rattle.ice_defs.specs.Rows.{Row}
 use Rattle.ice_defs.specs.Round.{Submission, Judged, IsNextVerdict}
 use Rattle.ice_defs.specs.Exchange.{names_of}
 use Rattle.ice_defs.specs.Session.{standings}
-use Rattle.ice_defs.specs.Group.{Group, assign_group, final_group, rival_group, provisional_group, without_group}
+use Rattle.ice_defs.specs.declared.Group.{Group}
+use Rattle.ice_defs.specs.declared.Group.TheVariants.{Assign, Final, Rival, Provisional, Without}
 use Rattle.ice_rounds.specs.Laws.{SameOfEach}
 use Rattle.ice_rounds.proofs.Order.{same_bounds}
 use Rattle.ice_rounds.proofs.Others.{same_push, own_submissions_tell}
@@ -78,18 +79,18 @@ module _ (judged : List Judged) where
   of_head s g r (Some value) same = (judged, refl, same)
 
   of_sets : (s : State) (g : Group) (found : Stated) → Kept s → AreAlike (after_sets s g found) (after_sets (with_judged judged s) g found)
-  of_sets s assign_group found same = (judged, refl, same)
-  of_sets s final_group found same = (judged, refl, same)
-  of_sets s rival_group found same = (judged, refl, same)
-  of_sets s provisional_group found same = (judged, refl, same)
-  of_sets s (without_group b) found same = (judged, refl, same)
+  of_sets s Assign found same = (judged, refl, same)
+  of_sets s Final found same = (judged, refl, same)
+  of_sets s Rival found same = (judged, refl, same)
+  of_sets s Provisional found same = (judged, refl, same)
+  of_sets s (Without b) found same = (judged, refl, same)
 
   of_log : (s : State) (g : Group) (found : Stated) → Kept s → AreAlike (after_log s g found) (after_log (with_judged judged s) g found)
-  of_log s assign_group found same = (judged, refl, same)
-  of_log s final_group found same = (judged, refl, same)
-  of_log s rival_group found same = (judged, refl, same)
-  of_log s provisional_group found same = (judged, refl, same)
-  of_log s (without_group b) found same = (judged, refl, same)
+  of_log s Assign found same = (judged, refl, same)
+  of_log s Final found same = (judged, refl, same)
+  of_log s Rival found same = (judged, refl, same)
+  of_log s Provisional found same = (judged, refl, same)
+  of_log s (Without b) found same = (judged, refl, same)
 
   of_step : (s : State) (g : Group) (found : Stated) (sides : List Side) (m : Multipliers) → Kept s → AreAlike (after_step s g found sides m) (after_step (with_judged judged s) g found sides m)
   of_step s g found [] m same = of_log s g found same
@@ -109,11 +110,11 @@ module _ (judged : List Judged) where
 
   of_after : (s : State) (kind : Kind) (r : Record) → Kept s → GoAlike (after_section s kind r) (after_section (with_judged judged s) kind r)
   of_after s assign_kind r same =
-      of_test (is_assign r) (go_to (at_sets assign_group (record { value = pos 0; sets = [] })) s) (go_to (at_sets assign_group (record { value = pos 0; sets = [] })) (with_judged judged s)) (judged, refl, same)
-  of_after s regret_kind r same = of_head s final_group r (head_value final_group r) same
+      of_test (is_assign r) (go_to (at_sets Assign (record { value = pos 0; sets = [] })) s) (go_to (at_sets Assign (record { value = pos 0; sets = [] })) (with_judged judged s)) (judged, refl, same)
+  of_after s regret_kind r same = of_head s Final r (head_value Final r) same
   of_after s session_kind r same =
-      of_then (λ number. if_true (number == 0) (go_to (at_group final_group) s)) (λ number. if_true (number == 0) (go_to (at_group final_group) (with_judged judged s))) (settlement_in r)
-      (λ number. of_test (number == 0) (go_to (at_group final_group) s) (go_to (at_group final_group) (with_judged judged s)) (judged, refl, same))
+      of_then (λ number. if_true (number == 0) (go_to (at_group Final) s)) (λ number. if_true (number == 0) (go_to (at_group Final) (with_judged judged s))) (settlement_in r)
+      (λ number. of_test (number == 0) (go_to (at_group Final) s) (go_to (at_group Final) (with_judged judged s)) (judged, refl, same))
   of_after s exchange_kind r same = tt
   of_after s prices_kind r same = tt
 

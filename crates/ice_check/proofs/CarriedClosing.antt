@@ -5,7 +5,7 @@ use Rattle.std.proofs.lemmas.Bool.{false≢true, eq-eqb, ne_eqb}
 use Rattle.std.proofs.lemmas.Option.{none-some}
 use Rattle.std.proofs.lemmas.List.{append-nil}
 use Rattle.std.proofs.lemmas.Slice.Eq.{bytes_eq-Decides}
-use Rattle.ice_defs.specs.Group.{without_group}
+use Rattle.ice_defs.specs.declared.Group.TheVariants.{Without}
 use Rattle.ice_defs.specs.Fraction.{Fraction}
 use Rattle.ice_defs.specs.Exchange.{names_of}
 use Rattle.ice_defs.specs.Session.{Proved, Payment}
@@ -33,35 +33,35 @@ abbrev with_withouts : State → List Proved → State
 with_withouts s ps = record s { withouts = s.withouts ++ map (λ p. p.value) ps }
 
 -- from this bidder on, to the last one
-pub withouts_carry : (s : State) (b : ℕ) (p : Proved) (later : List Proved) → b + suc (length later) ≡ length (trees_at s) → AreShownWithout (trees_at s) (exact_at s) (weights_at s (without_group b)) b (p ∷ later)
-    → Carries (go_to (at_group (without_group b)) s) (without_group_records s.version (goods_at s) b (p ∷ later)) (go_to at_threshold (record s { withouts = s.withouts ++ map (λ p. p.value) (p ∷ later) }))
+pub withouts_carry : (s : State) (b : ℕ) (p : Proved) (later : List Proved) → b + suc (length later) ≡ length (trees_at s) → AreShownWithout (trees_at s) (exact_at s) (weights_at s (Without b)) b (p ∷ later)
+    → Carries (go_to (at_group (Without b)) s) (without_group_records s.version (goods_at s) b (p ∷ later)) (go_to at_threshold (record s { withouts = s.withouts ++ map (λ p. p.value) (p ∷ later) }))
 withouts_carry s b p [] count is =
-    subst (λ (rs : List Record). Carries (go_to (at_group (without_group b)) s) rs (go_to at_threshold (with_without s p.value))) (sym (append-nil (group_records s.version (goods_at s) (line.without b p.value) p)))
-    (subst (λ (t : Bool). Carries (go_to (at_group (without_group b)) s) (group_records s.version (goods_at s) (line.without b p.value) p) (go_to (cond t at_threshold (at_group (without_group (suc b)))) (with_without s p.value)))
+    subst (λ (rs : List Record). Carries (go_to (at_group (Without b)) s) rs (go_to at_threshold (with_without s p.value))) (sym (append-nil (group_records s.version (goods_at s) (line.without b p.value) p)))
+    (subst (λ (t : Bool). Carries (go_to (at_group (Without b)) s) (group_records s.version (goods_at s) (line.without b p.value) p) (go_to (cond t at_threshold (at_group (Without (suc b)))) (with_without s p.value)))
     (eq-eqb (suc b) (bidder_count s) (omega (arith, count)))
-    (group_carries s (without_group b) p refl (omega (arith, count)) is.0))
+    (group_carries s (Without b) p refl (omega (arith, count)) is.0))
 withouts_carry s b p (q ∷ later) count is =
-    carries_join (go_to (at_group (without_group b)) s) (go_to (at_group (without_group (suc b))) (with_without s p.value)) (go_to at_threshold (with_withouts s (p ∷ q ∷ later))) (group_records s.version (goods_at s) (line.without b p.value) p) (without_group_records s.version (goods_at s) (suc b) (q ∷ later))
-    (subst (λ (t : Bool). Carries (go_to (at_group (without_group b)) s) (group_records s.version (goods_at s) (line.without b p.value) p) (go_to (cond t at_threshold (at_group (without_group (suc b)))) (with_without s p.value)))
+    carries_join (go_to (at_group (Without b)) s) (go_to (at_group (Without (suc b))) (with_without s p.value)) (go_to at_threshold (with_withouts s (p ∷ q ∷ later))) (group_records s.version (goods_at s) (line.without b p.value) p) (without_group_records s.version (goods_at s) (suc b) (q ∷ later))
+    (subst (λ (t : Bool). Carries (go_to (at_group (Without b)) s) (group_records s.version (goods_at s) (line.without b p.value) p) (go_to (cond t at_threshold (at_group (Without (suc b)))) (with_without s p.value)))
     (ne_eqb (suc b) (bidder_count s) (λ e. omega (arith, count, e)))
-    (group_carries s (without_group b) p refl (omega (arith, count)) is.0))
-    (subst (λ (values : List ℤ). Carries (go_to (at_group (without_group (suc b))) (with_without s p.value)) (without_group_records s.version (goods_at s) (suc b) (q ∷ later)) (go_to at_threshold (record s { withouts = values })))
+    (group_carries s (Without b) p refl (omega (arith, count)) is.0))
+    (subst (λ (values : List ℤ). Carries (go_to (at_group (Without (suc b))) (with_without s p.value)) (without_group_records s.version (goods_at s) (suc b) (q ∷ later)) (go_to at_threshold (record s { withouts = values })))
     (append_assoc s.withouts (p.value ∷ []) (map (λ (p : Proved). p.value) (q ∷ later)))
     (withouts_carry (with_without s p.value) (suc b) q later (omega (arith, count)) is.1))
 
 -- from this bidder on, as far as these go, where more are to come
-pub withouts_part : (s : State) (b : ℕ) (ps : List Proved) → b + length ps < length (trees_at s) → AreShownWithout (trees_at s) (exact_at s) (weights_at s (without_group b)) b ps
-    → Carries (go_to (at_group (without_group b)) s) (without_group_records s.version (goods_at s) b ps) (go_to (at_group (without_group (b + length ps))) (record s { withouts = s.withouts ++ map (λ p. p.value) ps }))
+pub withouts_part : (s : State) (b : ℕ) (ps : List Proved) → b + length ps < length (trees_at s) → AreShownWithout (trees_at s) (exact_at s) (weights_at s (Without b)) b ps
+    → Carries (go_to (at_group (Without b)) s) (without_group_records s.version (goods_at s) b ps) (go_to (at_group (Without (b + length ps))) (record s { withouts = s.withouts ++ map (λ p. p.value) ps }))
 withouts_part s b [] count is =
-    subst (λ (k : ℕ). Carries (go_to (at_group (without_group b)) s) [] (go_to (at_group (without_group k)) (with_withouts s []))) (omega arith)
-    (subst (λ (values : List ℤ). Carries (go_to (at_group (without_group b)) s) [] (go_to (at_group (without_group b)) (record s { withouts = values }))) (sym (append-nil s.withouts)) (carries_none (go_to (at_group (without_group b)) s)))
+    subst (λ (k : ℕ). Carries (go_to (at_group (Without b)) s) [] (go_to (at_group (Without k)) (with_withouts s []))) (omega arith)
+    (subst (λ (values : List ℤ). Carries (go_to (at_group (Without b)) s) [] (go_to (at_group (Without b)) (record s { withouts = values }))) (sym (append-nil s.withouts)) (carries_none (go_to (at_group (Without b)) s)))
 withouts_part s b (p ∷ later) count is =
-    carries_join (go_to (at_group (without_group b)) s) (go_to (at_group (without_group (suc b))) (with_without s p.value)) (go_to (at_group (without_group (b + suc (length later)))) (with_withouts s (p ∷ later))) (group_records s.version (goods_at s) (line.without b p.value) p) (without_group_records s.version (goods_at s) (suc b) later)
-    (subst (λ (t : Bool). Carries (go_to (at_group (without_group b)) s) (group_records s.version (goods_at s) (line.without b p.value) p) (go_to (cond t at_threshold (at_group (without_group (suc b)))) (with_without s p.value)))
+    carries_join (go_to (at_group (Without b)) s) (go_to (at_group (Without (suc b))) (with_without s p.value)) (go_to (at_group (Without (b + suc (length later)))) (with_withouts s (p ∷ later))) (group_records s.version (goods_at s) (line.without b p.value) p) (without_group_records s.version (goods_at s) (suc b) later)
+    (subst (λ (t : Bool). Carries (go_to (at_group (Without b)) s) (group_records s.version (goods_at s) (line.without b p.value) p) (go_to (cond t at_threshold (at_group (Without (suc b)))) (with_without s p.value)))
     (ne_eqb (suc b) (bidder_count s) (λ e. omega (arith, count, e)))
-    (group_carries s (without_group b) p refl (omega (arith, count)) is.0))
-    (subst (λ (k : ℕ). Carries (go_to (at_group (without_group (suc b))) (with_without s p.value)) (without_group_records s.version (goods_at s) (suc b) later) (go_to (at_group (without_group k)) (with_withouts s (p ∷ later)))) (omega arith)
-    (subst (λ (values : List ℤ). Carries (go_to (at_group (without_group (suc b))) (with_without s p.value)) (without_group_records s.version (goods_at s) (suc b) later) (go_to (at_group (without_group (suc b + length later))) (record s { withouts = values })))
+    (group_carries s (Without b) p refl (omega (arith, count)) is.0))
+    (subst (λ (k : ℕ). Carries (go_to (at_group (Without (suc b))) (with_without s p.value)) (without_group_records s.version (goods_at s) (suc b) later) (go_to (at_group (Without k)) (with_withouts s (p ∷ later)))) (omega arith)
+    (subst (λ (values : List ℤ). Carries (go_to (at_group (Without (suc b))) (with_without s p.value)) (without_group_records s.version (goods_at s) (suc b) later) (go_to (at_group (Without (suc b + length later))) (record s { withouts = values })))
     (append_assoc s.withouts (p.value ∷ []) (map (λ (p : Proved). p.value) later))
     (withouts_part (with_without s p.value) (suc b) later (omega (arith, count)) is.1)))
 

@@ -4,7 +4,7 @@ use Rattle.std.specs.Prelude.{Option, Some, None, option_map}
 use Rattle.std.proofs.lemmas.Bool.{false≢true}
 use Rattle.std.proofs.lemmas.Option.{none-some}
 use Rattle.ice_defs.specs.Exchange.{Exchange}
-use Rattle.ice_defs.specs.Group.{rival_group}
+use Rattle.ice_defs.specs.declared.Group.TheVariants.{Rival}
 use Rattle.ice_journal.specs.Records.{Record, Version, assign_end, exchange_end, prices_end, regret_end, closed_end, open_end, spent_end, limit_end}
 use Rattle.ice_journal.specs.Records as line
 use Rattle.ice_check.specs.declared.rule.Rule.{Rule}
@@ -19,10 +19,10 @@ use Rattle.ice_check.proofs.Places.{fails_order}
 
 module _ (v : Version) (n : ℕ) (ex : Exchange) (final : Stated) where
   abbrev AtRival : State
-  AtRival = regretting v n ex (at_group rival_group) final (pos 0) (pos 0)
+  AtRival = regretting v n ex (at_group Rival) final (pos 0) (pos 0)
 
   -- the head of the rival
-  pub rival_opens : (value : ℤ) → TakesOn (regretting v n ex (at_group rival_group) final (pos 0) (pos 0)) (line.rival value) (passing (regretting v (suc n) ex (at_sets rival_group (record { value = value; sets = [] })) final (pos 0) (pos 0)))
+  pub rival_opens : (value : ℤ) → TakesOn (regretting v n ex (at_group Rival) final (pos 0) (pos 0)) (line.rival value) (passing (regretting v (suc n) ex (at_sets Rival (record { value = value; sets = [] })) final (pos 0) (pos 0)))
   rival_opens value = passes_on (λ z e. absurd (none-some z e)) quiet (record { leaf = tt; violation = tt; list = tt; verdict = tt }) refl
     where
       quiet : (z : Rule) → ¬ Fails z AtRival (line.rival value)
@@ -32,15 +32,15 @@ module _ (v : Version) (n : ℕ) (ex : Exchange) (final : Stated) where
       quiet other h = h
 
   -- a stop in its place
-  pub rival_spent : (r : Record) → is_spent r ≡ true → TakesOn (regretting v n ex (at_group rival_group) final (pos 0) (pos 0)) r (failed (record { line = n; rule = rule.Closed }))
+  pub rival_spent : (r : Record) → is_spent r ≡ true → TakesOn (regretting v n ex (at_group Rival) final (pos 0) (pos 0)) r (failed (record { line = n; rule = rule.Closed }))
   rival_spent (line.spent value bound) e = fails_at (λ z e. absurd (none-some z e)) ((refl, refl), λ z l f. absurd (omega (arith, l)))
   rival_spent other e = absurd (false≢true e)
 
   -- or another record
-  pub rival_missing : (r : Record) → rival_value r ≡ None → is_spent r ≡ false → TakesOn (regretting v n ex (at_group rival_group) final (pos 0) (pos 0)) r (failed (record { line = n; rule = rule.Order }))
+  pub rival_missing : (r : Record) → rival_value r ≡ None → is_spent r ≡ false → TakesOn (regretting v n ex (at_group Rival) final (pos 0) (pos 0)) r (failed (record { line = n; rule = rule.Order }))
   rival_missing r none other =
       fails_order AtRival r refl
-      (ap (λ (o : Option ℤ). option_map (to_line (suc n)) (from_head AtRival rival_group r o)) none
+      (ap (λ (o : Option ℤ). option_map (to_line (suc n)) (from_head AtRival Rival r o)) none
       ∙ ap (λ (b : Bool). option_map (to_line (suc n)) (if_true b (go_to (at_spent_sets 0) AtRival))) other)
 
   module _ (rival : ℤ) where

@@ -13,7 +13,7 @@ use Rattle.ice_journal.specs.Records as line
 use Rattle.ice_section.specs.Section.{take_record}
 use Rattle.ice_check.specs.declared.rule.Rule.{Rule}
 use Rattle.ice_check.specs.declared.rule.Rule.TheVariants as rule
-use Rattle.ice_defs.specs.Group.{assign_group}
+use Rattle.ice_defs.specs.declared.Group.TheVariants.{Assign}
 use Rattle.ice_check.specs.Fields.{is_spent, is_limit, is_round_stop}
 use Rattle.ice_check.specs.State.{at_section, at_sets, at_end, State, Stated, begun}
 use Rattle.ice_check.specs.Next.{next, go_to, after_all}
@@ -84,10 +84,10 @@ end_quiet s r after n st ref rule.Threshold h = h
 end_quiet s r after n st ref rule.Payment h = h
 
 -- a set fails no test where it is counted, satisfied, and balanced if it is the last
-set_quiet : (s : State) (found : Stated) (r : Record) (after : State) → next (go_to (at_sets assign_group found) s) r ≡ Some after → is_stop s r ≡ false → is_refusal (take_record s.section r) ≡ false
-    → ¬ IsMiscounted (go_to (at_sets assign_group found) s) r → ((k : SatRule) → ¬ IsUnsatisfied k (go_to (at_sets assign_group found) s) r)
-    → ¬ IsUnbalanced (go_to (at_sets assign_group found) s) r → ¬ IsMisvalued (go_to (at_sets assign_group found) s) r
-    → (x : Rule) → ¬ Fails x (go_to (at_sets assign_group found) s) r
+set_quiet : (s : State) (found : Stated) (r : Record) (after : State) → next (go_to (at_sets Assign found) s) r ≡ Some after → is_stop s r ≡ false → is_refusal (take_record s.section r) ≡ false
+    → ¬ IsMiscounted (go_to (at_sets Assign found) s) r → ((k : SatRule) → ¬ IsUnsatisfied k (go_to (at_sets Assign found) s) r)
+    → ¬ IsUnbalanced (go_to (at_sets Assign found) s) r → ¬ IsMisvalued (go_to (at_sets Assign found) s) r
+    → (x : Rule) → ¬ Fails x (go_to (at_sets Assign found) s) r
 unfolding is_stop
 set_quiet s found r after n st ref c u e v rule.Closed h = not_both st h.0
 set_quiet s found r after n st ref c u e v rule.Order h = none-some after (sym h ∙ n)

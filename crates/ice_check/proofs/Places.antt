@@ -5,7 +5,7 @@ use Rattle.std.proofs.lemmas.Bool.{and_parts, or_parts, true≢false, false≢tr
 use Rattle.std.proofs.lemmas.Option.{none-some}
 use Rattle.ice_defs.specs.Trade.{Assignment}
 use Rattle.ice_defs.specs.Exchange.{Settings, Exchange}
-use Rattle.ice_defs.specs.Group.{assign_group, final_group}
+use Rattle.ice_defs.specs.declared.Group.TheVariants.{Assign, Final}
 use Rattle.ice_journal.specs.Records.{Record, Version, version_1, Kind, assign_kind, regret_kind, assign_end, exchange_end, prices_end, regret_end, closed_end, open_end, spent_end, limit_end}
 use Rattle.ice_journal.specs.Records as line
 use Rattle.ice_journal.specs.Lines.{version_of}
@@ -142,9 +142,9 @@ misplaced : (head : Head) (number : ℕ) (s : Section) (r : Record) (ended ends 
     → option_map (to_line (suc number)) (cond ended (after_section (section_ended (describing (version_of_head head) (kind_of_head head) number s)) (kind_of_head head) r) None) ≡ None
 misplaced head number s r false ends e f none = refl
 misplaced head number s r true true e f none = absurd (true≢false none)
-misplaced Assign number s r true false e f none = ap (λ (b : Bool). option_map (to_line (suc number)) (if_true b (go_to (at_sets assign_group (record { value = pos 0; sets = [] })) (section_ended (describing version_1 assign_kind number s))))) f
+misplaced Assign number s r true false e f none = ap (λ (b : Bool). option_map (to_line (suc number)) (if_true b (go_to (at_sets Assign (record { value = pos 0; sets = [] })) (section_ended (describing version_1 assign_kind number s))))) f
 misplaced (Regret version) number s r true false e f none =
-    ap (λ (o : Option ℤ). option_map (to_line (suc number)) (from_head (section_ended (describing (version_of version) regret_kind number s)) final_group r o)) (no_value (final_value r) (or_parts (is_some (final_value r)) (is_spent r) f).0)
+    ap (λ (o : Option ℤ). option_map (to_line (suc number)) (from_head (section_ended (describing (version_of version) regret_kind number s)) Final r o)) (no_value (final_value r) (or_parts (is_some (final_value r)) (is_spent r) f).0)
     ∙ ap (λ (b : Bool). option_map (to_line (suc number)) (if_true b (go_to (at_spent_sets 0) (section_ended (describing (version_of version) regret_kind number s))))) (or_parts (is_some (final_value r)) (is_spent r) f).1
   where
     no_value : (o : Option ℤ) → is_some o ≡ false → o ≡ None
@@ -210,13 +210,13 @@ section_has_all s begun ended = section_is_whole s (there s.settings refl) ended
 
 pub section_ends : (number : ℕ) (s : Section) → HasSettings s → may_end s ≡ true → TakesOn (describing version_1 assign_kind number s) line.assign (passing (stating (suc number) (exchange_in s) []))
 section_ends number s begun ended =
-    section_leads version_1 assign_kind number s line.assign (at_sets assign_group (record { value = pos 0; sets = [] })) ended (section_has_all s begun ended) refl refl refl
+    section_leads version_1 assign_kind number s line.assign (at_sets Assign (record { value = pos 0; sets = [] })) ended (section_has_all s begun ended) refl refl refl
 
 -- the head of the final sets
 pub section_opens : (v : Version) (number : ℕ) (s : Section) (value : ℤ) → HasSettings s → may_end s ≡ true
-    → TakesOn (describing v regret_kind number s) (line.final value) (passing (regretting v (suc number) (exchange_in s) (at_sets final_group (record { value = value; sets = [] })) (record { value = pos 0; sets = [] }) (pos 0) (pos 0)))
+    → TakesOn (describing v regret_kind number s) (line.final value) (passing (regretting v (suc number) (exchange_in s) (at_sets Final (record { value = value; sets = [] })) (record { value = pos 0; sets = [] }) (pos 0) (pos 0)))
 section_opens v number s value begun ended =
-    section_leads v regret_kind number s (line.final value) (at_sets final_group (record { value = value; sets = [] })) ended (section_has_all s begun ended) refl refl refl
+    section_leads v regret_kind number s (line.final value) (at_sets Final (record { value = value; sets = [] })) ended (section_has_all s begun ended) refl refl refl
 
 -- or a stop in its place
 pub section_spent : (v : Version) (number : ℕ) (s : Section) (r : Record) → HasSettings s → may_end s ≡ true → is_spent r ≡ true → TakesOn (describing v regret_kind number s) r (failed (record { line = number; rule = rule.Closed }))

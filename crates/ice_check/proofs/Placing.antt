@@ -11,7 +11,8 @@ use Rattle.ice_defs.specs.Set.{NodeSet, IsSatisfied}
 use Rattle.ice_defs.specs.SetFault.{set_fault}
 use Rattle.ice_defs.specs.Trade.{Assignment, tree_of, set_of}
 use Rattle.ice_defs.specs.Exchange.{Exchange, trees_of}
-use Rattle.ice_defs.specs.Group.{Group, assign_group}
+use Rattle.ice_defs.specs.declared.Group.{Group}
+use Rattle.ice_defs.specs.declared.Group.TheVariants.{Assign}
 use Rattle.ice_tree.proofs.Satisfied.{set_fault-none}
 use Rattle.ice_journal.specs.Records.{Record}
 use Rattle.ice_journal.specs.Records as line
@@ -83,22 +84,22 @@ so_far sets = record { value = pos 0; sets = sets }
 
 pub broken_takes : (number : ℕ) (ex : Exchange) (sets : Assignment) (x : NodeSet) (y : Rule) → length sets < length (trees_of ex) → IsBroken (tree_of (trees_of ex) (length sets)) x (Some y)
     → TakesOn (stating number ex sets) (line.set x) (failed (record { line = number; rule = y }))
-broken_takes number ex sets x y room h = broken_fails (stating number ex sets) assign_group (so_far sets) x y (λ f. f) room h
+broken_takes number ex sets x y room h = broken_fails (stating number ex sets) Assign (so_far sets) x y (λ f. f) room h
 
 pub more_takes : (number : ℕ) (ex : Exchange) (sets : Assignment) (x : NodeSet) → length sets < length (trees_of ex) → IsSatisfied (tree_of (trees_of ex) (length sets)) x → suc (length sets) ≢ length (trees_of ex)
     → TakesOn (stating number ex sets) (line.set x) (passing (stating (suc number) ex (sets ++ x ∷ [])))
-more_takes number ex sets x room is more = set_on (stating number ex sets) assign_group (so_far sets) x (is_fit (stating number ex sets) assign_group (so_far sets) x (λ f. f) room is) more
+more_takes number ex sets x room is more = set_on (stating number ex sets) Assign (so_far sets) x (is_fit (stating number ex sets) Assign (so_far sets) x (λ f. f) room is) more
 
 pub closed_takes : (number : ℕ) (ex : Exchange) (sets : Assignment) (x : NodeSet) (result : Stage) → length sets < length (trees_of ex) → IsSatisfied (tree_of (trees_of ex) (length sets)) x
     → suc (length sets) ≡ length (trees_of ex) → IsClosed number (record { exchange = ex; sets = sets ++ x ∷ [] }) result
     → TakesOn (stating number ex sets) (line.set x) (progress_of (suc number) result)
 closed_takes number ex sets x (stage.AwaitsEnd after) room sat last (is, balanced) =
     subst (λ (s : Stating). TakesOn (stating number ex sets) (line.set x) (progress_of (suc number) (stage.AwaitsEnd s))) (sym is)
-    (sets_complete (stating number ex sets) assign_group (so_far sets) x (is_fit (stating number ex sets) assign_group (so_far sets) x (λ f. f) room sat) last balanced (λ valued. absurd (false≢true valued)))
+    (sets_complete (stating number ex sets) Assign (so_far sets) x (is_fit (stating number ex sets) Assign (so_far sets) x (λ f. f) room sat) last balanced (λ valued. absurd (false≢true valued)))
 closed_takes number ex sets x (stage.Failed n y) room sat last (at, is, short) =
     subst (λ (m : ℕ). TakesOn (stating number ex sets) (line.set x) (progress_of (suc number) (stage.Failed m y))) (sym at)
     (subst (λ (z : Rule). TakesOn (stating number ex sets) (line.set x) (progress_of (suc number) (stage.Failed number z))) (sym is)
-    (sets_short (stating number ex sets) assign_group (so_far sets) x (is_fit (stating number ex sets) assign_group (so_far sets) x (λ f. f) room sat) last short))
+    (sets_short (stating number ex sets) Assign (so_far sets) x (is_fit (stating number ex sets) Assign (so_far sets) x (λ f. f) room sat) last short))
 closed_takes number ex sets x other room sat last h = absurd h
 
 -- ---- the sets that are stated

@@ -5,7 +5,7 @@ use Rattle.std.specs.List.{AllByRecursion}
 use Rattle.std.proofs.lemmas.Option.{none-some}
 use Rattle.std.proofs.lemmas.List.{append-nil, append_assoc}
 use Rattle.ice_defs.specs.Headline.{RightGivesHeadline}
-use Rattle.ice_defs.specs.Group.{final_group, rival_group, provisional_group, without_group}
+use Rattle.ice_defs.specs.declared.Group.TheVariants.{Final, Rival, Provisional, Without}
 use Rattle.ice_journal.specs.Records.{Record, Version, version_1, Kind, session_kind, closed_end}
 use Rattle.ice_journal.specs.Records as line
 use Rattle.ice_journal.specs.Ranges.{IsRecord}
@@ -47,25 +47,25 @@ module _ (lawful : SectionIsLawful) (described : SectionRecords) (refutes : LogR
     stands_on : (place : Place) → AllByRecursion IsRecord before → IsRecord r → IsAt before s place → next (go_to place s) r ≡ Some after → ((k : Rule) → ¬ Fails k (go_to place s) r)
         → EndsList (go_to place s) r → Holds (go_to place s) r → IsStanding version (before ++ r ∷ []) after
     stands_on at_section records range at is pass ends holds = in_section version before s same kind lawful described refutes records r after at is pass
-    stands_on (at_group final_group) records range at is pass ends holds = in_final version before s same kind r after at is pass
-    stands_on (at_sets final_group found) records range at is pass ends holds = in_final_sets version before s same kind r after found at is pass
-    stands_on (at_log final_group found (side ∷ sides) m) records range at is pass ends holds = in_final_log version before s same kind r after refutes found side sides m at is pass holds
-    stands_on (at_group rival_group) records range at is pass ends holds = in_rival version before s same kind r after at is pass
-    stands_on (at_sets rival_group found) records range at is pass ends holds = in_rival_sets version before s same kind r after found at is pass
-    stands_on (at_log rival_group found (side ∷ sides) m) records range at is pass ends holds = in_rival_log version before s same kind r after refutes found side sides m at is pass holds
+    stands_on (at_group Final) records range at is pass ends holds = in_final version before s same kind r after at is pass
+    stands_on (at_sets Final found) records range at is pass ends holds = in_final_sets version before s same kind r after found at is pass
+    stands_on (at_log Final found (side ∷ sides) m) records range at is pass ends holds = in_final_log version before s same kind r after refutes found side sides m at is pass holds
+    stands_on (at_group Rival) records range at is pass ends holds = in_rival version before s same kind r after at is pass
+    stands_on (at_sets Rival found) records range at is pass ends holds = in_rival_sets version before s same kind r after found at is pass
+    stands_on (at_log Rival found (side ∷ sides) m) records range at is pass ends holds = in_rival_log version before s same kind r after refutes found side sides m at is pass holds
     stands_on at_regret records range at is pass ends holds = in_regret version before s same kind r after at is pass
-    stands_on (at_group provisional_group) records range at is pass ends holds = in_provisional version before s same kind r after at is pass
-    stands_on (at_sets provisional_group found) records range at is pass ends holds = in_provisional_sets version before s same kind r after found at is pass
-    stands_on (at_log provisional_group found (side ∷ sides) m) records range at is pass ends holds = in_provisional_log version before s same kind r after refutes found side sides m at is pass holds
+    stands_on (at_group Provisional) records range at is pass ends holds = in_provisional version before s same kind r after at is pass
+    stands_on (at_sets Provisional found) records range at is pass ends holds = in_provisional_sets version before s same kind r after found at is pass
+    stands_on (at_log Provisional found (side ∷ sides) m) records range at is pass ends holds = in_provisional_log version before s same kind r after refutes found side sides m at is pass holds
     stands_on at_prices records range at is pass ends holds = in_prices version before s same kind r after range at is pass
     stands_on at_accuracy records range at is pass ends holds = in_accuracy version before s same kind r after at is holds
     stands_on (at_accuracy_rows den rows) records range at is pass ends holds = in_accuracy_rows version before s same kind den rows r after at is ends holds
     stands_on (at_balance_rows den rows) records range at is pass ends holds = in_balance_rows version before s same kind perturbed tests den rows r after at is pass ends holds
     stands_on at_round records range at is pass ends holds = in_round version before s same kind r after at is
     stands_on (at_verdict x) records range at is pass ends holds = in_verdict version before s same kind x r after at is holds
-    stands_on (at_group (without_group b)) records range at is pass ends holds = in_without version before s same kind r after b at is pass
-    stands_on (at_sets (without_group b) found) records range at is pass ends holds = in_without_sets version before s same kind r after b found at is pass
-    stands_on (at_log (without_group b) found (side ∷ sides) m) records range at is pass ends holds = in_without_log version before s same kind r after b refutes found side sides m at is pass holds
+    stands_on (at_group (Without b)) records range at is pass ends holds = in_without version before s same kind r after b at is pass
+    stands_on (at_sets (Without b) found) records range at is pass ends holds = in_without_sets version before s same kind r after b found at is pass
+    stands_on (at_log (Without b) found (side ∷ sides) m) records range at is pass ends holds = in_without_log version before s same kind r after b refutes found side sides m at is pass holds
     stands_on at_threshold records range at is pass ends holds = in_threshold version before s same kind r after range at is pass
     stands_on (at_payment b) records range at is pass ends holds = in_payment version before s same kind perturbed b r after range at is pass
     stands_on (at_end closed_end) records range at is pass ends holds = in_end version before s same kind r after at is

@@ -3,7 +3,9 @@ use Rattle.std.specs.Prelude.{ℕ, suc, ◌<◌, ◌≡◌, ◌≢◌, List, [],
 use Rattle.ice_defs.specs.Set.{Weights}
 use Rattle.ice_defs.specs.Exchange.{Exchange, trees_of, exact_of, opening_bounds}
 use Rattle.ice_defs.specs.Lawful.{IsExchange}
-use Rattle.ice_defs.specs.Group.{Group, final_group, rival_group, group_weights, free_side}
+use Rattle.ice_defs.specs.declared.Group.{Group}
+use Rattle.ice_defs.specs.declared.Group.TheVariants.{Final, Rival}
+use Rattle.ice_defs.specs.Group.{group_weights, free_side}
 use Rattle.ice_defs.specs.Trade.{total_value}
 use Rattle.ice_defs.specs.Weighing.{perturbed_weights}
 use Rattle.ice_journal.specs.Plain.{all_zero}
@@ -22,8 +24,8 @@ use Rattle.ice_check.specs.Logs.{IsWalkOf}
 use Rattle.ice_check.specs.Progress.{passing, failed, TakesOn}
 
 abbrev pub group_of : code.Group → Group
-group_of Final = final_group
-group_of Rival = rival_group
+group_of Final = Final
+group_of Rival = Rival
 
 -- the exchange is described, and so much is stated behind it
 abbrev pub regretting : Version → ℕ → Exchange → Place → Stated → ℤ → ℤ → State
@@ -46,7 +48,7 @@ final_of g Rival = final_stated g
 abbrev pub state_at : Groups → ℕ → Next → State
 state_at g line (next.Set group) = regretting (version_of g.version) line g.stated.exchange (at_sets (group_of group) (at_hand g)) (final_of g group) (pos 0) (pos 0)
 state_at g line (next.Step group) = regretting (version_of g.version) line g.stated.exchange (at_log (group_of group) (at_hand g) g.log.walk.sides g.log.before) (final_of g group) (pos 0) (pos 0)
-state_at g line next.Rival = regretting (version_of g.version) line g.stated.exchange (at_group rival_group) (final_stated g) (pos 0) (pos 0)
+state_at g line next.Rival = regretting (version_of g.version) line g.stated.exchange (at_group Rival) (final_stated g) (pos 0) (pos 0)
 state_at g line next.Amount = regretting (version_of g.version) line g.stated.exchange at_regret (final_stated g) g.value (pos 0)
 state_at g line next.End = regretting (version_of g.version) line g.stated.exchange (at_end regret_end) (final_stated g) g.value g.amount
 state_at g line next.Nothing = regretting (version_of g.version) line g.stated.exchange done (final_stated g) g.value g.amount

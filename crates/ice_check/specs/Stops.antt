@@ -13,7 +13,9 @@ use Rattle.ice_defs.specs.Searched.{IsSpentSearch}
 use Rattle.ice_journal.specs.Records as line
 use Rattle.ice_journal.specs.Plain.{plain}
 use Rattle.ice_section.specs.Section.{may_end}
-use Rattle.ice_defs.specs.Group.{Group, final_group, start_of, first_sets}
+use Rattle.ice_defs.specs.declared.Group.{Group}
+use Rattle.ice_defs.specs.declared.Group.TheVariants.{Final}
+use Rattle.ice_defs.specs.Group.{start_of, first_sets}
 use Rattle.ice_check.specs.State.{at_section, at_group, State, begun, settings_at, trees_at, exact_at, weights_at}
 use Rattle.ice_check.specs.Next.{after_all, section_ended}
 use Rattle.ice_check.specs.StepsTaken.{EachTaken, branches_in}
@@ -32,7 +34,7 @@ AreGoing ex number bounds (g ∷ later) =
 -- the state in which a group's head is awaited; the first group of a regret journal stands where the section of the exchange ends
 pub data Awaits : State → Group → State → Type 0 where
   next_group : {s : State} {g : Group} → s.place ≡ at_group g → Awaits s g s
-  first_group : {s : State} → s.place ≡ at_section → s.kind ≡ regret_kind → IsTrue (may_end s.section) → Awaits s final_group (section_ended s)
+  first_group : {s : State} → s.place ≡ at_section → s.kind ≡ regret_kind → IsTrue (may_end s.section) → Awaits s Final (section_ended s)
 
 -- the journal of this kind says these records and then stops at a search that spent its branches
 pub record IsSpent (kind : Kind) (journal : List Record) : Type 0 where

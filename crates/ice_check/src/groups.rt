@@ -3,7 +3,7 @@ ghost use Rattle.std.specs.Prelude.{◌≡◌, ◌≢◌, ◌↔◌, ◌-ℤ◌,
 ghost use Rattle.ice_defs.specs.Exchange.{trees_of};
 ghost use Rattle.ice_defs.specs.Set.{IsSatisfied};
 ghost use Rattle.ice_defs.specs.Trade.{tree_of};
-ghost use Rattle.ice_defs.specs.Group.{final_group};
+ghost use Rattle.ice_defs.specs.declared.Group.TheVariants.{Final};
 ghost use Rattle.ice_journal.specs.Lines.{record_of, version_of};
 ghost use Rattle.ice_journal.specs.Ranges.{IsRecord};
 ghost use Rattle.ice_journal.specs.Records as records;
@@ -64,7 +64,7 @@ impl Groups {
     ) -> Result<Groups, NoMemory>
         ensures kept { IfOk result AreKept }
         ensures ready { IfOk result (λ g. IsReady g g.next) }
-        ensures state { IfOk result (λ g. (line : ℕ) → state_of line g ≡ regretting (version_of version) line exchange (at_sets final_group (record { value = value; sets = [] })) (record { value = pos 0; sets = [] }) (pos 0) (pos 0)) }
+        ensures state { IfOk result (λ g. (line : ℕ) → state_of line g ≡ regretting (version_of version) line exchange (at_sets Final (record { value = value; sets = [] })) (record { value = pos 0; sets = [] }) (pos 0) (pos 0)) }
     {
         let log = LogWalk::new(alloc, &exchange)?;
         let final_sets = Assignment::empty(alloc, exchange.trees())?;

@@ -3,7 +3,7 @@ use Rattle.std.proofs.lemmas.Int.{to_z-of_z}
 use mir.Syntax.{w64}
 use mir.Val.{to_z, of_z}
 use Rattle.ice_defs.specs.Exchange.{Exchange}
-use Rattle.ice_defs.specs.Group.{final_group}
+use Rattle.ice_defs.specs.declared.Group.TheVariants.{Final}
 use Rattle.ice_journal.specs.Lines.{version_of}
 use Rattle.ice_journal.specs.Records as records
 use Rattle.ice_section.specs.Section.{Section, exchange_in}
@@ -22,7 +22,7 @@ returns-in-Ok-clause-after c =
     let s = c.args.section.value in
     let value = c.args.value in
     let same : to_z w64 (of_z w64 value) ≡ value = to_z-of_z w64 value c.ranges.value in
-    let begun = λ (ex : Exchange) (z : ℤ). (let st : State = regretting v (suc n) ex (at_sets final_group (record { value = z; sets = [] })) (record { value = pos 0; sets = [] }) (pos 0) (pos 0) in st) in
+    let begun = λ (ex : Exchange) (z : ℤ). (let st : State = regretting v (suc n) ex (at_sets Final (record { value = z; sets = [] })) (record { value = pos 0; sets = [] }) (pos 0) (pos 0) in st) in
     let is : state_of (suc n) c.in_ok-groups.groups ≡ begun (exchange_in s) value =
     c.in_ok-groups.ensures.state (suc n) ∙ ap (λ (ex : Exchange). begun ex (to_z w64 (of_z w64 value))) (c.in_ok-exchange.ensures.exchange ∙ ap (λ (x : Section). exchange_in x) c.into_inner.ensures) ∙ ap (λ (z : ℤ). begun (exchange_in s) z) same in
     subst (λ (g : Groups). TakesOn (describing v records.regret_kind n s) (records.final value) (passing (state_of (suc n) g))) (sym c.in-Ok.ensures.ok)

@@ -4,7 +4,7 @@ use mir.Syntax.{w64}
 use mir.Val.{to_z, of_z}
 use Rattle.ice_defs.specs.Exchange.{trees_of}
 use Rattle.ice_defs.specs.Trade.{Assignment}
-use Rattle.ice_defs.specs.Group.{rival_group}
+use Rattle.ice_defs.specs.declared.Group.TheVariants.{Rival}
 use Rattle.ice_journal.specs.Lines.{version_of}
 use Rattle.ice_journal.specs.Records as records
 use Rattle.ice_check.specs.declared.next.Group.TheVariants.{Rival}
@@ -25,7 +25,7 @@ returns c =
     let same : to_z w64 (of_z w64 value) ≡ value = to_z-of_z w64 value c.ranges.value in
     subst (λ (z : ℤ). IsTaken coming.Rival g (records.rival value) (record g { value = z; next = coming.Set Rival })) (sym same)
     (record {
-      passes = λ n. subst (λ (sets : Assignment). TakesOn (regretting v n ex (at_group rival_group) (final_stated g) (pos 0) (pos 0)) (records.rival value) (passing (regretting v (suc n) ex (at_sets rival_group (record { value = value; sets = sets })) (final_stated g) (pos 0) (pos 0))))
+      passes = λ n. subst (λ (sets : Assignment). TakesOn (regretting v n ex (at_group Rival) (final_stated g) (pos 0) (pos 0)) (records.rival value) (passing (regretting v (suc n) ex (at_sets Rival (record { value = value; sets = sets })) (final_stated g) (pos 0) (pos 0))))
           (sym c.requires.ready.0) (rival_opens v n ex (final_stated g) value);
       kept = record { lawful = c.requires.kept.lawful; walk = c.requires.kept.walk; room = c.requires.kept.room };
       ready = (subst (λ (sets : Assignment). length sets < length (trees_of ex)) (sym c.requires.ready.0) (few_trees ex c.requires.kept.lawful).0, c.requires.ready.1);
