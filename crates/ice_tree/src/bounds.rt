@@ -1,7 +1,7 @@
 //! A lower and an upper value for each node.
-ghost use Rattle.std.specs.Prelude.{◌≡◌, ◌<◌, ◌≤◌, length, IfOk, if◌then◌else◌};
+ghost use Rattle.std.specs.Prelude.{◌≡◌, ◌<◌, ◌≤◌, length, pos, neg_ℤ, ◌≤ℤ◌, IfOk, if◌then◌else◌};
 ghost use Rattle.std.specs.List.{list_all};
-ghost use Rattle.ice_defs.specs.Set.{has, weight_of};
+ghost use Rattle.ice_defs.specs.Set.{has, weight_of, value};
 ghost use Rattle.ice_defs.specs.Lawful.{AreBounds};
 ghost use Rattle.ice_defs.specs.Making.{is_value};
 ghost use Rattle.ice_tree.specs.Bounds.{are_crossed, bounds_refusal, BoundsRefusedBy};
@@ -48,7 +48,8 @@ fn are_crossed(lo: &[i64], hi: &[i64]) -> bool
     lo.iter().zip(hi).any(|(lo, hi)| hi < lo)
 }
 
-fn list_of(values: &[i64]) -> ArrayVec<i64, 200>
+/// A list of these values, at most 200.
+pub(crate) fn list_of<T: Copy + Default>(values: &[T]) -> ArrayVec<T, 200>
     requires { length values.now ≤ 200 }
     ensures { result.items ≡ values.now }
 {
@@ -133,5 +134,31 @@ impl Bounds {
         } else {
             self.hi(node)
         }
+    }
+
+    /// The node's lower value where it is inside the set, and else 0.
+    fn lower_inside(&self, set: &NodeSet, node: u16) -> i64
+        requires node { node < length self.now.lo }
+        requires set { length set.now ≡ length self.now.lo }
+        requires bounds { AreBounds (length self.now.lo) self.now }
+        ensures value { result ≡ (if has set.now node then weight_of self.now.lo node else pos 0) }
+        ensures low { neg_ℤ (pos 1000000000) ≤ℤ result }
+        ensures high { result ≤ℤ pos 1000000000 }
+    {
+        if set.has(node) { self.lo(node) } else { 0 }
+    }
+
+    /// The sum of the lower values over the set, at most 200,000,000,000 in size.
+    pub fn lower_value(&self, set: &NodeSet) -> i64
+        requires { length set.now ≡ length self.now.lo }
+        ensures value { result ≡ value set.now self.now.lo }
+        ensures low { neg_ℤ (pos 200000000000) ≤ℤ result }
+        ensures high { result ≤ℤ pos 200000000000 }
+    {
+        let mut sum = 0;
+        for node in 0..self.len() {
+            sum += self.lower_inside(set, node);
+        }
+        sum
     }
 }

@@ -99,14 +99,15 @@ fn refuses(rt: HostRuntime) {
     assert!(rt; maker.finish().is_err());
 }
 
-/// The set's value at lower, at weighted and at perturbed weights, the latter from another chosen set.
+/// The set's value at lower, at weighted and at perturbed weights, the latter from another chosen set; and the value of
+/// the chosen set at lower values and at weighted ones.
 fn values(
     alloc: Global,
     tree: Tree,
     bounds: Bounds,
     set: &NodeSet,
     chosen: &NodeSet,
-) -> Result<[i128; 3], NoMemory>
+) -> Result<[i128; 5], NoMemory>
     requires bounds { AreBounds (length tree) bounds }
     requires set { length set.now ≡ length tree }
     requires chosen { length chosen.now ≡ length tree }
@@ -120,8 +121,11 @@ fn values(
     let lower = trees[0].value(set, weights.of(0));
     weights.fill_weighted(&bounds, 50);
     let weighted = trees[0].value(set, weights.of(0));
+    let chosen_lower = assignment.lower_value(&bounds);
+    let chosen_weighted = assignment.value(&trees, &weights.copy(alloc)?);
     weights.fill_perturbed(&bounds, &assignment);
-    Ok([lower, weighted, trees[0].value(set, weights.of(0))])
+    let perturbed = trees[0].value(set, weights.of(0));
+    Ok([lower, weighted, perturbed, chosen_lower, chosen_weighted])
 }
 
 #[test]
@@ -137,5 +141,5 @@ fn weighs(rt: HostRuntime) {
     let Ok(values) = values(rt.alloc(), tree, bounds, &rival, &own) else {
         panic!(rt; "memory is left");
     };
-    assert!(rt; values == [50, 7000, 50]);
+    assert!(rt; values == [50, 7000, 50, 53, 7400]);
 }

@@ -6,7 +6,7 @@ ghost use Rattle.ice_defs.specs.Weighing.{weighted, weighted_list, perturbed_lis
 ghost use Rattle.ice_tree.specs.Alike.{AreAlike, AreChosen};
 
 use crate::assignment::Assignment;
-use crate::bounds::Bounds;
+use crate::bounds::{Bounds, list_of};
 use crate::faults::NoMemory;
 use crate::tree::Tree;
 use arrayvec::ArrayVec;
@@ -86,6 +86,15 @@ impl Weights {
         self.weights[node as usize] = value;
     }
 
+    /// The same weights once more.
+    pub fn copy(&self) -> Weights
+        ensures { result ≡ self.now }
+    {
+        Weights {
+            weights: list_of(&self.weights),
+        }
+    }
+
     fn fill_lower(&mut self, bounds: &Bounds)
         requires { length self.old ≡ length bounds.now.lo }
         ensures value { self.new ≡ bounds.now.lo }
@@ -143,6 +152,16 @@ impl AllWeights {
             .map(|tree| Weights::zero(tree.nodes()))
             .collect(alloc);
         match weights {
+            Ok(weights) => Ok(AllWeights { weights }),
+            Err(_) => Err(NoMemory),
+        }
+    }
+
+    /// The same weights once more.
+    pub fn copy(&self, alloc: Global) -> Result<AllWeights, NoMemory>
+        ensures { IfOk result (λ w. w ≡ self.now) }
+    {
+        match self.weights.iter().map(|w| w.copy()).collect(alloc) {
             Ok(weights) => Ok(AllWeights { weights }),
             Err(_) => Err(NoMemory),
         }

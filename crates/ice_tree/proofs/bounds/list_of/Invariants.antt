@@ -2,4 +2,4 @@ use Rattle.std.proofs.Common.{◌≡◌, take}
 use Rattle.ice_tree.proofs.bounds.list_of.Given as goal
 
 abbrev pub invariant-loop-value : goal.invariant-loop-value
-invariant-loop-value l = l.list.items ≡ take l.value-index l.values
+invariant-loop-value g l = l.list.items ≡ take l.value-index l.values
