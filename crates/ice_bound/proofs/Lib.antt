@@ -4,3 +4,9 @@ pub mod Above
 pub mod Totals
 pub mod Fixings
 pub mod Modest
+pub mod Renewing
+pub mod Changing
+pub mod Summing
+pub mod Marking
+pub mod Adding
+pub mod Copying

@@ -1,6 +1,7 @@
 //! The bound of a side.
-ghost use Rattle.std.specs.Prelude.{◌≡◌, ◌≤◌, length, pos, ◌+ℤ◌, ◌*ℤ◌, ◌≤ℤ◌, ◌<ℤ◌};
-ghost use Rattle.ice_bound.specs.Answer.{IsAnswer, IsAboveAll};
+ghost use Rattle.std.specs.Prelude.{◌≡◌, ◌≤◌, length, IfOk, IfErr, pos, ◌+ℤ◌, ◌*ℤ◌, ◌≤ℤ◌, ◌<ℤ◌};
+ghost use Rattle.ice_defs.specs.Bound.{IsNetSum};
+ghost use Rattle.ice_bound.specs.Answer.{IsFirstDead, IsAnswer, IsAboveAll};
 ghost use Rattle.ice_bound.specs.Conditions.{AreWeightsOf, AreFixingsOf, AreMultipliersOf};
 
 use crate::answer::Bound;
@@ -11,7 +12,7 @@ use ice_best::Fixings;
 use ice_tree::{AllWeights, Tree};
 
 /// The floor of a 64th.
-fn floor_64th(total: i128) -> i128
+pub fn floor_64th(total: i128) -> i128
     ensures low { (pos 64 *ℤ result) ≤ℤ total }
     ensures high { total <ℤ (pos 64 *ℤ result +ℤ pos 64) }
 {
@@ -19,6 +20,33 @@ fn floor_64th(total: i128) -> i128
 }
 
 impl Room {
+    /// T, the sum over the bidders of the greatest net of a satisfied set that meets the fixing, in 64ths. Where a bidder
+    /// has no such set, the first such bidder is the error.
+    pub fn total(
+        &mut self,
+        trees: &[Tree],
+        weights: &AllWeights,
+        m: &Multipliers,
+        fixings: &Fixings,
+    ) -> Result<i128, u8>
+        requires few { length trees.now ≤ 40 }
+        requires weights { AreWeightsOf trees.now weights.now }
+        requires fixings { AreFixingsOf trees.now fixings.now }
+        ensures sum { IfOk result (IsNetSum trees.now weights.now m.now fixings.now) }
+        ensures dead { IfErr result (IsFirstDead trees.now fixings.now) }
+        ensures exact { self.new ≡ self.old }
+    {
+        let mut total: i128 = 0;
+        for bidder in 0..trees.len() as u8 {
+            let tree = &trees[bidder as usize];
+            match self.greatest_net(tree, weights.of(bidder), m, fixings.of(bidder)) {
+                Some(net) => total += net,
+                None => return Err(bidder),
+            }
+        }
+        Ok(total)
+    }
+
     /// The bound at the fixings. See `bound`.
     pub fn bound(
         &mut self,
@@ -35,15 +63,10 @@ impl Room {
         ensures above { IsAboveAll trees.now self.old weights.now fixings.now result }
         ensures exact { self.new ≡ self.old }
     {
-        let mut total: i128 = 0;
-        for bidder in 0..trees.len() as u8 {
-            let tree = &trees[bidder as usize];
-            match self.greatest_net(tree, weights.of(bidder), m, fixings.of(bidder)) {
-                Some(net) => total += net,
-                None => return Bound::Dead(bidder),
-            }
+        match self.total(trees, weights, m, fixings) {
+            Ok(total) => Bound::AtMost(floor_64th(total)),
+            Err(bidder) => Bound::Dead(bidder),
         }
-        Bound::AtMost(floor_64th(total))
     }
 }
 

@@ -3,17 +3,25 @@
 
 mod answer;
 mod bounds;
+mod copy;
 mod desk;
+mod found;
+mod goods;
+mod kept;
 mod laws;
 mod multipliers;
 mod net;
 mod room;
 #[cfg(test)]
 mod tests;
+mod total_units;
 
-pub use answer::Bound;
-pub use bounds::{bound, bound_here};
+pub use answer::{Bound, NetSum};
+pub use bounds::{bound, bound_here, floor_64th};
+pub use copy::copy_fixings;
 pub use desk::{Desk, NoMemory};
+pub use kept::Kept;
 pub use laws::{bounds_are_sound, dead_sides_have_none};
 pub use multipliers::Multipliers;
 pub use room::Room;
+pub use total_units::TotalUnits;

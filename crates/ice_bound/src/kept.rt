@@ -1,0 +1,309 @@
+//! Bounds of one list of trees that are kept at hand while marks and multipliers change.
+ghost use Rattle.std.specs.Prelude.{◌≡◌, ℕ, ◌*◌, ◌^◌, ◌<◌, ◌≤◌, length, map, replicate, slice_set, pos, neg_ℤ, ◌≤ℤ◌, IfOk};
+ghost use Rattle.ice_defs.specs.declared.Mark.TheVariants.{Free};
+ghost use Rattle.ice_defs.specs.Log.{IsMultiplier};
+ghost use Rattle.ice_defs.specs.Steps.{with_mark};
+ghost use Rattle.ice_defs.specs.Trade.{tree_of, set_of, is_exact, total_value};
+ghost use Rattle.ice_bound.specs.Answer.{IsAnswer, IsAboveAll};
+ghost use Rattle.ice_bound.specs.Conditions.{AreWeightsOf, AreFixingsOf, AreMultipliersOf};
+ghost use Rattle.ice_bound.specs.Kept.{IsNetAnswer, IsSumOfNets, AreRelaxedSets, IsSmallNet, IsSumOf, net_of, AreTotalUnits};
+
+use crate::answer::{Bound, NetSum};
+use crate::bounds::floor_64th;
+use crate::copy::copy_fixings;
+use crate::desk::NoMemory;
+use crate::found::Found;
+use crate::goods::all_goods;
+use crate::multipliers::Multipliers;
+use crate::total_units::TotalUnits;
+use ice_best::{Fixings, Mark};
+use ice_tree::{AllWeights, Assignment, Tree, Weights};
+use std::alloc::Global;
+use std::marker::Model;
+
+/// The bound of one list of trees at weights that stay, kept at hand while marks and multipliers change. For each bidder
+/// that isn't dead it has a relaxed set: a satisfied set that meets the bidder's fixing and has the greatest net.
+///
+/// Only `new` takes memory.
+#[derive(Drop)]
+pub struct Kept<'a> {
+    trees: &'a [Tree],
+    weights: Vec<Weights>,
+    goods: Vec<[bool; 32]>,
+    marks: Fixings,
+    m: Multipliers,
+    found: Found,
+}
+
+impl<'a> Model for Kept<'a> {
+    ghost use Rattle.ice_bound.specs.Kept.{Standing, IsKept};
+
+    ghost Value = { Standing };
+
+    ghost view = { λ k. record {
+      trees = k.trees.now;
+      weights = k.weights.items;
+      marks = k.marks;
+      multipliers = k.m;
+      exact = k.found.room;
+      sets = k.found.sets;
+    } };
+
+    ghost invariant = { λ k. IsKept (record {
+      trees = k.trees.now;
+      weights = k.weights.items;
+      marks = k.marks;
+      multipliers = k.m;
+      exact = k.found.room;
+      sets = k.found.sets;
+    }) k.found.nets.items k.goods.items };
+}
+
+/// The same weights once more.
+fn copy_weights(tree: &Tree, weights: &Weights) -> Weights
+    requires { length weights.now ≡ length tree.now }
+    ensures { result ≡ weights.now }
+{
+    let mut copy = Weights::zero(tree.nodes());
+    for node in 0..tree.nodes() {
+        copy.put(node, weights.get(node));
+    }
+    copy
+}
+
+/// The weights of all trees once more.
+fn copy_all(alloc: Global, trees: &[Tree], weights: &AllWeights) -> Result<Vec<Weights>, NoMemory>
+    requires few { length trees.now ≤ 40 }
+    requires weights { AreWeightsOf trees.now weights.now }
+    ensures { IfOk result (λ copies. copies.items ≡ weights.now) }
+{
+    let mut copies = Vec::new(alloc);
+    for bidder in 0..trees.len() as u8 {
+        let copy = copy_weights(&trees[bidder as usize], weights.of(bidder));
+        if copies.push(copy).is_err() {
+            return Err(NoMemory);
+        }
+    }
+    Ok(copies)
+}
+
+/// The sum of the nets, or the first place without one.
+fn sum_of(nets: &[Option<i128>]) -> NetSum
+    requires few { length nets.now ≤ 40 }
+    requires small { (b : ℕ) → b < length nets.now → IsSmallNet (net_of nets.now b) }
+    ensures sum { IsSumOf nets.now result }
+{
+    let mut total: i128 = 0;
+    for bidder in 0..nets.len() as u8 {
+        match nets[bidder as usize] {
+            Some(net) => total += net,
+            None => return NetSum::Dead(bidder),
+        }
+    }
+    NetSum::Sum(total)
+}
+
+/// What the sets are worth together at the weights.
+fn value_of(trees: &[Tree], sets: &Assignment, weights: &[Weights]) -> i128
+    requires few { length trees.now ≤ 40 }
+    requires sets { length sets.now ≡ length trees.now }
+    requires nodes { (b : ℕ) → b < length trees.now → length (set_of sets.now b) ≡ length (tree_of trees.now b) }
+    requires weights { AreWeightsOf trees.now weights.now }
+    ensures { result ≡ total_value sets.now weights.now }
+{
+    let mut total: i128 = 0;
+    for bidder in 0..trees.len() as u8 {
+        let place = bidder as usize;
+        let tree = &trees[place];
+        total += tree.value(sets.of(bidder), &weights[place]);
+    }
+    total
+}
+
+impl<'a> Kept<'a> {
+    /// Keeps these trees and a copy of the weights, with all nodes free and all multipliers 0. There is one truth value
+    /// for each good: whether it is exact. Takes all the memory that is needed.
+    ///
+    /// There are at most 40 trees and at most 32 goods, and each weight is at most 100,000,000,000 in size.
+    pub fn new(
+        alloc: Global,
+        trees: &'a [Tree],
+        weights: &AllWeights,
+        exact: &[bool],
+    ) -> Result<Kept<'a>, NoMemory>
+        requires few { length trees.now ≤ 40 }
+        requires goods { length exact.now ≤ 32 }
+        requires weights { AreWeightsOf trees.now weights.now }
+        ensures trees { IfOk result (λ k. k.trees ≡ trees.now) }
+        ensures weights { IfOk result (λ k. k.weights ≡ weights.now) }
+        ensures marks { IfOk result (λ k. k.marks ≡ map (λ t. replicate (length t) Free) trees.now) }
+        ensures multipliers { IfOk result (λ k. k.multipliers ≡ replicate (length exact.now) (pos 0)) }
+        ensures exact { IfOk result (λ k. k.exact ≡ exact.now) }
+    {
+        let weights = copy_all(alloc, trees, weights)?;
+        let goods = all_goods(alloc, trees)?;
+        let Ok(marks) = Fixings::free(alloc, trees) else {
+            return Err(NoMemory);
+        };
+        let m = Multipliers::zero(exact.len() as u8);
+        let mut found = Found::new(alloc, trees, exact)?;
+        found.renew_all(trees, &weights, &m, &marks);
+        Ok(Kept {
+            trees,
+            weights,
+            goods,
+            marks,
+            m,
+            found,
+        })
+    }
+
+    /// The number of bidders.
+    pub fn len(&self) -> u8
+        ensures value { result ≡ length self.now.trees }
+        ensures fits { result ≤ 40 }
+    {
+        self.trees.len() as u8
+    }
+
+    /// Whether the good is exact.
+    pub fn is_exact(&self, good: u8) -> bool
+        requires { good < length self.now.exact }
+        ensures { result ≡ is_exact self.now.exact good }
+    {
+        self.found.room.is_exact(good)
+    }
+
+    /// The marks, one fixing for each bidder.
+    pub fn marks(&self) -> &Fixings
+        ensures value { result.now ≡ self.now.marks }
+        ensures fit { AreFixingsOf self.now.trees self.now.marks }
+    {
+        &self.marks
+    }
+
+    /// The multipliers, one for each good.
+    pub fn multipliers(&self) -> &Multipliers
+        ensures value { result.now ≡ self.now.multipliers }
+        ensures fit { AreMultipliersOf self.now.exact self.now.multipliers }
+    {
+        &self.m
+    }
+
+    /// The relaxed sets, one for each bidder that isn't dead. Where several sets of a bidder have the greatest net it may
+    /// be any of them. What stands in the place of a dead bidder does not matter.
+    pub fn sets(&self) -> &Assignment
+        ensures value { result.now ≡ self.now.sets }
+        ensures relaxed { AreRelaxedSets self.now }
+    {
+        &self.found.sets
+    }
+
+    /// The units of the relaxed sets, one sum for each good. Time: one pass over the nodes.
+    pub fn units(&self) -> TotalUnits
+        ensures { AreTotalUnits self.now.trees self.now.sets result }
+    {
+        TotalUnits::of(self.trees, &self.found.sets)
+    }
+
+    /// What the relaxed sets are worth together. Time: one pass over the nodes.
+    pub fn sets_value(&self) -> i128
+        ensures { result ≡ total_value self.now.sets self.now.weights }
+    {
+        value_of(self.trees, &self.found.sets, &self.weights)
+    }
+
+    /// The sum of the bidders' greatest nets, in 64ths, which is the sum of the relaxed sets' nets; or the first bidder
+    /// that has no satisfied set that meets its fixing.
+    pub fn net_sum(&self) -> NetSum
+        ensures answer { IsNetAnswer self.now.trees self.now.weights self.now.multipliers self.now.marks result }
+        ensures sets { IsSumOfNets self.now result }
+    {
+        sum_of(&self.found.nets)
+    }
+
+    /// The bound of the trees, weights, marks and multipliers as they stand. See `bound`.
+    pub fn bound(&self) -> Bound
+        ensures answer { IsAnswer self.now.trees self.now.weights self.now.multipliers self.now.marks result }
+        ensures above { IsAboveAll self.now.trees self.now.exact self.now.weights self.now.marks result }
+    {
+        match sum_of(&self.found.nets) {
+            NetSum::Dead(bidder) => Bound::Dead(bidder),
+            NetSum::Sum(total) => Bound::AtMost(floor_64th(total)),
+        }
+    }
+
+    /// Gives a node of a bidder's tree another mark. Time: one recursion over that tree.
+    pub fn mark(&mut self, bidder: u8, node: u16, mark: Mark)
+        requires bidder { bidder < length self.old.trees }
+        requires node { node < length (tree_of self.old.trees bidder) }
+        ensures trees { self.new.trees ≡ self.old.trees }
+        ensures weights { self.new.weights ≡ self.old.weights }
+        ensures marks { self.new.marks ≡ with_mark self.old.marks bidder node mark }
+        ensures multipliers { self.new.multipliers ≡ self.old.multipliers }
+        ensures exact { self.new.exact ≡ self.old.exact }
+    {
+        let trees = self.trees;
+        let place = bidder as usize;
+        self.marks.mark(bidder, node, mark);
+        self.found.renew(
+            bidder,
+            &trees[place],
+            &self.weights[place],
+            &self.m,
+            self.marks.of(bidder),
+        );
+    }
+
+    /// Gives a good another multiplier, from -2^56 to 2^56, and 0 or more where the good isn't exact. Time: one recursion
+    /// over each tree that has a leaf of the good.
+    pub fn multiplier(&mut self, good: u8, number: i64)
+        requires good { good < length self.old.exact }
+        requires number { IsMultiplier (is_exact self.old.exact good) number }
+        ensures trees { self.new.trees ≡ self.old.trees }
+        ensures weights { self.new.weights ≡ self.old.weights }
+        ensures marks { self.new.marks ≡ self.old.marks }
+        ensures multipliers { self.new.multipliers ≡ slice_set self.old.multipliers good number }
+        ensures exact { self.new.exact ≡ self.old.exact }
+    {
+        self.found.renew_good(
+            self.trees,
+            &self.weights,
+            &mut self.m,
+            &self.marks,
+            &self.goods,
+            good,
+            number,
+        );
+    }
+
+    /// Gives all goods other multipliers. Time: one recursion over each tree.
+    pub fn put_multipliers(&mut self, m: &Multipliers)
+        requires { AreMultipliersOf self.old.exact m.now }
+        ensures trees { self.new.trees ≡ self.old.trees }
+        ensures weights { self.new.weights ≡ self.old.weights }
+        ensures marks { self.new.marks ≡ self.old.marks }
+        ensures multipliers { self.new.multipliers ≡ m.now }
+        ensures exact { self.new.exact ≡ self.old.exact }
+    {
+        self.m = m.copy();
+        self.found
+            .renew_all(self.trees, &self.weights, &self.m, &self.marks);
+    }
+
+    /// Takes these marks and multipliers in the place of all others. Time: one recursion over each tree.
+    pub fn put_side(&mut self, marks: &Fixings, m: &Multipliers)
+        requires marks { AreFixingsOf self.old.trees marks.now }
+        requires multipliers { AreMultipliersOf self.old.exact m.now }
+        ensures trees { self.new.trees ≡ self.old.trees }
+        ensures weights { self.new.weights ≡ self.old.weights }
+        ensures marks { self.new.marks ≡ marks.now }
+        ensures multipliers { self.new.multipliers ≡ m.now }
+        ensures exact { self.new.exact ≡ self.old.exact }
+    {
+        copy_fixings(&mut self.marks, marks);
+        self.m = m.copy();
+        self.found
+            .renew_all(self.trees, &self.weights, &self.m, &self.marks);
+    }
+}
