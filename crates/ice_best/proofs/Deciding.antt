@@ -1,53 +1,24 @@
 -- The test `is_satisfied` decides which sets are satisfied.
-use Rattle.std.proofs.Common.{ℕ, zero, suc, ◌<◌, ◌≤◌, ◌≡◌, Bool, true, false, cond, ◌&&◌, not, ltb, List, [], ◌∷◌, ◌++◌, length, Option, Some, None, refl, arith, ap, sym, ◌∙◌, ◌⊎◌, inl, inr, subst}
+use Rattle.std.proofs.Common.{ℕ, ◌<◌, ◌≤◌, ◌≡◌, Bool, true, false, cond, ◌&&◌, not, ltb, [], ◌∷◌, length, Option, Some, None, refl, arith, ap, ◌∙◌, ◌⊎◌, inl, inr, subst}
 use Rattle.std.specs.Prelude.{is_none, filter_map}
 use Rattle.std.proofs.lemmas.Bool.{cases_lt, both_ways, and_parts, and_from, and_left, and_right, eqb-true, eq-eqb, lt-ltb, le-ltb}
 use Rattle.std.proofs.lemmas.Bool.Decides.{nat_tests}
-use Rattle.std.proofs.lemmas.List.Elements.{filter_map-append}
 use Rattle.ice_defs.specs.declared.NodeKind.{NodeKind}
 use Rattle.ice_defs.specs.declared.NodeKind.TheVariants.{Choose, Buy, Sell}
 use Rattle.ice_defs.specs.declared.SatRule.{SatRule}
 use Rattle.ice_defs.specs.declared.SatRule.TheVariants.{Parent}
-use Rattle.ice_defs.specs.Sum.{numbers_below}
 use Rattle.ice_defs.specs.Tree.{Tree, kind_of, parent_of}
 use Rattle.ice_defs.specs.Set.{NodeSet, has, IsSatisfied, IsWithin, children_inside}
 use Rattle.ice_defs.specs.SetFault.{count_fault, fault_at, first_in, is_satisfied}
+use Rattle.ice_defs.proofs.Lists.{first_in-none}
+use Rattle.ice_defs.proofs.Below.{filter_map-none, filter_map-each}
+use Rattle.ice_defs.proofs.Choices.{is_none-true}
 
 -- ---- the first of some options
-
-first_in-none : {X : Type 0} (xs : List X) → first_in xs ≡ None → xs ≡ []
-first_in-none [] e = refl
-first_in-none (x ∷ xs) e = cc
-
-append_empty : {X : Type 0} (xs ys : List X) → xs ++ ys ≡ [] → (xs ≡ []) × (ys ≡ [])
-append_empty [] ys e = (refl, e)
-append_empty (x ∷ xs) ys e = absurd (cc)
 
 one_none : {X : Type 0} (o : Option X) → filter_map (λ (n : ℕ). o) (0 ∷ []) ≡ [] → o ≡ None
 one_none None e = refl
 one_none (Some x) e = absurd (cc)
-
--- the filter keeps nothing exactly where each number below n has None
-none_below : {X : Type 0} (f : ℕ → Option X) (n : ℕ) → ((k : ℕ) → k < n → f k ≡ None) → filter_map f (numbers_below n) ≡ []
-none_below f zero none = refl
-none_below f (suc n) none =
-    filter_map-append f (numbers_below n) (n ∷ [])
-    ∙ ap (λ l. l ++ filter_map f (n ∷ [])) (none_below f n (λ k h. none k (omega arith)))
-    ∙ ap (λ o. filter_map (λ (k : ℕ). o) (0 ∷ [])) (none n (omega arith))
-
-each_none : {X : Type 0} (f : ℕ → Option X) (n : ℕ) → filter_map f (numbers_below n) ≡ [] → (k : ℕ) → k < n → f k ≡ None
-each_none f zero e k h = absurd (omega arith)
-each_none f (suc n) e k h = by (append_empty _ _ (sym (filter_map-append f (numbers_below n) (n ∷ [])) ∙ e)) (cases_lt k n) (λ none l. each_none f n none k l)
-  where
-    by : (filter_map f (numbers_below n) ≡ []) × (filter_map f (n ∷ []) ≡ []) → (k < n) ⊎ (n ≤ k) → (filter_map f (numbers_below n) ≡ [] → k < n → f k ≡ None) → f k ≡ None
-    by both (inl l) before = before both.0 l
-    by both (inr l) before =
-        let last : n ≡ k = omega arith in
-        subst (λ j. f j ≡ None) last (one_none (f n) both.1)
-
-is_none-true : {X : Type 0} (o : Option X) → is_none o ≡ true → o ≡ None
-is_none-true None e = refl
-is_none-true (Some x) e = absurd (cc)
 
 -- ---- the faults of a node
 
@@ -99,9 +70,9 @@ module _ (t : Tree) (s : NodeSet) where
   pub is_satisfied-true : is_satisfied t s ≡ true → IsSatisfied t s
   is_satisfied-true e =
       let both = and_parts _ _ e in
-      satisfied (eqb-true _ _ both.0) (each_none (fault_at t s) (length t) (first_in-none _ (is_none-true _ both.1)))
+      satisfied (eqb-true _ _ both.0) (filter_map-each (fault_at t s) (length t) (first_in-none _ (is_none-true _ both.1)))
 
   pub is_satisfied-from : IsSatisfied t s → is_satisfied t s ≡ true
   is_satisfied-from sat =
       and_from _ _ (eq-eqb _ _ sat.same_length)
-      (ap (λ l. is_none (first_in l)) (none_below (fault_at t s) (length t) (no_fault sat)))
+      (ap (λ l. is_none (first_in l)) (filter_map-none (fault_at t s) (length t) (no_fault sat)))

@@ -13,12 +13,13 @@ use Rattle.ice_defs.specs.Tree.{Tree, kind_of}
 use Rattle.ice_defs.specs.Set.{NodeSet, has, IsSatisfied, Weights, weight_of, value, leaf_units, units}
 use Rattle.ice_defs.specs.SetFault.{is_satisfied}
 use Rattle.ice_defs.specs.Sale.{all_sets, satisfied_sets, greatest_sale}
-use Rattle.ice_defs.specs.Fixing.{Fixing, Agrees, Meets}
+use Rattle.ice_defs.specs.Fixing.{Fixing, Meets}
 use Rattle.ice_defs.specs.Bound.{IsOpen}
 use Rattle.ice_defs.specs.Greatest.{IsGreatest}
-use Rattle.ice_defs.proofs.Sums.{sum_below-add, sum_below-zero}
+use Rattle.ice_defs.proofs.Sums.{sum_below-add, sum_below-zero, sum_below-low, sum_below-high}
 use Rattle.ice_best.proofs.NewEntry.{weight_of-put_same, weight_of-put_other}
 use Rattle.ice_best.proofs.Deciding.{is_satisfied-true, is_satisfied-from}
+use Rattle.ice_defs.proofs.NodeSets.{meets_free}
 
 -- ---- lists
 
@@ -127,10 +128,6 @@ value-sold t s w g each size =
     by n true e = omega (arith, ints)
     by n false e = refl
 
--- with every node free each set meets the fixing
-meets_free : (s : NodeSet) (m : ℕ) → Meets s (replicate m Free)
-meets_free s m n h = subst (λ y. Agrees y (has s n)) (sym (alike m n Free)) tt
-
 -- the empty set is open where every node is free
 pub empty_open : (t : Tree) (x : Fixing) → x ≡ replicate (length t) Free → IsOpen t x (replicate (length t) false)
 empty_open t x e = (empty_satisfied t, subst (Meets (replicate (length t) false)) (sym e) (meets_free (replicate (length t) false) (length t)))
@@ -146,15 +143,6 @@ sale_greatest t w x g v each free is =
           let under = is.bound r (ok, subst (Meets r) (sym free) (meets_free r (length t))) in
           omega (arith, ints, under, value-sold t r w g each ok.same_length);
     }
-
--- a sum of so many terms between two bounds
-sum_below-low : (f : ℕ → ℤ) (n m : ℕ) → ((k : ℕ) → k < n → neg_ℤ (pos m) ≤ℤ f k) → neg_ℤ (pos (n * m)) ≤ℤ sum_below f n
-sum_below-low f zero m each = omega (arith, ints)
-sum_below-low f (suc n) m each = omega (arith, ints, sum_below-low f n m (λ k h. each k (omega arith)), each n (omega arith))
-
-sum_below-high : (f : ℕ → ℤ) (n m : ℕ) → ((k : ℕ) → k < n → f k ≤ℤ pos m) → sum_below f n ≤ℤ pos (n * m)
-sum_below-high f zero m each = omega (arith, ints)
-sum_below-high f (suc n) m each = omega (arith, ints, sum_below-high f n m (λ k h. each k (omega arith)), each n (omega arith))
 
 -- what is sold at most is no more than the nodes' weights allow
 pub sale-small : (t : Tree) (w : Weights) (x : Fixing) (v : ℤ) → length t ≤ 200

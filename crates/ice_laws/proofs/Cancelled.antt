@@ -9,7 +9,7 @@ use Rattle.ice_defs.specs.Bounds.{Bounds, bounds_of, IsInside, IsProfile}
 use Rattle.ice_defs.specs.Weighing.{lower_weights, perturbed_list, perturbed_weights}
 use Rattle.ice_defs.proofs.Sums.{sum_below-le, sum_below-add}
 use Rattle.ice_defs.proofs.Products.{sum_below-times}
-use Rattle.ice_laws.proofs.Weights.{weight_of-perturbed_list, weights_of-lower, weights_of-perturbed}
+use Rattle.ice_defs.proofs.Weights.{weight_of-perturbed_list, weights_of-lower, weights_of-perturbed}
 
 -- a node of both sets counts as much on both sides, one of the first alone at most its upper value, and one of the second alone at least its lower value
 node-le : (one final : Bool) (k : ℕ) (lo hi v : ℤ) → (pos k *ℤ lo) ≤ℤ v → v ≤ℤ (pos k *ℤ hi)

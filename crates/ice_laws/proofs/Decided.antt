@@ -1,6 +1,5 @@
 -- It is decided whether a set serves a trade.
-use Rattle.std.proofs.Common.{ℕ, zero, suc, ◌<◌, ◌≤◌, ◌≡◌, Bool, true, false, IsTrue, List, length, ℤ, refl, arith, ◌⊎◌, inl, inr, subst}
-use Rattle.std.proofs.lemmas.Int.{ints, by_lt_z}
+use Rattle.std.proofs.Common.{ℕ, ◌<◌, ◌≤◌, ◌≡◌, Bool, true, false, IsTrue, List, length, refl, arith, ◌⊎◌, inl, inr}
 use Rattle.std.proofs.lemmas.Bool.{cases_lt}
 use Rattle.ice_defs.specs.declared.NodeKind.{NodeKind}
 use Rattle.ice_defs.specs.declared.NodeKind.TheVariants.{Choose, Buy, Sell}
@@ -8,35 +7,7 @@ use Rattle.ice_defs.specs.Tree.{Tree, kind_of, parent_of}
 use Rattle.ice_defs.specs.Set.{NodeSet, has, children_inside, IsWithin, IsSatisfied, units}
 use Rattle.ice_defs.specs.Trade.{is_exact, IsCovered}
 use Rattle.ice_defs.specs.Market.{Trade, Fits, Serves}
-
--- it holds, or it doesn't
-abbrev pub IsDecided : Type 0 → Type 0
-IsDecided A = A ⊎ (A → ⊥)
-
--- ---- facts made of others
-
-decided_both : {A B : Type 0} → IsDecided A → IsDecided B → IsDecided (A × B)
-decided_both (inl a) (inl b) = inl (a, b)
-decided_both (inl a) (inr refuted) = inr (λ both. refuted both.1)
-decided_both (inr refuted) b = inr (λ both. refuted both.0)
-
-decided_implied : {A B : Type 0} → IsDecided A → IsDecided B → IsDecided (A → B)
-decided_implied (inr refuted) b = inl (λ a. absurd (refuted a))
-decided_implied (inl a) (inl b) = inl (λ _. b)
-decided_implied (inl a) (inr refuted) = inr (λ all. refuted (all a))
-
-decided_below : (Is : ℕ → Type 0) (n : ℕ) → ((k : ℕ) → IsDecided (Is k)) → IsDecided ((k : ℕ) → k < n → Is k)
-decided_below Is zero each = inl (λ k h. absurd (omega arith))
-decided_below Is (suc n) each = by (decided_below Is n each) (each n)
-  where
-    by : IsDecided ((k : ℕ) → k < n → Is k) → IsDecided (Is n) → IsDecided ((k : ℕ) → k < suc n → Is k)
-    by (inr refuted) last = inr (λ all. refuted (λ k h. all k (omega arith)))
-    by (inl before) (inr refuted) = inr (λ all. refuted (all n (omega arith)))
-    by (inl before) (inl last) = inl (λ k h. at k (cases_lt k n) h)
-      where
-        at : (k : ℕ) → (k < n) ⊎ (n ≤ k) → k < suc n → Is k
-        at k (inl l) h = before k l
-        at k (inr l) h = let e : n ≡ k = omega arith in subst Is e last
+use Rattle.ice_defs.proofs.Decided.{decided_both, decided_below, decided_covered, decided_implied, IsDecided}
 
 -- ---- numbers and truth values
 
@@ -57,12 +28,6 @@ decided_le m n = by (cases_lt n m)
     by : (n < m) ⊎ (m ≤ n) → IsDecided (m ≤ n)
     by (inl l) = inr (λ h. absurd (omega (arith, h, l)))
     by (inr l) = inl l
-
-decided_covered : (exact : Bool) (used given : ℤ) → IsDecided (IsCovered exact used given)
-decided_covered true used given =
-    by_lt_z used given (λ less. inr (λ e. absurd (omega (arith, ints, less, e))))
-    (λ le. by_lt_z given used (λ less. inr (λ e. absurd (omega (arith, ints, less, e)))) (λ ge. inl (omega (arith, ints, le, ge))))
-decided_covered false used given = by_lt_z given used (λ less. inr (λ h. absurd (omega (arith, ints, less, h)))) (λ le. inl le)
 
 -- ---- sets
 

@@ -4,7 +4,9 @@ use Rattle.std.proofs.lemmas.Int.{ints, by_lt_z}
 use Rattle.ice_defs.specs.Tree.{Tree}
 use Rattle.ice_defs.specs.Set.{NodeSet, Weights, value}
 use Rattle.ice_defs.specs.Market.{Trade, Serves, IsWorth}
-use Rattle.ice_laws.proofs.Decided.{IsDecided, decided_serves}
+use Rattle.ice_laws.proofs.Decided.{decided_serves}
+use Rattle.ice_defs.proofs.NodeSets.{set_of_none, set_of_more}
+use Rattle.ice_defs.proofs.Decided.{IsDecided}
 
 abbrev NoneIs : ℕ → (NodeSet → Type 0) → Type 0
 NoneIs n Is = (s : NodeSet) → length s ≡ n → Is s → ⊥
@@ -13,23 +15,12 @@ NoneIs n Is = (s : NodeSet) → length s ≡ n → Is s → ⊥
 abbrev HasGreatest : ℕ → (NodeSet → Type 0) → (NodeSet → ℤ) → Type 0
 HasGreatest n Is size = (best : NodeSet) × Is best × ((s : NodeSet) → length s ≡ n → Is s → size s ≤ℤ size best)
 
--- a set of no node
-only : (P : NodeSet → Type 0) → P [] → (s : NodeSet) → length s ≡ 0 → P s
-only P here [] same = here
-only P here (x ∷ s) same = absurd (omega arith)
-
--- a set of one node more
-each : (n : ℕ) (P : NodeSet → Type 0) → ((s : NodeSet) → length s ≡ n → P (false ∷ s)) → ((s : NodeSet) → length s ≡ n → P (true ∷ s)) → (s : NodeSet) → length s ≡ suc n → P s
-each n P without inside [] same = absurd (omega arith)
-each n P without inside (false ∷ s) same = without s (omega arith)
-each n P without inside (true ∷ s) same = inside s (omega arith)
-
 none_or_greatest : (n : ℕ) (Is : NodeSet → Type 0) (size : NodeSet → ℤ) → ((s : NodeSet) → length s ≡ n → IsDecided (Is s)) → NoneIs n Is ⊎ HasGreatest n Is size
 none_or_greatest zero Is size decided = by (decided [] refl)
   where
     by : IsDecided (Is []) → NoneIs zero Is ⊎ HasGreatest zero Is size
-    by (inl is) = inr ([], is, only (λ s. Is s → size s ≤ℤ size []) (λ h. omega (arith, ints)))
-    by (inr refuted) = inl (only (λ s. Is s → ⊥) refuted)
+    by (inl is) = inr ([], is, set_of_none (λ s. Is s → size s ≤ℤ size []) (λ h. omega (arith, ints)))
+    by (inr refuted) = inl (set_of_none (λ s. Is s → ⊥) refuted)
 none_or_greatest (suc n) Is size decided =
     by (none_or_greatest n (λ s. Is (false ∷ s)) (λ s. size (false ∷ s)) (λ s e. decided (false ∷ s) (omega (arith, e))))
     (none_or_greatest n (λ s. Is (true ∷ s)) (λ s. size (true ∷ s)) (λ s e. decided (true ∷ s) (omega (arith, e))))
@@ -37,13 +28,13 @@ none_or_greatest (suc n) Is size decided =
     by : (NoneIs n (λ s. Is (false ∷ s)) ⊎ HasGreatest n (λ s. Is (false ∷ s)) (λ s. size (false ∷ s)))
         → (NoneIs n (λ s. Is (true ∷ s)) ⊎ HasGreatest n (λ s. Is (true ∷ s)) (λ s. size (true ∷ s)))
         → NoneIs (suc n) Is ⊎ HasGreatest (suc n) Is size
-    by (inl none) (inl none') = inl (each n (λ s. Is s → ⊥) none none')
-    by (inr (a, is, most)) (inl none) = inr (false ∷ a, is, each n (λ s. Is s → size s ≤ℤ size (false ∷ a)) most (λ s same h. absurd (none s same h)))
-    by (inl none) (inr (b, is, most)) = inr (true ∷ b, is, each n (λ s. Is s → size s ≤ℤ size (true ∷ b)) (λ s same h. absurd (none s same h)) most)
+    by (inl none) (inl none') = inl (set_of_more n (λ s. Is s → ⊥) none none')
+    by (inr (a, is, most)) (inl none) = inr (false ∷ a, is, set_of_more n (λ s. Is s → size s ≤ℤ size (false ∷ a)) most (λ s same h. absurd (none s same h)))
+    by (inl none) (inr (b, is, most)) = inr (true ∷ b, is, set_of_more n (λ s. Is s → size s ≤ℤ size (true ∷ b)) (λ s same h. absurd (none s same h)) most)
     by (inr (a, is, most)) (inr (b, is', most')) =
         by_lt_z (size (false ∷ a)) (size (true ∷ b))
-        (λ less. inr (true ∷ b, is', each n (λ s. Is s → size s ≤ℤ size (true ∷ b)) (λ s same h. omega (arith, ints, most s same h, less)) most'))
-        (λ le. inr (false ∷ a, is, each n (λ s. Is s → size s ≤ℤ size (false ∷ a)) most (λ s same h. omega (arith, ints, most' s same h, le))))
+        (λ less. inr (true ∷ b, is', set_of_more n (λ s. Is s → size s ≤ℤ size (true ∷ b)) (λ s same h. omega (arith, ints, most s same h, less)) most'))
+        (λ le. inr (false ∷ a, is, set_of_more n (λ s. Is s → size s ≤ℤ size (false ∷ a)) most (λ s same h. omega (arith, ints, most' s same h, le))))
 
 pub worth_there : (exact : List Bool) (t : Tree) (v : Weights) (trade : Trade) (s : NodeSet) → Serves exact t trade s → (worth : ℤ) × IsWorth exact t v trade worth
 worth_there exact t v trade s serves = by (none_or_greatest (length t) (Serves exact t trade) (λ s. value s v) (decided_serves exact t trade))

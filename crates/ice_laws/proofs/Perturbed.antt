@@ -12,9 +12,9 @@ use Rattle.ice_defs.proofs.Sums.{sum_below-same}
 use Rattle.ice_defs.proofs.Products.{times_add, times-le}
 use Rattle.ice_laws.specs.Laws.{PerturbedGivesRegret, PerturbedAttains}
 use Rattle.ice_defs.proofs.Multiples.{one_time}
-use Rattle.ice_laws.proofs.Weights.{length-perturbed_list, weight_of-perturbed_list, weights_of-lower, length-perturbed, weights_of-perturbed}
 use Rattle.ice_laws.proofs.Cancelled.{total-le}
 use Rattle.ice_laws.proofs.Regrets.{regret_is_one}
+use Rattle.ice_defs.proofs.Weights.{length-perturbed_list, weight_of-perturbed_list, weights_of-lower, length-perturbed, weights_of-perturbed}
 
 -- ---- perturbed weights are a profile
 

@@ -8,7 +8,7 @@ use Rattle.ice_defs.specs.declared.NodeKind.TheVariants.{Choose, Buy, Sell}
 use Rattle.ice_defs.specs.Tree.{Tree, kind_of, children_of}
 use Rattle.ice_defs.specs.Making.{close_refusal, node_refusal}
 use Rattle.ice_defs.specs.FileFault.{Path, Read, refuse, ◌>>=◌}
-use Rattle.ice_tree.proofs.Growing.{old_node, last_node, children_of-new, children_of-other}
+use Rattle.ice_tree.proofs.MoreNodes.{old_node, last_node, children_of-new, children_of-other}
 use Rattle.serde_json.specs.Data.{Data, Items, no_items, item}
 use Rattle.serde_json.specs.Events.{items_len}
 use Rattle.ice_read.specs.Values.{at_index, at_member, of_member, array_of, whole_of, natural}

@@ -1,35 +1,21 @@
 -- The children of a node, and those of them that are inside a set.
-use Rattle.std.proofs.Common.{ℕ, zero, suc, ◌+◌, ◌<◌, ◌≤◌, ◌≡◌, Bool, true, false, cond, ◌&&◌, List, [], ◌∷◌, ◌++◌, length, get_or, refl, arith, ap, sym, ◌∙◌, ◌⊎◌, inl, inr, length-append}
+use Rattle.std.proofs.Common.{ℕ, zero, suc, ◌+◌, ◌<◌, ◌≤◌, ◌≡◌, Bool, true, false, cond, ◌&&◌, List, [], ◌∷◌, ◌++◌, length, refl, arith, ap, sym, ◌∙◌, ◌⊎◌, inl, inr, length-append}
 use Rattle.std.specs.Prelude.{count_by}
 use Rattle.std.specs.List.{All, filter}
 use Rattle.std.proofs.lemmas.Bool.{cases_lt}
-use Rattle.std.proofs.lemmas.List.{get_or_append_left, get_or_at}
 use Rattle.std.proofs.lemmas.List.Elements.{filter-append, All-filter, All-from_get_or}
 use Rattle.std.proofs.lemmas.List.Sums.{length-filter}
 use Rattle.ice_defs.specs.Sum.{numbers_below, count_below}
 use Rattle.ice_defs.specs.Tree.{Tree, IsTree, parent_of, is_child, children_of}
 use Rattle.ice_defs.specs.Set.{NodeSet, has, children_inside}
-
-pub length-numbers_below : (n : ℕ) → length (numbers_below n) ≡ n
-length-numbers_below zero = refl
-length-numbers_below (suc n) = omega (arith, length-append (numbers_below n) (n ∷ []), length-numbers_below n)
-
-pub get_or-numbers_below : (n i : ℕ) → i < n → get_or (numbers_below n) i 0 ≡ i
-get_or-numbers_below zero i h = absurd (omega arith)
-get_or-numbers_below (suc n) i h = by (cases_lt i n) (λ l. get_or-numbers_below n i l)
-  where
-    by : (i < n) ⊎ (n ≤ i) → (i < n → get_or (numbers_below n) i 0 ≡ i) → get_or (numbers_below n ++ n ∷ []) i 0 ≡ i
-    by (inl l) before = get_or_append_left (numbers_below n) (n ∷ []) 0 i (omega (arith, length-numbers_below n)) ∙ before l
-    by (inr l) before =
-        let here : n ≡ i = omega arith in
-        get_or_at (numbers_below n) n [] 0 i (length-numbers_below n ∙ here) ∙ here
+use Rattle.ice_defs.proofs.Below.{length-numbers_below, get_or-numbers_below}
 
 -- a node's children are nodes
 pub children_of-inside : (t : Tree) (p : ℕ) → All (λ c. c < length t) (children_of t p)
 children_of-inside t p =
     All-filter (is_child t p) (λ c. c < length t) (numbers_below (length t))
     (All-from_get_or (λ c. c < length t) (numbers_below (length t)) 0
-    (λ i h. omega (arith, length-numbers_below (length t), get_or-numbers_below (length t) i (omega (arith, length-numbers_below (length t))))))
+    (λ i h. omega (arith, length-numbers_below (length t), get_or-numbers_below (length t) i 0 (omega (arith, length-numbers_below (length t))))))
 
 -- a node's parent is a node
 pub parent_of-inside : (t : Tree) (n : ℕ) → IsTree t → n < length t → parent_of t n < length t

@@ -1,5 +1,5 @@
 -- Counts of the numbers below a bound that pass a test.
-use Rattle.std.proofs.Common.{ℕ, zero, suc, ◌+◌, ◌≤◌, ◌≡◌, Bool, true, false, cond, [], ◌∷◌, ◌++◌, length, refl, arith, ap, ◌∙◌, length-append}
+use Rattle.std.proofs.Common.{ℕ, ◌+◌, ◌≡◌, Bool, true, false, cond, [], ◌∷◌, length, refl, ap, ◌∙◌, length-append}
 use Rattle.std.proofs.lemmas.List.Elements.{filter-append}
 use Rattle.std.specs.List.{filter}
 use Rattle.std.proofs.Math.Numerals.{add-one}
@@ -16,15 +16,3 @@ length-filter_more p n =
     by : (b : Bool) → length (cond b (n ∷ []) []) ≡ cond b 1 0
     by true = refl
     by false = refl
-
-pub length-filter-le : (p : ℕ → Bool) (n : ℕ) → length (filter p (numbers_below n)) ≤ n
-length-filter-le p zero = omega arith
-length-filter-le p (suc n) = by (p n) (omega (arith, ap length (filter-append p (numbers_below n) (n ∷ [])), length-append (filter p (numbers_below n)) (filter p (n ∷ [])))) (length-filter-le p n)
-  where
-    by : (b : Bool) → length (filter p (numbers_below n ++ n ∷ [])) ≡ length (filter p (numbers_below n)) + length (filter p (n ∷ [])) → length (filter p (numbers_below n)) ≤ n
-        → length (filter p (numbers_below n ++ n ∷ [])) ≤ suc n
-    by b e h = omega (arith, last (p n))
-      where
-        last : (b : Bool) → length (cond b (n ∷ []) []) ≤ 1
-        last true = omega arith
-        last false = omega arith

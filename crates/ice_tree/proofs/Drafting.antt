@@ -13,8 +13,8 @@ use Rattle.ice_defs.specs.Set.{weight_of}
 use Rattle.ice_defs.specs.Making.{TreeDraft, innermost, with_open, is_value, is_lawful_kind, node_refusal, draft_refusal, is_complete}
 use Rattle.ice_defs.specs.Lawful.{IsLimitedKind, IsLimitedTree, IsDepth, AreBounds}
 use Rattle.ice_tree.specs.Making.{IsLeaf, IsMaking, IsGrown, AreCounts, HasDepths, one_child_more, Making, all_but_first, with_closed, draft_of, kind_close_refusal, draft_close_refusal}
-use Rattle.ice_tree.proofs.Counting.{length-filter-le}
-use Rattle.ice_tree.proofs.Growing.{last_of, old_node, last_node, children_of-new, children_of-other, children_of-past, size, old_parent, last_parent, parent_there, first, no_path, IsGrown-leaf, IsGrown-open, IsGrown-close, IsTree-from_grown}
+use Rattle.ice_tree.proofs.MoreNodes.{last_of, old_node, last_node, children_of-new, children_of-other, children_of-past, size, old_parent, last_parent, parent_there, first, no_path, IsGrown-leaf, IsGrown-open, IsGrown-close, IsTree-from_grown}
+use Rattle.ice_defs.proofs.Below.{filter-few}
 
 -- ---- the path
 
@@ -325,7 +325,7 @@ module _ (goods : ℕ) (nodes : List Node) (lo hi : List ℤ) (children path : L
   few_children n room = by (cases_lt n (length nodes))
     where
       by : (n < length nodes) ⊎ (length nodes ≤ n) → get_or children n 0 < 200
-      by (inl o) = omega (arith, m.counts.are n o, length-filter-le (is_child nodes n) (length nodes))
+      by (inl o) = omega (arith, m.counts.are n o, filter-few (is_child nodes n) (length nodes))
       by (inr o) = omega (arith, get_or_past children n 0 (omega (arith, m.counts.there)))
 
   pub open_node_in : 0 < length path → last_of path < length nodes

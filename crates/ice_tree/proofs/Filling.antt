@@ -9,6 +9,9 @@ use Rattle.ice_defs.specs.Trade.{Assignment, weights_of, set_of}
 use Rattle.ice_defs.specs.Bounds.{Bounds, bounds_of, no_bounds}
 use Rattle.ice_defs.specs.Weighing.{weighted, weighted_list, perturbed_list, lower_weights, weighted_weights, perturbed_weights}
 use Rattle.ice_tree.specs.Alike.{AreAlike}
+pub use Rattle.ice_defs.proofs.Weights.{length-perturbed_list, weights_of-lower, length-perturbed, weights_of-perturbed}
+pub use Rattle.ice_defs.proofs.Weights.{weight_of-perturbed_list as get_or-perturbed_list}
+use Rattle.ice_defs.proofs.Weights.{weight_of-perturbed_list}
 
 -- ---- products
 
@@ -42,21 +45,6 @@ get_or-weighted_list w (lo ∷ los) [] n e h = absurd (omega arith)
 get_or-weighted_list w (lo ∷ los) (hi ∷ his) zero e h = refl
 get_or-weighted_list w (lo ∷ los) (hi ∷ his) (suc n) e h = get_or-weighted_list w los his n (omega arith) (omega arith)
 
-pub length-perturbed_list : (s : NodeSet) (los his : List ℤ) → length his ≡ length los → length (perturbed_list s los his) ≡ length los
-length-perturbed_list s [] his e = refl
-length-perturbed_list s (lo ∷ los) [] e = absurd (omega arith)
-length-perturbed_list [] (lo ∷ los) (hi ∷ his) e = omega (arith, length-perturbed_list [] los his (omega arith))
-length-perturbed_list (inside ∷ s) (lo ∷ los) (hi ∷ his) e = omega (arith, length-perturbed_list s los his (omega arith))
-
-pub get_or-perturbed_list : (s : NodeSet) (los his : List ℤ) (n : ℕ) → length his ≡ length los → n < length los
-    → weight_of (perturbed_list s los his) n ≡ cond (has s n) (weight_of los n) (weight_of his n)
-get_or-perturbed_list s [] his n e h = absurd (omega arith)
-get_or-perturbed_list s (lo ∷ los) [] n e h = absurd (omega arith)
-get_or-perturbed_list [] (lo ∷ los) (hi ∷ his) zero e h = refl
-get_or-perturbed_list [] (lo ∷ los) (hi ∷ his) (suc n) e h = get_or-perturbed_list [] los his n (omega arith) (omega arith)
-get_or-perturbed_list (inside ∷ s) (lo ∷ los) (hi ∷ his) zero e h = refl
-get_or-perturbed_list (inside ∷ s) (lo ∷ los) (hi ∷ his) (suc n) e h = get_or-perturbed_list s los his n (omega arith) (omega arith)
-
 pub lower_filled : (ws los : List ℤ) → length ws ≡ length los → ((k : ℕ) → k < length los → weight_of ws k ≡ weight_of los k) → ws ≡ los
 lower_filled ws los e each = ext_get_or (pos 0) ws los e (λ k h. each k (omega (arith, e)))
 
@@ -70,34 +58,18 @@ pub perturbed_filled : (s : NodeSet) (ws los his : List ℤ) → length ws ≡ l
     → ((k : ℕ) → k < length los → weight_of ws k ≡ cond (has s k) (weight_of los k) (weight_of his k)) → ws ≡ perturbed_list s los his
 perturbed_filled s ws los his e f each =
     ext_get_or (pos 0) ws (perturbed_list s los his) (e ∙ sym (length-perturbed_list s los his f))
-    (λ k h. each k (omega (arith, e)) ∙ sym (get_or-perturbed_list s los his k f (omega (arith, e))))
+    (λ k h. each k (omega (arith, e)) ∙ sym (weight_of-perturbed_list s los his k f (omega (arith, e))))
 
 -- ---- all bidders
 
-pub weights_of-lower : (bounds : List Bounds) (b : ℕ) → b < length bounds → weights_of (lower_weights bounds) b ≡ (bounds_of bounds b).lo
-weights_of-lower bounds b h = get_or-map (λ (x : Bounds). x.lo) bounds b no_bounds [] h
-
 pub weights_of-weighted : (w : ℕ) (bounds : List Bounds) (b : ℕ) → b < length bounds → weights_of (weighted_weights w bounds) b ≡ weighted_list w (bounds_of bounds b).lo (bounds_of bounds b).hi
 weights_of-weighted w bounds b h = get_or-map (λ (x : Bounds). weighted_list w x.lo x.hi) bounds b no_bounds [] h
-
-pub weights_of-perturbed : (chosen : Assignment) (bounds : List Bounds) (b : ℕ) → b < length bounds
-    → weights_of (perturbed_weights chosen bounds) b ≡ perturbed_list (set_of chosen b) (bounds_of bounds b).lo (bounds_of bounds b).hi
-weights_of-perturbed chosen [] b h = absurd (omega arith)
-weights_of-perturbed [] (x ∷ bounds) zero h = refl
-weights_of-perturbed [] (x ∷ bounds) (suc b) h = weights_of-perturbed [] bounds b (omega arith)
-weights_of-perturbed (s ∷ chosen) (x ∷ bounds) zero h = refl
-weights_of-perturbed (s ∷ chosen) (x ∷ bounds) (suc b) h = weights_of-perturbed chosen bounds b (omega arith)
 
 pub length-lower : (bounds : List Bounds) → length (lower_weights bounds) ≡ length bounds
 length-lower bounds = length-map bounds (λ (x : Bounds). x.lo)
 
 pub length-weighted : (w : ℕ) (bounds : List Bounds) → length (weighted_weights w bounds) ≡ length bounds
 length-weighted w bounds = length-map bounds (λ (x : Bounds). weighted_list w x.lo x.hi)
-
-pub length-perturbed : (chosen : Assignment) (bounds : List Bounds) → length (perturbed_weights chosen bounds) ≡ length bounds
-length-perturbed chosen [] = refl
-length-perturbed [] (x ∷ bounds) = omega (arith, length-perturbed [] bounds)
-length-perturbed (s ∷ chosen) (x ∷ bounds) = omega (arith, length-perturbed chosen bounds)
 
 -- lists of weights that agree at each bidder
 pub all_filled : (ws target : List Weights) (n : ℕ) → length ws ≡ n → length target ≡ n → ((b : ℕ) → b < n → weights_of ws b ≡ weights_of target b) → ws ≡ target

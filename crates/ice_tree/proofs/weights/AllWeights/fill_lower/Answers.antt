@@ -1,6 +1,7 @@
 use Rattle.std.proofs.Common.{◌∙◌, length, sym, arith}
 use Rattle.ice_defs.specs.Weighing.{lower_weights}
-use Rattle.ice_tree.proofs.Filling.{all_filled, length-lower, weights_of-lower}
+use Rattle.ice_tree.proofs.Filling.{all_filled, length-lower}
+use Rattle.ice_defs.proofs.Weights.{weights_of-lower}
 use Rattle.ice_tree.proofs.weights.AllWeights.fill_lower.Goals as goal
 
 pub returns-clause-value : goal.returns-clause-value

@@ -1,6 +1,7 @@
 use Rattle.std.proofs.Common.{◌∙◌, length, sym, arith}
 use Rattle.ice_defs.specs.Weighing.{perturbed_weights}
-use Rattle.ice_tree.proofs.Filling.{all_filled, length-perturbed, weights_of-perturbed}
+use Rattle.ice_tree.proofs.Filling.{all_filled}
+use Rattle.ice_defs.proofs.Weights.{length-perturbed, weights_of-perturbed}
 use Rattle.ice_tree.proofs.weights.AllWeights.fill_perturbed.Goals as goal
 
 pub returns-clause-value : goal.returns-clause-value

@@ -1,5 +1,5 @@
 -- A tree that grows by one node, or whose innermost open node is closed.
-use Rattle.std.proofs.Common.{ℕ, zero, suc, ◌+◌, ◌-◌, ◌<◌, ◌≤◌, ◌≡◌, ◌≢◌, Bool, true, false, cond, ◌&&◌, eqb, ltb, List, [], ◌∷◌, ◌++◌, length, get_or, take, refl, arith, ap, sym, ◌∙◌, ◌⊎◌, inl, inr, subst, length-append}
+use Rattle.std.proofs.Common.{ℕ, ◌+◌, ◌-◌, ◌<◌, ◌≤◌, ◌≡◌, ◌≢◌, true, cond, ◌&&◌, eqb, ltb, List, [], ◌∷◌, ◌++◌, length, get_or, take, refl, arith, ap, sym, ◌∙◌, ◌⊎◌, inl, inr, subst, length-append}
 use Rattle.std.proofs.lemmas.Bool.{cases_lt, cases_eq, and_parts, and_right, ltb-true, eqb-true, ne_eqb, false_from_ne_true}
 use Rattle.std.proofs.lemmas.List.{get_or_append_left, get_or_at, get_or_past, append-nil, get_or-take, length-take-le}
 use Rattle.std.proofs.lemmas.List.Elements.{filter-append}
@@ -10,19 +10,11 @@ use Rattle.ice_defs.specs.declared.NodeKind.{NodeKind}
 use Rattle.ice_defs.specs.Sum.{numbers_below}
 use Rattle.ice_defs.specs.Tree.{Tree, IsTree, IsInterval, kind_of, parent_of, is_child, children_of, no_node}
 use Rattle.ice_tree.specs.Making.{IsGrown}
+use Rattle.ice_defs.proofs.Below.{filter-same, filter-none}
 
 -- the last number of a path, the innermost open node
 abbrev pub last_of : List ℕ → ℕ
 last_of path = get_or path (length path - 1) 0
-
--- a filter of numbers goes by the test below the bound
-filter-same : (p q : ℕ → Bool) (n : ℕ) → ((k : ℕ) → k < n → p k ≡ q k) → filter p (numbers_below n) ≡ filter q (numbers_below n)
-filter-same p q zero same = refl
-filter-same p q (suc n) same =
-    filter-append p (numbers_below n) (n ∷ [])
-    ∙ ap (λ l. l ++ filter p (n ∷ [])) (filter-same p q n (λ k h. same k (omega arith)))
-    ∙ ap (λ b. filter q (numbers_below n) ++ cond b (n ∷ []) []) (same n (omega arith))
-    ∙ sym (filter-append q (numbers_below n) (n ∷ []))
 
 module _ (t : Tree) (x : Node) where
   new : Tree
@@ -49,13 +41,6 @@ module _ (t : Tree) (x : Node) where
   pub children_of-other : (p : ℕ) → x.parent ≢ p → children_of (t ++ x ∷ []) p ≡ children_of t p
   children_of-other p ne =
       children_of-new p ∙ ap (λ b. children_of t p ++ cond b (length t ∷ []) []) (and_right _ _ (ne_eqb _ _ ne)) ∙ append-nil (children_of t p)
-
-filter-none : (p : ℕ → Bool) (n : ℕ) → ((k : ℕ) → k < n → p k ≡ false) → filter p (numbers_below n) ≡ []
-filter-none p zero none = refl
-filter-none p (suc n) none =
-    filter-append p (numbers_below n) (n ∷ [])
-    ∙ ap (λ l. l ++ filter p (n ∷ [])) (filter-none p n (λ k h. none k (omega arith)))
-    ∙ ap (λ b. cond b (n ∷ []) []) (none n (omega arith))
 
 -- the last node has no child
 pub children_of-past : (t : Tree) (p : ℕ) → ((c : ℕ) → 0 < c → c < length t → parent_of t c < c) → length t ≤ p + 1 → children_of t p ≡ []
