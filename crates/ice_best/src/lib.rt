@@ -1,10 +1,12 @@
-//! The best set of a tree: the greatest value of a satisfied set that meets a fixing, and the greatest sale of a good.
+//! The best set of a tree: the greatest value of a satisfied set that meets a fixing, and the greatest sale of a good. Net
+//! weights, by which it is also the greatest net at rates.
 #![tactic(auto)]
 
 mod best_set;
 mod choice;
 mod fill;
 mod fixing;
+mod nets;
 mod sale;
 #[cfg(test)]
 mod tests;
@@ -13,4 +15,5 @@ pub use best_set::best;
 pub use fill::Scratch;
 pub use fixing::{Fixing, Fixings, NoMemory};
 pub use ice_defs::Mark;
+pub use nets::fill_net_weights;
 pub use sale::greatest_sale;

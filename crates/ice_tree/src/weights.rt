@@ -95,6 +95,17 @@ impl Weights {
         }
     }
 
+    /// The weights of one bidder that a chosen set of its nodes perturbs: the lower value of each node inside, and the
+    /// upper one of each node outside.
+    pub fn perturbed(bounds: &Bounds, chosen: &NodeSet) -> Weights
+        requires { length chosen.now ≡ length bounds.now.lo }
+        ensures { result ≡ perturbed_list chosen.now bounds.now.lo bounds.now.hi }
+    {
+        let mut weights = Weights::zero(bounds.len());
+        weights.fill_perturbed(bounds, chosen);
+        weights
+    }
+
     fn fill_lower(&mut self, bounds: &Bounds)
         requires { length self.old ≡ length bounds.now.lo }
         ensures value { self.new ≡ bounds.now.lo }
