@@ -1,5 +1,12 @@
+-- lists that count the same things, as one list of records
 pub mod Aligning
+-- the least good of which a tree may sell more than is owned
 pub mod Finding
-pub mod Growing
+-- an exchange that grows by a good or a bidder that isn't refused stays lawful
+pub mod Unfinished
+-- names are found from either side, and a new name goes last
 pub mod NameLists
+-- sums of the units of the bidders' sets
 pub mod Summing
+-- the bounds of an exchange's bidders, and weights of 0 for them
+pub mod Weighted

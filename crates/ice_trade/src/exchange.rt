@@ -1,11 +1,13 @@
 //! An exchange.
-ghost use Rattle.std.specs.Prelude.{◌≡◌, ◌≤◌, ◌<◌, ◌↔◌, [], ℕ, IsOk, IfErr, length, pos, slice_index_or};
+ghost use Rattle.std.specs.Prelude.{◌≡◌, ◌≤◌, ◌<◌, ◌↔◌, [], ℕ, IsOk, IfOk, IfErr, length, pos, slice_index_or};
 ghost use Rattle.std.specs.List.{position};
 ghost use Rattle.std.specs.Str.{bytes_eq};
 ghost use Rattle.ice_defs.specs.Exchange.{names_of, trees_of, exact_of, opening_bounds, market_of};
 ghost use Rattle.ice_defs.specs.Market.{owned_amount};
 ghost use Rattle.ice_defs.specs.Set.{IsSatisfied};
 ghost use Rattle.ice_defs.specs.Trade.{is_exact, tree_of, set_of, total_units, IsFeasible};
+ghost use Rattle.ice_defs.specs.Weighing.{weighted_weights};
+ghost use Rattle.ice_tree.specs.Alike.{HasWeightPerNode};
 ghost use Rattle.ice_trade.specs.Excess.{IsExcess};
 ghost use Rattle.ice_defs.specs.Lawful.{IsExchange, good_names};
 
@@ -13,7 +15,8 @@ use crate::faults::TradeFault;
 use crate::feasible::{first_excess, total_units};
 use crate::maker::ExchangeMaker;
 use ice_terms::{Name, Settings};
-use ice_tree::{Assignment, Bounds, Tree};
+use ice_tree::{AllWeights, Assignment, Bounds, NoMemory, Tree};
+use std::alloc::Global;
 use std::marker::Model;
 
 /// An exchange: its settings, 1 to 32 goods, and 1 to 40 bidders with their owned amounts, trees and opening bounds. No
@@ -120,6 +123,18 @@ impl Exchange {
         ensures lawful { IsExchange self.now }
     {
         self.made.bidders.bounds()
+    }
+
+    /// The weighted values of all nodes at the opening bounds, in hundredths: the settings' weight times the lower value,
+    /// and the rest of 100 times the upper one.
+    pub fn weighted_values(&self, alloc: Global) -> Result<AllWeights, NoMemory>
+        ensures value { IfOk result (λ w. w ≡ weighted_weights self.now.settings.weight (opening_bounds self.now)) }
+        ensures nodes { IfOk result (HasWeightPerNode (trees_of self.now)) }
+        ensures lawful { IsExchange self.now }
+    {
+        let mut weights = AllWeights::new(alloc, self.trees())?;
+        weights.fill_weighted(self.bounds(), self.settings().weight);
+        Ok(weights)
     }
 
     /// The number of the good with this name, and None exactly where there is none.

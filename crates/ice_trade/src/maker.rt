@@ -83,7 +83,7 @@ impl ExchangeMaker {
     }
 
     /// How many units of a good a bidder owns.
-    #[tactic(auto, using(crate::proofs::Growing::owning))]
+    #[tactic(auto, using(crate::proofs::Unfinished::owning))]
     pub fn owns(&self, bidder: u8, good: u8) -> u32
         requires bidder { bidder < length self.now.bidders }
         requires good { good < length self.now.goods }

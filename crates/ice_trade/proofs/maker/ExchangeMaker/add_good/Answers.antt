@@ -2,7 +2,7 @@ use Rattle.std.proofs.Common.{rules, ◌≡◌, ◌++◌, ◌∷◌, [], None, s
 use Rattle.ice_defs.specs.Exchange.{Good, Exchange}
 use Rattle.ice_defs.specs.Making.{good_refusal}
 use Rattle.ice_trade.specs.Parts.{IsUnfinished}
-use Rattle.ice_trade.proofs.Growing.{IsUnfinished-good}
+use Rattle.ice_trade.proofs.Unfinished.{IsUnfinished-good}
 use Rattle.ice_trade.proofs.maker.ExchangeMaker.add_good.Goals as goal
 
 pub invariant_of-self : goal.invariant_of-self

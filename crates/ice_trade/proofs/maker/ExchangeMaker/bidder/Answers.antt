@@ -3,7 +3,7 @@ use Rattle.ice_defs.specs.Exchange.{Bidder, Exchange}
 use Rattle.ice_defs.specs.Lawful.{IsBidder}
 use Rattle.ice_defs.specs.Making.{bidder_refusal}
 use Rattle.ice_trade.specs.Parts.{IsUnfinished}
-use Rattle.ice_trade.proofs.Growing.{IsUnfinished-bidder}
+use Rattle.ice_trade.proofs.Unfinished.{IsUnfinished-bidder}
 use Rattle.ice_trade.proofs.maker.ExchangeMaker.bidder.Goals as goal
 
 pub invariant_of-self : goal.invariant_of-self

@@ -2,7 +2,7 @@ use Rattle.std.proofs.Common.{rules, ◌≡◌, None, IsTrue, sym, ◌∙◌, su
 use Rattle.ice_defs.specs.Name.{is_name}
 use Rattle.ice_defs.specs.Exchange.{names_of}
 use Rattle.ice_trade.specs.Parts.{IsUnfinished}
-use Rattle.ice_trade.proofs.Growing.{unlawful_absent}
+use Rattle.ice_trade.proofs.Unfinished.{unlawful_absent}
 use Rattle.ice_trade.proofs.maker.ExchangeMaker.find_bidder.Goals as goal
 
 pub returns-in_err-new : goal.returns-in_err-new

@@ -1,6 +1,6 @@
 use Rattle.std.proofs.Common.{rules, ◌≤◌, length, subst}
 use Rattle.ice_trade.specs.Parts.{IsUnfinished}
-use Rattle.ice_trade.proofs.Growing.{IsUnfinished-finished}
+use Rattle.ice_trade.proofs.Unfinished.{IsUnfinished-finished}
 use Rattle.ice_trade.proofs.maker.ExchangeMaker.finish.Goals as goal
 
 pub of-requires : goal.of-requires

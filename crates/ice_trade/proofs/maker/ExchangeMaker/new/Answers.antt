@@ -2,7 +2,7 @@ use Rattle.std.proofs.Common.{◌≡◌, [], sym, subst}
 use Rattle.ice_defs.specs.Exchange.{AreSettings, Good, Bidder}
 use Rattle.std.specs.Prelude.{List}
 use Rattle.ice_trade.specs.Parts.{IsUnfinished, no_exchange}
-use Rattle.ice_trade.proofs.Growing.{IsUnfinished-new}
+use Rattle.ice_trade.proofs.Unfinished.{IsUnfinished-new}
 use Rattle.ice_trade.proofs.maker.ExchangeMaker.new.Goals as goal
 
 pub invariant_of-result : goal.invariant_of-result

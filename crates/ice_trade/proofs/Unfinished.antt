@@ -1,16 +1,13 @@
 -- An exchange that grows by a good or a bidder that isn't refused stays lawful.
-use Rattle.std.proofs.Common.{ℕ, zero, suc, ◌+◌, ◌<◌, ◌≤◌, ◌≡◌, Bool, true, false, cond, ◌||◌, not, ltb, leb, List, [], ◌∷◌, ◌++◌, map, length, ℤ, pos, ◌+ℤ◌, ◌≤ℤ◌, Option, Some, None, refl, arith, ap, sym, ◌∙◌, ◌⊎◌, inl, inr, subst}
-use Rattle.std.specs.Prelude.{IsTrue, is_some, int_lt, find, slice_index, slice_index_or}
-use Rattle.std.specs.Option.{option_or}
+use Rattle.std.proofs.Common.{ℕ, zero, suc, ◌+◌, ◌<◌, ◌≤◌, ◌≡◌, Bool, true, false, cond, ◌||◌, not, ltb, leb, List, [], ◌∷◌, ◌++◌, map, length, ℤ, pos, ◌+ℤ◌, ◌≤ℤ◌, Option, Some, None, refl, arith, ap, sym, ◌∙◌, subst}
+use Rattle.std.specs.Prelude.{IsTrue, is_some, int_lt, slice_index, slice_index_or}
 use Rattle.std.specs.List.{AllByRecursion, IsDistinct, list_any, position, position_or_len}
 use Rattle.std.specs.Str.{bytes_eq}
 use Rattle.std.proofs.lemmas.Int.{ints}
-use Rattle.std.proofs.lemmas.Bool.{cases_lt, le-ltb, false_from_ne_true, ltb-false, leb-false, or_parts, not-false}
-use Rattle.std.proofs.lemmas.List.{map-append, length_push, length-map}
+use Rattle.std.proofs.lemmas.Bool.{le-ltb, false_from_ne_true, ltb-false, leb-false, or_parts, not-false}
+use Rattle.std.proofs.lemmas.List.{length_push, length-map}
 use Rattle.std.proofs.lemmas.Slice.Eq.{bytes_eq-Decides}
-use Rattle.std.proofs.lemmas.List.Folds.{find-append}
 use Rattle.std.proofs.lemmas.List.Sums.{sum_by_push}
-use Rattle.ice_defs.specs.Sum.{numbers_below}
 use Rattle.ice_defs.specs.Tree.{Tree}
 use Rattle.ice_defs.specs.Set.{NodeSet, IsSatisfied, units}
 use Rattle.ice_defs.specs.Sale.{greatest_sale}
@@ -21,39 +18,16 @@ use Rattle.ice_defs.specs.Lawful.{IsBidder, IsExchange}
 use Rattle.ice_defs.specs.Making.{good_refusal, node_count, over_sale, bidder_refusal}
 use Rattle.ice_best.proofs.Sales.{greatest_sale-greatest}
 use Rattle.ice_trade.specs.Parts.{IsUnfinished, no_exchange, with_good, with_bidder}
-
--- ---- one more in a list
-
-all_push : {X : Type 0} (P : X → Type 0) (xs : List X) (x : X) → AllByRecursion P xs → P x → AllByRecursion P (xs ++ x ∷ [])
-all_push P [] x all is = (is, tt)
-all_push P (y ∷ xs) x all is = (all.0, all_push P xs x all.1 is)
-
-distinct_push : {X : Type 0} (name : X → List ℕ) (xs : List X) (x : X) → IsDistinct bytes_eq (map name xs)
-    → list_any (λ other. bytes_eq (name other) (name x)) xs ≡ false → IsDistinct bytes_eq (map name xs ++ name x ∷ [])
-unfolding IsDistinct
-distinct_push name [] x distinct new = (tt, tt)
-distinct_push name (y ∷ xs) x distinct new =
-    let (here, later) = or_parts (bytes_eq (name y) (name x)) (list_any (λ other. bytes_eq (name other) (name x)) xs) new in
-    (all_push (λ n. bytes_eq (name y) n ≡ false) (map name xs) (name x) distinct.0 here, distinct_push name xs x distinct.1 later)
-
-abbrev AreNamed : {X : Type 0} → (X → List ℕ) → List X → Type 0
-AreNamed name xs = AllByRecursion (λ n. IsTrue (is_name n)) (map name xs) × IsDistinct bytes_eq (map name xs)
-
-named_push : {X : Type 0} (name : X → List ℕ) (xs : List X) (x : X) → AreNamed name xs → is_name (name x) ≡ true
-    → list_any (λ other. bytes_eq (name other) (name x)) xs ≡ false → AreNamed name (xs ++ x ∷ [])
-named_push name xs x named is new =
-    subst (λ ns. AllByRecursion (λ n. IsTrue (is_name n)) ns × IsDistinct bytes_eq ns) (sym (map-append name xs (x ∷ [])))
-    (all_push (λ n. IsTrue (is_name n)) (map name xs) (name x) named.0 is, distinct_push name xs x named.1 new)
+use Rattle.ice_defs.proofs.Lists.{all_push}
+use Rattle.ice_defs.proofs.Naming.{named_push}
+use Rattle.ice_defs.proofs.Choices.{is_some-false}
+use Rattle.ice_defs.proofs.Below.{find-each}
 
 -- ---- what isn't refused
 
 refused_not : (b : Bool) (number : ℕ) (other : Option ℕ) → cond b (Some number) other ≡ None → (b ≡ false) × (other ≡ None)
 refused_not true number other e = absurd cc
 refused_not false number other e = (refl, e)
-
-not_some : {X : Type 0} (o : Option X) → is_some o ≡ false → o ≡ None
-not_some None e = refl
-not_some (Some x) e = absurd cc
 
 no_bidder : (bidders : List Bidder) → length bidders ≤ 0 → bidders ≡ []
 no_bidder [] none = refl
@@ -113,36 +87,17 @@ IsUnfinished-bidder ex b is bidder unrefused =
       names = distinct;
       bidders = all_push (IsBidder (length ex.goods)) ex.bidders b is.bidders bidder;
       nodes = omega (arith, sum_by_push (λ x. length x.tree) ex.bidders b, ltb-false 2000 (node_count ex.bidders + length b.tree) few_nodes);
-      sold = all_push (λ x. over_sale (length ex.goods) x.tree x.own ≡ None) ex.bidders b is.sold (not_some _ sold);
+      sold = all_push (λ x. over_sale (length ex.goods) x.tree x.own ≡ None) ex.bidders b is.sold (is_some-false _ sold);
     }
 
 -- ---- no good is sold above what is owned
 
-both_none : {X : Type 0} (a b : Option X) → option_or a b ≡ None → (a ≡ None) × (b ≡ None)
-both_none (Some x) b e = absurd cc
-both_none None b e = (refl, e)
-
-passes_not : (b : Bool) (n : ℕ) → cond b (Some n) None ≡ None → b ≡ false
-passes_not true n e = absurd cc
-passes_not false n e = refl
-
--- a number that isn't found passes no test
-none_found : (p : ℕ → Bool) (n : ℕ) → find p (numbers_below n) ≡ None → (k : ℕ) → k < n → p k ≡ false
-none_found p zero e k l = absurd (omega arith)
-none_found p (suc n) e k l =
-    let (before, here) = both_none (find p (numbers_below n)) (find p (n ∷ [])) (sym (find-append p (numbers_below n) (n ∷ [])) ∙ e) in
-    by (cases_lt k n) (none_found p n before k) (passes_not (p n) n here)
-  where
-    by : (k < n) ⊎ (n ≤ k) → (k < n → p k ≡ false) → p n ≡ false → p k ≡ false
-    by (inl m) old new = old m
-    by (inr m) old new = let e : k ≡ n = omega arith in ap p e ∙ new
-
 int_lt-false : (a b : ℤ) → int_lt a b ≡ false → b ≤ℤ a
 int_lt-false a b e = grind (arith, ints)
 
-sells_owned : (goods : ℕ) (t : Tree) (own : List ℕ) → over_sale goods t own ≡ None → (g : ℕ) (s : NodeSet) → g < goods → IsSatisfied t s → pos 0 ≤ℤ (pos (slice_index own g) +ℤ units t s g)
+pub sells_owned : (goods : ℕ) (t : Tree) (own : List ℕ) → over_sale goods t own ≡ None → (g : ℕ) (s : NodeSet) → g < goods → IsSatisfied t s → pos 0 ≤ℤ (pos (slice_index own g) +ℤ units t s g)
 sells_owned goods t own none g s l is =
-    let under = int_lt-false (pos (slice_index own g)) (greatest_sale t g) (none_found (λ k. int_lt (pos (slice_index own k)) (greatest_sale t k)) goods none g l) in
+    let under = int_lt-false (pos (slice_index own g)) (greatest_sale t g) (find-each (λ k. int_lt (pos (slice_index own k)) (greatest_sale t k)) goods none g l) in
     let most = greatest_sale-greatest t g in
     let sold = most.bound s is in
     omega (arith, ints, under, sold)
