@@ -1,10 +1,9 @@
 //! The best set of a tree at prices: what it is worth less what its units cost.
 #![tactic(auto)]
 
-mod costs;
 mod nets;
 #[cfg(test)]
 mod tests;
 
 pub use ice_best::Scratch;
-pub use nets::{best_at_prices, net};
+pub use nets::{BestAtPrices, best_at_prices, net};

@@ -1,10 +1,10 @@
 //! Worked values.
 ghost use Rattle.std.specs.Prelude.{◌≡◌, length};
-ghost use Rattle.ice_net.specs.Net.{AreModest};
+ghost use Rattle.ice_best.specs.Nets.{AreAtMostTrillion};
 
 use crate::{Scratch, best_at_prices, net};
 use ice_terms::Prices;
-use ice_tree::{NodeKind, NodeSet, Tree, TreeFault, TreeMaker, Weights};
+use ice_tree::{NodeKind, Tree, TreeFault, TreeMaker, Weights};
 use std::test::Fail;
 
 /// A choose node over two leaves of one unit, of the goods 0 and 1.
@@ -26,7 +26,7 @@ fn tree_of(least: u16, most: u16, buys: bool) -> Result<Tree, TreeFault> {
 
 fn weights_of(values: [i32; 3]) -> Weights
     ensures nodes { length result ≡ 3 }
-    ensures modest { AreModest result }
+    ensures small { AreAtMostTrillion result }
 {
     let mut weights = Weights::zero(3);
     for node in 0..3 {
@@ -46,9 +46,9 @@ fn a_buyer_and_a_seller_at_prices_of_3_halves_and_0(rt: HostRuntime) -> Result<(
         let tree = tree_of(least, most, buys)?;
         assert!(rt; tree.nodes() == 3);
         let weights = weights_of(values);
-        let mut set = NodeSet::empty(3);
-        let found = best_at_prices(&tree, &weights, 100, &prices, &mut scratch, &mut set);
-        assert_eq!(rt; found, want, "choose {least} to {most}");
+        let best = best_at_prices(&tree, &weights, 100, &prices, &mut scratch);
+        assert_eq!(rt; best.net, want, "choose {least} to {most}");
+        let set = best.set;
         assert!(rt; set.len() == 3);
         assert!(rt; set.has(0), "choose {least} to {most}");
         assert_eq!(rt; set.has(1), !buys, "choose {least} to {most}");

@@ -9,7 +9,7 @@ use Rattle.ice_defs.specs.Rules.{net_at, IsBestThroughout, IsAhead, IsLoss, IsMr
 use Rattle.ice_defs.specs.declared.Verdict.{Verdict}
 use Rattle.ice_defs.specs.declared.Verdict.TheVariants.{Accepted, Loosened, Crossed, Mrpar, Improve, Repeated, UnknownBidder, WrongCount}
 use Rattle.ice_defs.specs.Judging.{IsNarrowed, IsJudged}
-use Rattle.ice_net.specs.Net.{IsBestNet}
+use Rattle.ice_net.specs.Net.{IsBestAtPrices}
 use Rattle.ice_rules.specs.Profiles.{AreAgainst, AreInFavour}
 use Rattle.ice_rules.specs.Laws.{ExactBidIsAccepted}
 use Rattle.ice_defs.proofs.Multiples.{one_time}
@@ -50,7 +50,7 @@ module _ (t : Tree) (p : Prices) (s : NodeSet) (sat : IsSatisfied t s) (v : Weig
   unfolding exact
   ordered n h = omega (arith, ints)
 
-  module _ (best : NodeSet) (is : IsBestNet t v 1 p best (net_at t p 1 v best)) where
+  module _ (best : NodeSet) (is : IsBestAtPrices t v 1 p best (net_at t p 1 v best)) where
     best_throughout : IsBestThroughout t p exact best
     best_throughout =
         best_from_none t p exact nodes best (net_at t p 1 v best -ℤ net_at t p 1 v best)
@@ -93,7 +93,7 @@ pub exact_is_accepted : (t : Tree) (p : Prices) (improve : ℤ) (s : NodeSet) (o
 unfolding exact
 exact_is_accepted t p improve s old v sat size inside =
     let (best, ok, most) = greatest_there t s sat (net_at t p 1 v) in
-    let is : IsBestNet t v 1 p best (net_at t p 1 v best) = record { satisfied = ok; has = refl; greatest = most } in
+    let is : IsBestAtPrices t v 1 p best (net_at t p 1 v best) = record { satisfied = ok; has = refl; greatest = most } in
     let (was, is_was) = loss_there t p old s (omega (arith, inside.same_length, size)) ordered_inside sat in
     (narrowed old v inside, mrpar t p s sat v size best is, improves t p s sat v size best is old was improve is_was)
   where

@@ -7,7 +7,7 @@ use Rattle.ice_defs.specs.Set.{NodeSet, has, IsSatisfied, Weights, weight_of}
 use Rattle.ice_defs.specs.Bounds.{Bounds, IsInside}
 use Rattle.ice_defs.specs.Prices.{Prices}
 use Rattle.ice_defs.specs.Rules.{net_at, IsAhead, IsBestThroughout, IsLoss, IsMrpar, GainsMore, Improves}
-use Rattle.ice_net.specs.Net.{IsBestNet}
+use Rattle.ice_net.specs.Net.{IsBestAtPrices}
 use Rattle.ice_defs.proofs.Products.{times-le}
 use Rattle.ice_rules.specs.Profiles.{AreAgainst, AreInFavour}
 use Rattle.ice_rules.specs.Centre.{IsAsGoodAsAny}
@@ -48,7 +48,7 @@ in_favour_inside bounds s w are ordered = record {
 module _ (t : Tree) (p : Prices) (bounds : Bounds) (nodes : length bounds.lo ≡ length t) where
   -- ---- the loss
 
-  pub loss_is : (s : NodeSet) (w : Weights) (out : NodeSet) (best : ℤ) → IsSatisfied t s → AreAgainst bounds s w → AreOrdered bounds → IsBestNet t w 1 p out best
+  pub loss_is : (s : NodeSet) (w : Weights) (out : NodeSet) (best : ℤ) → IsSatisfied t s → AreAgainst bounds s w → AreOrdered bounds → IsBestAtPrices t w 1 p out best
       → IsLoss t p s bounds (best -ℤ net_at t p 1 w s)
   loss_is s w out best sat are ordered is = record {
     attained = (1, w, out, omega arith, against_inside bounds s w are ordered, is.satisfied, attained);
@@ -61,7 +61,7 @@ module _ (t : Tree) (p : Prices) (bounds : Bounds) (nodes : length bounds.lo ≡
       attained : (net_at t p 1 w out -ℤ net_at t p 1 w s) ≡ pos 1 *ℤ (best -ℤ net_at t p 1 w s)
       attained = omega (arith, ints, is.has, one_time (best -ℤ net_at t p 1 w s))
 
-  pub loss_not_negative : (s : NodeSet) (w : Weights) (out : NodeSet) (best : ℤ) → IsSatisfied t s → IsBestNet t w 1 p out best → pos 0 ≤ℤ (best -ℤ net_at t p 1 w s)
+  pub loss_not_negative : (s : NodeSet) (w : Weights) (out : NodeSet) (best : ℤ) → IsSatisfied t s → IsBestAtPrices t w 1 p out best → pos 0 ≤ℤ (best -ℤ net_at t p 1 w s)
   loss_not_negative s w out best sat is = omega (arith, ints, is.greatest s sat)
 
   loss-le : (s : NodeSet) (one other : ℤ) → IsLoss t p s bounds one → IsLoss t p s bounds other → one ≤ℤ other
@@ -99,7 +99,7 @@ module _ (t : Tree) (p : Prices) (bounds : Bounds) (nodes : length bounds.lo ≡
 
   -- ---- gains
 
-  pub gains_from : (s : NodeSet) (w : Weights) (out : NodeSet) (best least : ℤ) → IsSatisfied t s → AreInFavour bounds s w → IsBestNet t w 1 p out best
+  pub gains_from : (s : NodeSet) (w : Weights) (out : NodeSet) (best least : ℤ) → IsSatisfied t s → AreInFavour bounds s w → IsBestAtPrices t w 1 p out best
       → least <ℤ (best -ℤ net_at t p 1 w s) → GainsMore t p s bounds least
   gains_from s w out best least sat are is less = (out, is.satisfied, λ k v some inside. more k v some inside)
     where
@@ -110,7 +110,7 @@ module _ (t : Tree) (p : Prices) (bounds : Bounds) (nodes : length bounds.lo ≡
           let turned : pos k *ℤ (net_at t p 1 w s -ℤ net_at t p 1 w out) ≡ pos k *ℤ (pos 0 -ℤ (best -ℤ net_at t p 1 w s)) = ap (λ z. pos k *ℤ z) back in
           omega (arith, ints, gain, turned, times_less (pos k) (pos 0) (best -ℤ net_at t p 1 w s), *ℤ-zero (pos k), times-lt k least _ some less)
 
-  pub gains_give : (s : NodeSet) (w : Weights) (out : NodeSet) (best least : ℤ) → AreInFavour bounds s w → AreOrdered bounds → IsBestNet t w 1 p out best
+  pub gains_give : (s : NodeSet) (w : Weights) (out : NodeSet) (best least : ℤ) → AreInFavour bounds s w → AreOrdered bounds → IsBestAtPrices t w 1 p out best
       → GainsMore t p s bounds least → least <ℤ (best -ℤ net_at t p 1 w s)
   gains_give s w out best least are ordered is (b, ok, more) =
       omega (arith, ints, more 1 w (omega arith) (in_favour_inside bounds s w are ordered), one_time least, is.greatest b ok)

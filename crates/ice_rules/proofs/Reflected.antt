@@ -8,7 +8,7 @@ use Rattle.ice_defs.specs.Bounds.{Bounds, IsInside}
 use Rattle.ice_defs.specs.Prices.{Prices, cost_of}
 use Rattle.ice_defs.specs.Rules.{net_at}
 use Rattle.ice_defs.proofs.Sums.{sum_below-same, sum_below-add}
-use Rattle.ice_net.specs.Net.{IsBestNet}
+use Rattle.ice_net.specs.Net.{IsBestAtPrices}
 use Rattle.ice_defs.proofs.Products.{times_add, times-le, sum_below-times}
 use Rattle.ice_rules.specs.Profiles.{AreCentre}
 use Rattle.ice_rules.specs.Centre.{IsAsGoodAsAny}
@@ -87,7 +87,7 @@ module _ (t : Tree) (p : Prices) (bounds : Bounds) (c : Weights) (are : AreCentr
   as_good a best a_size best_size at_centre at_reflected =
       omega (arith, ints, nets_reflect a a_size, nets_reflect best best_size, times-le k _ _ at_centre, at_reflected)
 
-pub centre_is_good : (t : Tree) (p : Prices) (bounds : Bounds) (c : Weights) (out : NodeSet) (net : ℤ) → length bounds.lo ≡ length t → AreCentre bounds c → IsBestNet t c 2 p out net
+pub centre_is_good : (t : Tree) (p : Prices) (bounds : Bounds) (c : Weights) (out : NodeSet) (net : ℤ) → length bounds.lo ≡ length t → AreCentre bounds c → IsBestAtPrices t c 2 p out net
     → IsAsGoodAsAny t p bounds out
 centre_is_good t p bounds c out net nodes are is best sat throughout k v some inside =
     as_good t p bounds c are k v inside out best (omega (arith, is.satisfied.same_length, nodes)) (omega (arith, sat.same_length, nodes))

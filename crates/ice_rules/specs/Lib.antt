@@ -1,3 +1,4 @@
 pub mod Profiles
 pub mod Centre
 pub mod Laws
+pub mod Verdicts

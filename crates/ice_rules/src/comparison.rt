@@ -2,7 +2,7 @@
 ghost use Rattle.std.specs.Prelude.{◌<◌, ◌≤◌, ◌≡◌, length};
 
 use crate::tests::{set_of, verdict};
-use crate::{Scratch, Verdict, improvement, loss, mrpar};
+use crate::{Scratch, Standing, Verdict, improvement, loss, mrpar};
 use ice_terms::Prices;
 use ice_tree::{Bounds, NodeKind, NodeSet, Tree, TreeFault, TreeMaker};
 use std::test::Fail;
@@ -248,15 +248,27 @@ fn the_rules_agree_with_all_sets_and_corners(rt: HostRuntime) -> Result<(), Fail
             let most = before.losses[place].wrapping_sub(improve.wrapping_mul(den));
             let left = after.losses[place];
             let improves = left == 0 || left <= most || after.gains_more(place, most);
-            let found = loss(&tree, &old, &set, &prices, &mut scratch);
+            let at = Standing {
+                tree: &tree,
+                bounds: &old,
+                set: &set,
+                prices: &prices,
+            };
+            let then = Standing {
+                tree: &tree,
+                bounds: &new,
+                set: &set,
+                prices: &prices,
+            };
+            let found = loss(&at, &mut scratch);
             assert_eq!(rt;
                 found,
                 i128::from(before.losses[place]),
                 "round {round}, set {bits}"
             );
-            let tight = mrpar(&tree, &new, &set, &prices, &mut scratch);
+            let tight = mrpar(&then, &mut scratch);
             assert_eq!(rt; tight, after.mrpar(place), "round {round}, set {bits}");
-            let found = improvement(&tree, &old, &new, &set, &prices, improve, &mut scratch);
+            let found = improvement(&at, &new, improve, &mut scratch);
             assert_eq!(rt; found, improves, "round {round}, set {bits}");
             let want = if !tight {
                 first = first.wrapping_add(1);

@@ -4,19 +4,21 @@ ghost use Rattle.std.specs.List.{list_all};
 ghost use Rattle.ice_defs.specs.Set.{IsSatisfied, weight_of};
 ghost use Rattle.ice_defs.specs.Bounds.{IsInside};
 ghost use Rattle.ice_defs.specs.Making.{is_value};
-ghost use Rattle.ice_defs.specs.Judging.{IsLeastNode, IsCrossedAt, IsLoosenedAt, IsJudged};
+ghost use Rattle.ice_defs.specs.Judging.{IsLeastNode, IsCrossedAt, IsLoosenedAt};
+ghost use Rattle.ice_rules.specs.Verdicts.{values, IsVerdict};
 
 use crate::rules::{improvement, mrpar};
+use crate::standing::Standing;
 use ice_defs::Verdict;
 use ice_net::Scratch;
-use ice_terms::Prices;
-use ice_tree::{Bounds, NodeSet, Tree};
+use ice_tree::Bounds;
 
 /// The least node whose lower value is above its upper one.
 fn first_crossed(lo: &[i64], hi: &[i64]) -> Option<u16>
     requires few { length lo.now ≤ 200 }
     requires same { length hi.now ≡ length lo.now }
-    ensures { MatchOption result ((n : ℕ) → ¬ IsCrossedAt (record { lo = lo.now; hi = hi.now }) n) (IsLeastNode (IsCrossedAt (record { lo = lo.now; hi = hi.now }))) }
+    ensures { let crossed = IsCrossedAt (values lo.now hi.now) in
+        MatchOption result ((n : ℕ) → ¬ crossed n) (IsLeastNode crossed) }
 {
     for node in 0..lo.len() {
         if hi[node] < lo[node] {
@@ -40,7 +42,8 @@ fn first_loosened(old: &Bounds, lo: &[i64], hi: &[i64]) -> Option<u16>
     requires few { length lo.now ≤ 200 }
     requires same { length hi.now ≡ length lo.now }
     requires old { length old.now.lo ≡ length lo.now }
-    ensures { MatchOption result ((n : ℕ) → ¬ IsLoosenedAt old.now (record { lo = lo.now; hi = hi.now }) n) (IsLeastNode (IsLoosenedAt old.now (record { lo = lo.now; hi = hi.now }))) }
+    ensures { let loosened = IsLoosenedAt old.now (values lo.now hi.now) in
+        MatchOption result ((n : ℕ) → ¬ loosened n) (IsLeastNode loosened) }
 {
     for node in 0..lo.len() {
         if is_loosened(old, node as u16, lo[node], hi[node]) {
@@ -52,37 +55,40 @@ fn first_loosened(old: &Bounds, lo: &[i64], hi: &[i64]) -> Option<u16>
 
 /// The first verdict that holds.
 fn first_that_holds(
-    tree: &Tree,
-    old: &Bounds,
+    at: &Standing,
     lo: &[i64],
     hi: &[i64],
-    set: &NodeSet,
-    prices: &Prices,
     improve: i64,
     scratch: &mut Scratch,
 ) -> Verdict
-    requires satisfied { IsSatisfied tree.now set.now }
-    requires old { length old.now.lo ≡ length tree.now }
-    requires lo_nodes { length lo.now ≡ length tree.now }
-    requires hi_nodes { length hi.now ≡ length tree.now }
+    requires satisfied { IsSatisfied at.now.tree.now at.now.set.now }
+    requires old { length at.now.bounds.now.lo ≡ length at.now.tree.now }
+    requires lo_nodes { length lo.now ≡ length at.now.tree.now }
+    requires hi_nodes { length hi.now ≡ length at.now.tree.now }
     requires lo_values { IsTrue (list_all is_value lo.now) }
     requires hi_values { IsTrue (list_all is_value hi.now) }
-    ensures { IsJudged tree.now prices.now improve set.now old.now (record { lo = lo.now; hi = hi.now }) result }
+    ensures { IsVerdict at.now improve lo.now hi.now result }
 {
-    let _nodes = tree.nodes();
+    let _nodes = at.tree.nodes();
     if let Some(node) = first_crossed(lo, hi) {
         return Verdict::Crossed { node };
     }
-    if let Some(node) = first_loosened(old, lo, hi) {
+    if let Some(node) = first_loosened(at.bounds, lo, hi) {
         return Verdict::Loosened { node };
     }
-    let Ok(new) = tree.set_bounds(lo, hi) else {
+    let Ok(new) = at.tree.set_bounds(lo, hi) else {
         unreachable!()
     };
-    if !mrpar(tree, &new, set, prices, scratch) {
+    let then = Standing {
+        tree: at.tree,
+        bounds: &new,
+        set: at.set,
+        prices: at.prices,
+    };
+    if !mrpar(&then, scratch) {
         return Verdict::Mrpar;
     }
-    if !improvement(tree, old, &new, set, prices, improve, scratch) {
+    if !improvement(at, &new, improve, scratch) {
         return Verdict::Improve;
     }
     Verdict::Accepted
@@ -95,24 +101,15 @@ fn first_that_holds(
 /// bounds, is accepted.
 ///
 /// The provisional set is satisfied. Takes no memory.
-pub fn judge(
-    tree: &Tree,
-    old: &Bounds,
-    lo: &[i64],
-    hi: &[i64],
-    set: &NodeSet,
-    prices: &Prices,
-    improve: i64,
-    scratch: &mut Scratch,
-) -> Verdict
-    requires satisfied { IsSatisfied tree.now set.now }
-    requires old { length old.now.lo ≡ length tree.now }
-    requires lo_nodes { length lo.now ≡ length tree.now }
-    requires hi_nodes { length hi.now ≡ length tree.now }
+pub fn judge(at: &Standing, lo: &[i64], hi: &[i64], improve: i64, scratch: &mut Scratch) -> Verdict
+    requires satisfied { IsSatisfied at.now.tree.now at.now.set.now }
+    requires old { length at.now.bounds.now.lo ≡ length at.now.tree.now }
+    requires lo_nodes { length lo.now ≡ length at.now.tree.now }
+    requires hi_nodes { length hi.now ≡ length at.now.tree.now }
     requires lo_values { IsTrue (list_all is_value lo.now) }
     requires hi_values { IsTrue (list_all is_value hi.now) }
-    ensures judged { IsJudged tree.now prices.now improve set.now old.now (record { lo = lo.now; hi = hi.now }) result }
-    ensures exact { hi.now ≡ lo.now → IsInside 1 old.now lo.now → result ≡ Verdict.Accepted }
+    ensures judged { IsVerdict at.now improve lo.now hi.now result }
+    ensures exact { hi.now ≡ lo.now → IsInside 1 at.now.bounds.now lo.now → result ≡ Verdict.Accepted }
 {
-    first_that_holds(tree, old, lo, hi, set, prices, improve, scratch)
+    first_that_holds(at, lo, hi, improve, scratch)
 }

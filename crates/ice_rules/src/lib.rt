@@ -8,6 +8,7 @@ mod judging;
 mod laws;
 mod profiles;
 mod rules;
+mod standing;
 #[cfg(test)]
 mod tests;
 
@@ -17,3 +18,4 @@ pub use ice_defs::Verdict;
 pub use judging::judge;
 pub use laws::exact_bids_are_accepted;
 pub use rules::{improvement, mrpar};
+pub use standing::Standing;

@@ -4,31 +4,32 @@ ghost use Rattle.ice_defs.specs.Set.{IsSatisfied};
 ghost use Rattle.ice_defs.specs.Rules.{IsMrpar, Improves};
 
 use crate::gains::{best_at_centre, is_ahead, is_best_throughout, is_less, least_gain, loss};
+use crate::standing::Standing;
 use ice_net::Scratch;
 use ice_terms::Prices;
-use ice_tree::{Bounds, NodeSet, Tree};
+use ice_tree::Bounds;
 
 /// The first rule: whether some satisfied set is best at every profile inside the bounds, and the provisional set is so
 /// too or has a smaller net at every profile. Takes no memory.
-pub fn mrpar(
-    tree: &Tree,
-    bounds: &Bounds,
-    set: &NodeSet,
-    prices: &Prices,
-    scratch: &mut Scratch,
-) -> bool
-    requires satisfied { IsSatisfied tree.now set.now }
-    requires nodes { length bounds.now.lo ≡ length tree.now }
-    ensures { IsTrue result ↔ IsMrpar tree.now prices.now set.now bounds.now }
+pub fn mrpar(at: &Standing, scratch: &mut Scratch) -> bool
+    requires satisfied { IsSatisfied at.now.tree.now at.now.set.now }
+    requires nodes { length at.now.bounds.now.lo ≡ length at.now.tree.now }
+    ensures { IsTrue result ↔ IsMrpar at.now.tree.now at.now.prices.now at.now.set.now at.now.bounds.now }
 {
-    let best = best_at_centre(tree, bounds, prices, scratch);
-    if !is_best_throughout(tree, bounds, &best, prices, scratch) {
+    let set = best_at_centre(at, scratch);
+    let best = Standing {
+        tree: at.tree,
+        bounds: at.bounds,
+        set: &set,
+        prices: at.prices,
+    };
+    if !is_best_throughout(&best, scratch) {
         return false;
     }
-    if is_ahead(tree, bounds, &best, set, prices) {
+    if is_ahead(&best, at.set) {
         return true;
     }
-    is_best_throughout(tree, bounds, set, prices, scratch)
+    is_best_throughout(at, scratch)
 }
 
 /// What is required, times the prices' denominator.
@@ -54,27 +55,26 @@ fn allowed_loss(loss: i128, improve: i64, prices: &Prices) -> i128
 /// The second rule: whether the provisional set's loss at the new bounds is none, or is smaller than at the old ones by
 /// what is required, or some satisfied set gains more than the old loss less what is required at every profile inside
 /// the new bounds. Takes no memory.
-pub fn improvement(
-    tree: &Tree,
-    old: &Bounds,
-    new: &Bounds,
-    set: &NodeSet,
-    prices: &Prices,
-    improve: i64,
-    scratch: &mut Scratch,
-) -> bool
-    requires satisfied { IsSatisfied tree.now set.now }
-    requires old { length old.now.lo ≡ length tree.now }
-    requires new { length new.now.lo ≡ length tree.now }
-    ensures { IsTrue result ↔ Improves tree.now prices.now set.now old.now new.now improve }
+pub fn improvement(at: &Standing, new: &Bounds, improve: i64, scratch: &mut Scratch) -> bool
+    requires satisfied { IsSatisfied at.now.tree.now at.now.set.now }
+    requires old { length at.now.bounds.now.lo ≡ length at.now.tree.now }
+    requires new { length new.now.lo ≡ length at.now.tree.now }
+    ensures { IsTrue result
+        ↔ Improves at.now.tree.now at.now.prices.now at.now.set.now at.now.bounds.now new.now improve }
 {
-    let most = allowed_loss(loss(tree, old, set, prices, scratch), improve, prices);
-    let left = loss(tree, new, set, prices, scratch);
+    let then = Standing {
+        tree: at.tree,
+        bounds: new,
+        set: at.set,
+        prices: at.prices,
+    };
+    let most = allowed_loss(loss(at, scratch), improve, at.prices);
+    let left = loss(&then, scratch);
     if left == 0 {
         return true;
     }
     if left <= most {
         return true;
     }
-    is_less(most, least_gain(tree, new, set, prices, scratch))
+    is_less(most, least_gain(&then, scratch))
 }

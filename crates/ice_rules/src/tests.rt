@@ -3,7 +3,7 @@ ghost use Rattle.std.specs.Prelude.{◌≡◌, ◌≤◌, length};
 ghost use Rattle.std.specs.List.{list_all};
 ghost use Rattle.ice_defs.specs.Making.{is_value};
 
-use crate::{Scratch, Verdict, judge};
+use crate::{Scratch, Standing, Verdict, judge};
 use ice_terms::Prices;
 use ice_tree::{Bounds, NodeKind, NodeSet, Tree, TreeFault, TreeMaker};
 use std::test::Fail;
@@ -54,7 +54,13 @@ pub(crate) fn verdict(
     if tree.is_satisfied(set).is_err() {
         return None;
     }
-    Some(judge(tree, old, lo, hi, set, prices, improve, &mut Scratch::new()))
+    let at = Standing {
+        tree,
+        bounds: old,
+        set,
+        prices,
+    };
+    Some(judge(&at, lo, hi, improve, &mut Scratch::new()))
 }
 
 #[test]

@@ -16,7 +16,7 @@ pub returns-then-not-mrpar : goal.returns-then-not-mrpar
 returns-then-not-mrpar c = (
   record { uncrossed = c.in_default.ensures; tight = c.in_default-first_loosened.ensures },
   λ m.
-      let h : false ≡ true = c.if-not-mrpar.ensures.1 (subst (λ b. IsMrpar c.args.tree.now c.args.prices.now c.args.set.now b) (sym c.in-Ok.ensures.made) m) in
+      let h : false ≡ true = c.if-not-mrpar.ensures.1 (subst (λ b. IsMrpar c.args.at.now.tree.now c.args.at.now.prices.now c.args.at.now.set.now b) (sym c.in-Ok.ensures.made) m) in
       absurd (cc),
 )
 
@@ -25,10 +25,10 @@ returns-then-not-improvement c =
     let fits : SFits w64 c.args.improve = search rules in
     let back : to_z w64 (of_z w64 c.args.improve) ≡ c.args.improve = to_z-of_z w64 c.args.improve fits in (
       record { uncrossed = c.in_default.ensures; tight = c.in_default-first_loosened.ensures },
-      subst (λ b. IsMrpar c.args.tree.now c.args.prices.now c.args.set.now b) c.in-Ok.ensures.made (c.if-not-mrpar.ensures.0 refl),
+      subst (λ b. IsMrpar c.args.at.now.tree.now c.args.at.now.prices.now c.args.at.now.set.now b) c.in-Ok.ensures.made (c.if-not-mrpar.ensures.0 refl),
       λ i.
-          let made = subst (λ b. Improves c.args.tree.now c.args.prices.now c.args.set.now c.args.old.now b c.args.improve) (sym c.in-Ok.ensures.made) i in
-          let h : false ≡ true = c.if-not-improvement.ensures.1 (subst (λ z. Improves c.args.tree.now c.args.prices.now c.args.set.now c.args.old.now c.in-Ok.new z) (sym back) made) in
+          let made = subst (λ b. Improves c.args.at.now.tree.now c.args.at.now.prices.now c.args.at.now.set.now c.args.at.now.bounds.now b c.args.improve) (sym c.in-Ok.ensures.made) i in
+          let h : false ≡ true = c.if-not-improvement.ensures.1 (subst (λ z. Improves c.args.at.now.tree.now c.args.at.now.prices.now c.args.at.now.set.now c.args.at.now.bounds.now c.in-Ok.new z) (sym back) made) in
           absurd (cc),
     )
 
@@ -37,7 +37,7 @@ returns c =
     let fits : SFits w64 c.args.improve = search rules in
     let back : to_z w64 (of_z w64 c.args.improve) ≡ c.args.improve = to_z-of_z w64 c.args.improve fits in (
       record { uncrossed = c.in_default.ensures; tight = c.in_default-first_loosened.ensures },
-      subst (λ b. IsMrpar c.args.tree.now c.args.prices.now c.args.set.now b) c.in-Ok.ensures.made (c.if-not-mrpar.ensures.0 refl),
-      subst (λ b. Improves c.args.tree.now c.args.prices.now c.args.set.now c.args.old.now b c.args.improve) c.in-Ok.ensures.made
-          (subst (λ z. Improves c.args.tree.now c.args.prices.now c.args.set.now c.args.old.now c.in-Ok.new z) back (c.if-not-improvement.ensures.0 refl)),
+      subst (λ b. IsMrpar c.args.at.now.tree.now c.args.at.now.prices.now c.args.at.now.set.now b) c.in-Ok.ensures.made (c.if-not-mrpar.ensures.0 refl),
+      subst (λ b. Improves c.args.at.now.tree.now c.args.at.now.prices.now c.args.at.now.set.now c.args.at.now.bounds.now b c.args.improve) c.in-Ok.ensures.made
+          (subst (λ z. Improves c.args.at.now.tree.now c.args.at.now.prices.now c.args.at.now.set.now c.args.at.now.bounds.now c.in-Ok.new z) back (c.if-not-improvement.ensures.0 refl)),
     )

@@ -1,20 +1,17 @@
-use Rattle.std.proofs.Common.{◌≡◌, ◌∙◌, cond, pos, neg_ℤ, ◌≤ℤ◌, arith, rules, refl, subst, length-set, to_z, of_z}
-use mir.Syntax.{w128}
-use Rattle.std.proofs.lemmas.Int.{ints}
-use Rattle.ice_defs.specs.Set.{has, weight_of}
-use Rattle.ice_best.proofs.Sales.{put_each}
+use Rattle.std.proofs.Common.{◌≡◌, ◌∙◌, length, sym}
+use Rattle.ice_defs.proofs.Weights.{length-perturbed_list, weight_of-perturbed_list}
+use Rattle.ice_net.proofs.Modest.{perturbed-modest}
 use Rattle.ice_rules.proofs.profiles.against.Goals as goal
 
-pub loop-node-preserved : goal.loop-node-preserved
-loop-node-preserved c =
-    let w = c.loop-node.weights in
-    let n = c.loop-node.node in
-    let i = c.loop-node.invariant in
-    let same : c.lower_where.result ≡ cond (has c.args.set.now c.loop-node.node) (weight_of c.args.bounds.now.lo c.loop-node.node) (weight_of c.args.bounds.now.hi c.loop-node.node) = search rules in
-    let value : to_z w128 (of_z w128 c.lower_where.result) ≡ cond (has c.args.set.now c.loop-node.node) (weight_of c.args.bounds.now.lo c.loop-node.node) (weight_of c.args.bounds.now.hi c.loop-node.node) = search rules in
-    rw (c.put.ensures, value) (record {
-      nodes = length-set w n _ ∙ i.nodes;
-      each = put_each w n _ (λ k z. z ≡ cond (has c.args.set.now k) (weight_of c.args.bounds.now.lo k) (weight_of c.args.bounds.now.hi k)) (omega (arith, i.nodes)) i.each refl;
-      low = put_each w n _ (λ k z. neg_ℤ (pos 1000000000000) ≤ℤ z) (omega (arith, i.nodes)) i.low (subst (λ z. neg_ℤ (pos 1000000000000) ≤ℤ z) same (omega (arith, ints, c.lower_where.ensures.low)));
-      high = put_each w n _ (λ k z. z ≤ℤ pos 1000000000000) (omega (arith, i.nodes)) i.high (subst (λ z. z ≤ℤ pos 1000000000000) same (omega (arith, ints, c.lower_where.ensures.high)));
+pub returns-clause-values : goal.returns-clause-values
+returns-clause-values c =
+    let b = c.args.bounds.now in
+    let are = c.len-nodes.ensures.bounds in
+    let same : length b.hi ≡ length b.lo = are.hi_count ∙ sym are.lo_count in
+    rw c.perturbed.ensures (record {
+      nodes = length-perturbed_list c.args.set.now b.lo b.hi same;
+      each = λ n h. weight_of-perturbed_list c.args.set.now b.lo b.hi n same h;
     })
+
+pub returns-clause-small : goal.returns-clause-small
+returns-clause-small c = rw c.perturbed.ensures (perturbed-modest c.args.set.now (length c.args.bounds.now.lo) c.args.bounds.now c.len-nodes.ensures.bounds)
