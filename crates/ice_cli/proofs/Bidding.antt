@@ -1,60 +1,30 @@
 -- The best sets of all bidders, from one bidder to all.
-use Rattle.std.proofs.Common.{◌≡◌, ◌∙◌, ap, sym, subst, ℕ, suc, zero, ◌+◌, ◌<◌, List, [], ◌∷◌, ◌++◌, length, map, replicate, pos, ℤ, append_assoc, arith}
-use Rattle.std.proofs.lemmas.List.{get_or-map, length-map, length-replicate}
-use Rattle.std.specs.List.{AllByRecursion, flat_map}
+use Rattle.std.proofs.Common.{◌≡◌, ◌∙◌, sym, subst, ℕ, suc, ◌+◌, ◌<◌, List, [], ◌∷◌, ◌++◌, length, ℤ, append_assoc, arith}
+use Rattle.std.specs.List.{flat_map}
 use Rattle.ice_defs.specs.Tree.{Tree}
 use Rattle.ice_defs.specs.Set.{NodeSet}
 use Rattle.ice_defs.specs.Trade.{tree_of, weights_of}
 use Rattle.ice_defs.specs.Bounds.{bounds_of}
 use Rattle.ice_defs.specs.Prices.{Prices}
-use Rattle.ice_defs.specs.Exchange.{Bidder, Exchange, trees_of, names_of, opening_bounds}
-use Rattle.ice_defs.specs.Lawful.{AreBounds, IsBidder, IsExchange}
+use Rattle.ice_defs.specs.Exchange.{Exchange, trees_of, opening_bounds}
+use Rattle.ice_defs.specs.Lawful.{IsExchange}
 use Rattle.ice_defs.specs.Weighing.{weighted_weights}
-use Rattle.ice_tree.specs.Alike.{AreAlike}
 use Rattle.ice_tree.proofs.Filling.{weights_of-weighted, length-weighted_list}
-use Rattle.ice_net.specs.Net.{AreModest}
+use Rattle.ice_net.specs.Net.{AreAtMostTrillion}
 use Rattle.ice_net.specs.Net as net
 use Rattle.ice_net.proofs.Modest.{weighted-modest}
+use Rattle.ice_trade.proofs.Weighted.{bidder_bounds, length-bounds}
 use Rattle.ice_cli.specs.declared.best_set.BestSet.{BestSet}
 use Rattle.ice_cli.specs.Output.{best_end}
 use Rattle.ice_cli.specs.BestServed.{IsBestNet, AreBestLines, ends, goes_on}
 use Rattle.ice_cli.specs.Bests.{AreBestSets, lines_of, best_text}
 
--- ---- what an exchange says of one bidder
-
-tree_bounds : (goods : ℕ) (bidders : List Bidder) (b : ℕ) → AllByRecursion (IsBidder goods) bidders → b < length bidders
-    → AreBounds (length (tree_of (map (λ x. x.tree) bidders) b)) (bounds_of (map (λ x. x.bounds) bidders) b)
-tree_bounds goods [] b all h = absurd (omega arith)
-tree_bounds goods (x ∷ bidders) zero all h = all.0.bounds
-tree_bounds goods (x ∷ bidders) (suc b) all h = tree_bounds goods bidders b all.1 (omega arith)
-
-pub bidder_bounds : (ex : Exchange) (b : ℕ) → IsExchange ex → b < length ex.bidders → AreBounds (length (tree_of (trees_of ex) b)) (bounds_of (opening_bounds ex) b)
-bidder_bounds ex b is h = tree_bounds (length ex.goods) ex.bidders b is.bidders h
-
-pub length-trees : (ex : Exchange) → length (trees_of ex) ≡ length ex.bidders
-length-trees ex = length-map ex.bidders (λ (x : Bidder). x.tree)
-
-pub length-bounds : (ex : Exchange) → length (opening_bounds ex) ≡ length ex.bidders
-length-bounds ex = length-map ex.bidders (λ (x : Bidder). x.bounds)
-
-pub length-names : (ex : Exchange) → length (names_of ex) ≡ length ex.bidders
-length-names ex = length-map ex.bidders (λ (x : Bidder). x.name)
-
--- weights of 0 are alike to the bounds
-pub zero-alike : (ex : Exchange) → IsExchange ex → AreAlike (map (λ t. replicate (length t) (pos 0)) (trees_of ex)) (opening_bounds ex)
-zero-alike ex is = record {
-  count = length-map (trees_of ex) (λ (t : Tree). replicate (length t) (pos 0)) ∙ length-trees ex ∙ sym (length-bounds ex);
-  nodes = λ b h.
-      let l : b < length ex.bidders = omega (arith, length-bounds ex, h) in
-      let m : b < length (trees_of ex) = omega (arith, length-trees ex, l) in
-      ap length (get_or-map (λ (t : Tree). replicate (length t) (pos 0)) (trees_of ex) b [] [] m)
-      ∙ length-replicate (length (tree_of (trees_of ex) b)) (pos 0) ∙ sym (bidder_bounds ex b is l).lo_count;
-}
+-- ---- one bidder
 
 -- the weighted values of a bidder: one for each node, and modest
 pub record AreWeighted (ex : Exchange) (b : ℕ) (w : List ℤ) : Type 0 where
   pub count : length w ≡ length (tree_of (trees_of ex) b)
-  pub modest : AreModest w
+  pub modest : AreAtMostTrillion w
 
 pub weighted_values : (ex : Exchange) (b : ℕ) → IsExchange ex → b < length ex.bidders → AreWeighted ex b (weights_of (weighted_weights ex.settings.weight (opening_bounds ex)) b)
 weighted_values ex b is h =
@@ -67,10 +37,10 @@ weighted_values ex b is h =
     })
 
 pub best_net : (ex : Exchange) (p : Prices) (b : ℕ) (t : Tree) (w : List ℤ) (s : NodeSet) (x : ℤ) → t ≡ tree_of (trees_of ex) b → w ≡ weights_of (weighted_weights ex.settings.weight (opening_bounds ex)) b
-    → net.IsBestNet t w 100 p s x → IsBestNet ex p b s x
+    → net.IsBestAtPrices t w 100 p s x → IsBestNet ex p b s x
 best_net ex p b t w s x tree weights is =
-    let P : Tree → Type 0 = λ u. net.IsBestNet u w 100 p s x in
-    let Q : List ℤ → Type 0 = λ v. net.IsBestNet (tree_of (trees_of ex) b) v 100 p s x in
+    let P : Tree → Type 0 = λ u. net.IsBestAtPrices u w 100 p s x in
+    let Q : List ℤ → Type 0 = λ v. net.IsBestAtPrices (tree_of (trees_of ex) b) v 100 p s x in
     let best = subst Q weights (subst P tree is) in
     record { satisfied = best.satisfied; has = best.has; greatest = best.greatest }
 

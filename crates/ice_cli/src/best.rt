@@ -17,17 +17,8 @@ use ice_edge::Shelf;
 use ice_net::{Scratch, best_at_prices};
 use ice_terms::Prices;
 use ice_trade::Exchange;
-use ice_tree::{AllWeights, NoMemory, NodeSet};
+use ice_tree::{AllWeights, NoMemory};
 use std::alloc::Global;
-
-/// The weighted values of all bidders.
-fn weighted_values(alloc: Global, exchange: &Exchange) -> Result<AllWeights, NoMemory>
-    ensures { IfOk result (λ weights. weights ≡ weighted_weights exchange.now.settings.weight (opening_bounds exchange.now)) }
-{
-    let mut weights = AllWeights::new(alloc, exchange.trees())?;
-    weights.fill_weighted(exchange.bounds(), exchange.settings().weight);
-    Ok(weights)
-}
 
 /// The best set of a bidder. Weighted values are in hundredths, so units cost 100 times their price.
 fn best_set(
@@ -43,17 +34,20 @@ fn best_set(
     ensures best { IsBestNet exchange.now prices.now bidder result.set result.net }
 {
     let tree = &exchange.trees()[bidder as usize];
-    let mut set = NodeSet::empty(tree.nodes());
-    let net = best_at_prices(tree, weights.of(bidder), 100, prices, scratch, &mut set);
+    let best = best_at_prices(tree, weights.of(bidder), 100, prices, scratch);
     let name = exchange.bidder_name(bidder).copy();
-    BestSet { name, net, set }
+    BestSet {
+        name,
+        net: best.net,
+        set: best.set,
+    }
 }
 
 /// The best sets of all bidders, in order.
 fn best_sets(alloc: Global, exchange: &Exchange, prices: &Prices) -> Result<Vec<BestSet>, NoMemory>
     ensures { IfOk result (λ sets. AreBestSets exchange.now prices.now 0 (names_of exchange.now) sets.items) }
 {
-    let weights = weighted_values(alloc, exchange)?;
+    let weights = exchange.weighted_values(alloc)?;
     let mut scratch = Scratch::new();
     let mut sets = Vec::new(alloc);
     for bidder in 0..exchange.bidders() {

@@ -1,7 +1,8 @@
 use Rattle.std.proofs.Common.{◌+◌, ◌≡◌, ◌<◌, ◌≤◌, [], length, take, get_or, arith}
 use Rattle.std.proofs.lemmas.List.{take_more, length-take-le}
 use Rattle.ice_defs.specs.Exchange.{names_of}
-use Rattle.ice_cli.proofs.Bidding.{length-names, AreBestSets-append}
+use Rattle.ice_trade.proofs.Weighted.{length-names}
+use Rattle.ice_cli.proofs.Bidding.{AreBestSets-append}
 use Rattle.ice_cli.proofs.best.best_sets.Goals as goal
 
 pub loop-bidder-preserved : goal.loop-bidder-preserved
