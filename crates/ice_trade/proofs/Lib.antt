@@ -10,3 +10,5 @@ pub mod NameLists
 pub mod Summing
 -- the bounds of an exchange's bidders, and weights of 0 for them
 pub mod Weighted
+-- what the makers take of a lawful exchange
+pub mod Passing
