@@ -5,6 +5,7 @@ use Rattle.std.proofs.lemmas.Bool.{cases_lt, cases_eq, and_from, and_parts, lt-l
 use Rattle.ice_defs.specs.Sum.{numbers_below}
 use Rattle.ice_defs.specs.Tree.{Tree, IsTree, parent_of, is_child, children_of}
 use Rattle.ice_defs.specs.Lawful.{IsDepth}
+use Rattle.ice_trade.proofs.Passing.{child_parent, parent_child}
 
 -- so many numbers from this one on
 abbrev pub from : ℕ → ℕ → List ℕ
@@ -48,12 +49,6 @@ one_passes p m (suc j) k low high passes = by (cases_eq m k) (λ other. one_pass
     by : (m ≡ k) ⊎ (m ≡ k → ⊥) → (suc m ≤ k → 0 < length (filter p (from (suc m) j))) → 0 < length (filter p (from m (suc j)))
     by (inl same) go = let here : p m ≡ true = ap p same ∙ passes in subst (λ l. 0 < length l) (sym (cond-true (p m) (m ∷ filter p (from (suc m) j)) (filter p (from (suc m) j)) here)) (omega arith)
     by (inr other) go = later (p m) (go (omega arith))
-
-pub child_parent : (t : Tree) (p c : ℕ) → is_child t p c ≡ true → (0 < c) × (parent_of t c ≡ p)
-child_parent t p c is = let (some, same) = and_parts (ltb 0 c) (eqb (parent_of t c) p) is in (ltb-true 0 c some, eqb-true _ _ same)
-
-pub parent_child : (t : Tree) (p c : ℕ) → 0 < c → parent_of t c ≡ p → is_child t p c ≡ true
-parent_child t p c some e = and_from (ltb 0 c) (eqb (parent_of t c) p) (lt-ltb 0 c some) (eq-eqb _ _ e)
 
 -- all nodes between the two are deeper than the first
 pub record IsUnder (t : Tree) (depth : ℕ → ℕ) (n m : ℕ) : Type 0 where

@@ -9,7 +9,7 @@ use Rattle.serde_json.specs.Data.{Data, Items, no_items, item}
 use Rattle.serde_json.specs.Events.{items_len}
 use Rattle.ice_read.specs.Values.{at_member, at_index, member_or_null, text_of}
 use Rattle.ice_read.specs.TreeFile.{Draft, Opened, leaf_at, opened_at, children_at, closed_at, choose_at, is_buy, is_sell, is_choose, no_child, node_of, node_at}
-use Rattle.ice_read.proofs.Grown.{step}
+use Rattle.ice_read.proofs.NodesAdded.{step}
 
 leaf_none : (levels parent : ℕ) (path : Path) (draft new : Draft) (word : List ℕ) (kind : ℕ → ℕ → NodeKind) (d : Data) → leaf_at [] levels parent path draft word kind d ≡ Ok new → ⊥
 leaf_none levels parent path draft new word kind d e = by_text (text_of (at_member path word) (member_or_null word d)) refl

@@ -17,7 +17,7 @@ use Rattle.ice_read.specs.Values.{at_member, at_index}
 use Rattle.ice_read.specs.TreeFile.{Draft, Interval, Opened, children_at, closed_at, choose_at, is_buy, is_sell, is_choose, no_child, node_of, node_at}
 use Rattle.ice_read.specs.Reading.{taken, levels_below, leaf_below, opened_below, node_below, IsWaiting}
 use Rattle.ice_read.proofs.Pairs.{items_len-items_view}
-use Rattle.ice_read.proofs.Grown.{IsHeld, AreAdded, IsOpened, opened-made, node_at-added, one_added, one_more, none_added, grown, opened_kind, no_child_yet}
+use Rattle.ice_read.proofs.NodesAdded.{IsHeld, AreAdded, IsOpened, opened-made, node_at-added, one_added, one_more, none_added, grown, opened_kind, no_child_yet}
 
 -- how the children of a node are read
 abbrev pub below : List (List ℕ) → ℕ → ℕ → Path → Draft → Data → Read Draft

@@ -10,7 +10,7 @@ use Rattle.ice_defs.specs.FileFault.{Path}
 use Rattle.serde_json.specs.Data.{Data}
 use Rattle.ice_read.specs.TreeFile.{no_draft, tree_at}
 use Rattle.ice_read.specs.Reading.{taken, node_below}
-use Rattle.ice_read.proofs.Grown.{AreAdded, node_at-added}
+use Rattle.ice_read.proofs.NodesAdded.{AreAdded, node_at-added}
 use Rattle.ice_read.proofs.NoGoods.{some_good}
 
 pub tree_at-node : (goods : List (List ℕ)) (path : Path) (d : Data) → tree_at goods path d ≡ node_below goods no_tree path d

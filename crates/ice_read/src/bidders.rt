@@ -27,7 +27,10 @@ fn own_member(
 ) -> Result<ArrayVec<u32, 32>, ReadFault>
     requires names { AreNames (good_names exchange.now) }
     requires short { length name.now ≤ 32 }
-    ensures reading { MatchResult result (λ own. (path : Path) → of_member path (view value.now) name.now (own_at (good_names exchange.now)) ≡ Ok own.items) (λ fault. IsFault fault (λ path. of_member path (view value.now) name.now (own_at (good_names exchange.now)))) }
+    ensures reading { MatchResult result (λ own. (path : Path)
+        → of_member path (view value.now) name.now (own_at (good_names exchange.now))
+        ≡ Ok own.items) (λ fault. IsFault fault
+        (λ path. of_member path (view value.now) name.now (own_at (good_names exchange.now)))) }
     ensures count { IfOk result (λ own. length own.items ≡ length exchange.now.goods) }
     ensures limits { IfOk result (λ own. AreAmounts own.items) }
     ensures short { IfErr result (λ fault. length fault.place ≤ length name.now + 34) }
@@ -44,7 +47,11 @@ fn tree_member(
     name: &str,
 ) -> Result<(Tree, Bounds), ReadFault>
     requires { length name.now ≤ 32 }
-    ensures reading { MatchResult result (λ made. (path : Path) → of_member path (view value.now) name.now (tree_at (good_names exchange.now)) ≡ Ok (record { tree = made.0; bounds = made.1 })) (λ fault. IsFault fault (λ path. of_member path (view value.now) name.now (tree_at (good_names exchange.now)))) }
+    ensures reading { MatchResult result (λ made. (path : Path)
+        → of_member path (view value.now) name.now (tree_at (good_names exchange.now))
+        ≡ Ok (record { tree = made.0; bounds = made.1 }))
+        (λ fault. IsFault fault (λ path.
+        of_member path (view value.now) name.now (tree_at (good_names exchange.now)))) }
     ensures tree { IfOk result (λ made. IsLimitedTree (length exchange.now.goods) made.0) }
     ensures bounds { IfOk result (λ made. AreBounds (length made.0) made.1) }
     ensures short { IfErr result (λ fault. length fault.place ≤ length name.now + 158) }
@@ -58,9 +65,12 @@ fn tree_member(
 // Takes a bidder.
 fn take_bidder(exchange: &mut ExchangeMaker, value: &Value) -> Result<(), ReadFault>
     requires { AreNames (good_names exchange.old) }
-    ensures taken { OnOk result ((path : Path) → bidder_added exchange.old path (view value.now) ≡ Ok exchange.new.bidders) }
-    ensures refused { IfErr result (λ fault. IsFault fault (λ path. bidder_added exchange.old path (view value.now))) }
-    ensures same { OnOk result (exchange.new ≡ record exchange.old { bidders = exchange.new.bidders }) }
+    ensures taken { OnOk result ((path : Path)
+        → bidder_added exchange.old path (view value.now) ≡ Ok exchange.new.bidders) }
+    ensures refused { IfErr result (λ fault. IsFault fault
+        (λ path. bidder_added exchange.old path (view value.now))) }
+    ensures same { OnOk result (exchange.new
+        ≡ record exchange.old { bidders = exchange.new.bidders }) }
     ensures one { OnOk result (length exchange.new.bidders ≡ length exchange.old.bidders + 1) }
     ensures few { OnOk result (length exchange.new.bidders ≤ 40) }
     ensures short { IfErr result (λ fault. length fault.place ≤ 162) }
@@ -81,9 +91,12 @@ fn take_bidder(exchange: &mut ExchangeMaker, value: &Value) -> Result<(), ReadFa
 pub(crate) fn take_bidders(exchange: &mut ExchangeMaker, value: &Value) -> Result<(), ReadFault>
     requires names { AreNames (good_names exchange.old) }
     requires empty { exchange.old.bidders ≡ [] }
-    ensures taken { OnOk result ((path : Path) → bidders_at exchange.old.goods path (view value.now) ≡ Ok exchange.new.bidders) }
-    ensures refused { IfErr result (λ fault. IsFault fault (λ path. bidders_at exchange.old.goods path (view value.now))) }
-    ensures same { OnOk result (exchange.new ≡ record exchange.old { bidders = exchange.new.bidders }) }
+    ensures taken { OnOk result ((path : Path)
+        → bidders_at exchange.old.goods path (view value.now) ≡ Ok exchange.new.bidders) }
+    ensures refused { IfErr result (λ fault. IsFault fault
+        (λ path. bidders_at exchange.old.goods path (view value.now))) }
+    ensures same { OnOk result (exchange.new
+        ≡ record exchange.old { bidders = exchange.new.bidders }) }
     ensures short { IfErr result (λ fault. length fault.place ≤ 168) }
 {
     let items = array_of(value)?;

@@ -25,7 +25,10 @@ struct Interval {
 
 // A number of an interval, at this index.
 fn bound_of(value: &Value, index: u16) -> Result<u16, ReadFault>
-    ensures reading { MatchResult result (λ number. (path : Path) → whole_of (at_index path index) (pos 0) (pos 199) (view value.now) ≡ Ok (pos number)) (λ fault. IsFault fault (λ path. whole_of (at_index path index) (pos 0) (pos 199) (view value.now))) }
+    ensures reading { MatchResult result (λ number. (path : Path)
+        → whole_of (at_index path index) (pos 0) (pos 199) (view value.now) ≡ Ok (pos number))
+        (λ fault. IsFault fault (λ path.
+        whole_of (at_index path index) (pos 0) (pos 199) (view value.now))) }
     ensures short { IfErr result (λ fault. length fault.place ≤ 6) }
 {
     match natural_of(value, 0, 199) {
@@ -35,7 +38,10 @@ fn bound_of(value: &Value, index: u16) -> Result<u16, ReadFault>
 }
 
 fn interval_of(value: &Value) -> Result<Interval, ReadFault>
-    ensures reading { MatchResult result (λ interval. (path : Path) → interval_at path (view value.now) ≡ Ok (record { least = interval.least; most = interval.most })) (λ fault. IsFault fault (λ path. interval_at path (view value.now))) }
+    ensures reading { MatchResult result (λ interval. (path : Path)
+        → interval_at path (view value.now)
+        ≡ Ok (record { least = interval.least; most = interval.most }))
+        (λ fault. IsFault fault (λ path. interval_at path (view value.now))) }
     ensures short { IfErr result (λ fault. length fault.place ≤ 6) }
 {
     match array_of(value)?.as_slice() {
@@ -50,7 +56,10 @@ fn interval_of(value: &Value) -> Result<Interval, ReadFault>
 
 fn interval_member(value: &Value, name: &str) -> Result<Interval, ReadFault>
     requires { length name.now ≤ 32 }
-    ensures reading { MatchResult result (λ interval. (path : Path) → of_member path (view value.now) name.now interval_at ≡ Ok (record { least = interval.least; most = interval.most })) (λ fault. IsFault fault (λ path. of_member path (view value.now) name.now interval_at)) }
+    ensures reading { MatchResult result (λ interval. (path : Path)
+        → of_member path (view value.now) name.now interval_at
+        ≡ Ok (record { least = interval.least; most = interval.most }))
+        (λ fault. IsFault fault (λ path. of_member path (view value.now) name.now interval_at)) }
     ensures short { IfErr result (λ fault. length fault.place ≤ length name.now + 7) }
 {
     match interval_of(member(value, name)?) {
@@ -66,9 +75,20 @@ pub(crate) fn open_choose<'a>(
 ) -> Result<&'a Vec<Value>, ReadFault>
     requires going { is_complete maker.old.draft ≡ false }
     requires deep { length maker.old.draft.opened ≤ 16 }
-    ensures opened { IfOk result (λ items. (interval : file.Interval) × ((goods : List (List ℕ)) (path : Path) → opened_below goods maker.old.draft path (view value.now) ≡ Ok (record { interval = interval; items = items_view items.now.items; made = taken maker.new.draft }))) }
-    ensures refused { IfErr result (λ fault. (goods : List (List ℕ)) → IsFault fault (λ path. opened_below goods maker.old.draft path (view value.now))) }
-    ensures same { OnOk result (maker.new ≡ record maker.old { draft = record maker.new.draft { opened = length maker.old.draft.tree ∷ maker.old.draft.opened } }) }
+    ensures opened { IfOk result (λ items. (interval : file.Interval)
+        × ((goods : List (List ℕ)) (path : Path)
+        → opened_below goods maker.old.draft path (view value.now)
+        ≡ Ok
+        (record { interval = interval; items = items_view items.now.items; made = taken maker.new.draft }))) }
+    ensures refused { IfErr result (λ fault. (goods : List (List ℕ))
+        → IsFault fault (λ path. opened_below goods maker.old.draft path (view value.now))) }
+    ensures same { OnOk result (maker.new
+        ≡ record maker.old {
+          draft = record maker.new.draft {
+            opened = length maker.old.draft.tree
+                ∷ maker.old.draft.opened;
+          };
+        }) }
     ensures shallow { OnOk result (length maker.new.draft.opened ≤ 16) }
     ensures short { IfErr result (λ fault. length fault.place ≤ 13) }
 {

@@ -38,8 +38,10 @@ fn take_goods_member(
     requires empty { exchange.old.goods ≡ [] }
     requires first { exchange.old.bidders ≡ [] }
     requires short { length name.now ≤ 32 }
-    ensures taken { OnOk result ((path : Path) → of_member path (view value.now) name.now goods_at ≡ Ok exchange.new.goods) }
-    ensures refused { IfErr result (λ fault. IsFault fault (λ path. of_member path (view value.now) name.now goods_at)) }
+    ensures taken { OnOk result ((path : Path)
+        → of_member path (view value.now) name.now goods_at ≡ Ok exchange.new.goods) }
+    ensures refused { IfErr result (λ fault. IsFault fault
+        (λ path. of_member path (view value.now) name.now goods_at)) }
     ensures same { OnOk result (exchange.new ≡ record exchange.old { goods = exchange.new.goods }) }
 {
     match take_goods(exchange, member(value, name)?) {
@@ -56,9 +58,13 @@ fn take_bidders_member(
     requires names { AreNames (good_names exchange.old) }
     requires empty { exchange.old.bidders ≡ [] }
     requires short { length name.now ≤ 32 }
-    ensures taken { OnOk result ((path : Path) → of_member path (view value.now) name.now (bidders_at exchange.old.goods) ≡ Ok exchange.new.bidders) }
-    ensures refused { IfErr result (λ fault. IsFault fault (λ path. of_member path (view value.now) name.now (bidders_at exchange.old.goods))) }
-    ensures same { OnOk result (exchange.new ≡ record exchange.old { bidders = exchange.new.bidders }) }
+    ensures taken { OnOk result ((path : Path)
+        → of_member path (view value.now) name.now (bidders_at exchange.old.goods)
+        ≡ Ok exchange.new.bidders) }
+    ensures refused { IfErr result (λ fault. IsFault fault
+        (λ path. of_member path (view value.now) name.now (bidders_at exchange.old.goods))) }
+    ensures same { OnOk result (exchange.new
+        ≡ record exchange.old { bidders = exchange.new.bidders }) }
 {
     match take_bidders(exchange, member(value, name)?) {
         Ok(()) => Ok(()),

@@ -39,7 +39,8 @@ impl ReadFault {
     /// The same fault, told from an array that has it at this index.
     pub(crate) fn at(self, index: u16) -> ReadFault
         requires { length self.place ≤ 250 }
-        ensures fault { result ≡ record { place = (46 ∷ decimal index) ++ self.place; cause = self.cause } }
+        ensures fault { result
+            ≡ record { place = (46 ∷ decimal index) ++ self.place; cause = self.cause } }
         ensures short { length result.place ≤ length self.place + 6 }
     {
         ReadFault {

@@ -10,7 +10,9 @@ use std::alloc::Global;
 
 /// The value of the bytes of a file.
 pub(crate) fn value_of(alloc: Global, bytes: &[u8]) -> Result<Value, ReadFault>
-    ensures value { MatchResult result (λ value. value_of bytes.now ≡ Some (view value)) (λ fault. fault.cause ≢ ReadCause.NoMemory → (fault.cause ≡ ReadCause.NotJson) × (value_of bytes.now ≡ None)) }
+    ensures value { MatchResult result (λ value. value_of bytes.now ≡ Some (view value))
+        (λ fault. fault.cause ≢ ReadCause.NoMemory → (fault.cause ≡ ReadCause.NotJson)
+        × (value_of bytes.now ≡ None)) }
     ensures place { IfErr result (λ fault. fault.place ≡ []) }
 {
     match Value::from_slice(alloc, bytes) {

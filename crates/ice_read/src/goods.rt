@@ -25,7 +25,8 @@ pub(crate) fn good_member(
     name: &str,
 ) -> Result<u8, ReadFault>
     requires { length name.now ≤ 32 }
-    ensures reading { IsReading result (λ path. of_member path (view value.now) name.now (good_at (good_names exchange.now))) }
+    ensures reading { IsReading result (λ path.
+        of_member path (view value.now) name.now (good_at (good_names exchange.now))) }
     ensures short { IfErr result (λ fault. length fault.place ≤ length name.now + 1) }
     ensures there { IfOk result (λ good. good < length exchange.now.goods) }
 {
@@ -38,7 +39,9 @@ pub(crate) fn good_member(
 
 // The name of a good, and whether it is exact.
 fn good_of(value: &Value) -> Result<(&str, bool), ReadFault>
-    ensures reading { MatchResult result (λ good. (path : Path) → good_value path (view value.now) ≡ Ok (record { name = good.0.now; exact = good.1 })) (λ fault. IsFault fault (λ path. good_value path (view value.now))) }
+    ensures reading { MatchResult result (λ good. (path : Path)
+        → good_value path (view value.now) ≡ Ok (record { name = good.0.now; exact = good.1 }))
+        (λ fault. IsFault fault (λ path. good_value path (view value.now))) }
     ensures short { IfErr result (λ fault. length fault.place ≤ 6) }
 {
     if let Some(name) = value.as_str() {
@@ -54,8 +57,10 @@ fn good_of(value: &Value) -> Result<(&str, bool), ReadFault>
 }
 
 fn add_good(exchange: &mut ExchangeMaker, name: &str, exact: bool) -> Result<u8, MakeFault>
-    ensures made { OnOk result (exchange.new ≡ with_good exchange.old (record { name = name.now; exact = exact })) }
-    ensures refused { RefusedBy result (good_refusal exchange.old.goods exchange.old.bidders name.now) }
+    ensures made { OnOk result (exchange.new
+        ≡ with_good exchange.old (record { name = name.now; exact = exact })) }
+    ensures refused { RefusedBy result
+        (good_refusal exchange.old.goods exchange.old.bidders name.now) }
     ensures few { OnOk result (length exchange.new.goods ≤ 32) }
 {
     if exact {
@@ -68,8 +73,10 @@ fn add_good(exchange: &mut ExchangeMaker, name: &str, exact: bool) -> Result<u8,
 // Takes a good.
 fn take_good(exchange: &mut ExchangeMaker, value: &Value) -> Result<(), ReadFault>
     requires { exchange.old.bidders ≡ [] }
-    ensures taken { OnOk result ((path : Path) → good_added exchange.old path (view value.now) ≡ Ok exchange.new.goods) }
-    ensures refused { IfErr result (λ fault. IsFault fault (λ path. good_added exchange.old path (view value.now))) }
+    ensures taken { OnOk result ((path : Path)
+        → good_added exchange.old path (view value.now) ≡ Ok exchange.new.goods) }
+    ensures refused { IfErr result (λ fault. IsFault fault
+        (λ path. good_added exchange.old path (view value.now))) }
     ensures same { OnOk result (exchange.new ≡ record exchange.old { goods = exchange.new.goods }) }
     ensures one { OnOk result (length exchange.new.goods ≡ length exchange.old.goods + 1) }
     ensures few { OnOk result (length exchange.new.goods ≤ 32) }
@@ -89,8 +96,10 @@ fn take_good(exchange: &mut ExchangeMaker, value: &Value) -> Result<(), ReadFaul
 pub(crate) fn take_goods(exchange: &mut ExchangeMaker, value: &Value) -> Result<(), ReadFault>
     requires empty { exchange.old.goods ≡ [] }
     requires first { exchange.old.bidders ≡ [] }
-    ensures taken { OnOk result ((path : Path) → goods_at path (view value.now) ≡ Ok exchange.new.goods) }
-    ensures refused { IfErr result (λ fault. IsFault fault (λ path. goods_at path (view value.now))) }
+    ensures taken { OnOk result ((path : Path)
+        → goods_at path (view value.now) ≡ Ok exchange.new.goods) }
+    ensures refused { IfErr result (λ fault. IsFault fault
+        (λ path. goods_at path (view value.now))) }
     ensures same { OnOk result (exchange.new ≡ record exchange.old { goods = exchange.new.goods }) }
     ensures short { IfErr result (λ fault. length fault.place ≤ 12) }
 {

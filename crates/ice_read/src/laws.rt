@@ -2,7 +2,7 @@
 ghost use Rattle.ice_read.specs.Laws.{WrittenIsRead, LineFormIsNoJson};
 
 /// The text of a lawful exchange is read again as that exchange.
-#[tactic(auto, using(crate::proofs::Returning::written_is_read))]
+#[tactic(auto, using(crate::proofs::TextAgain::written_is_read))]
 pub fn written_is_read()
     ensures { WrittenIsRead }
 {}

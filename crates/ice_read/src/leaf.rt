@@ -66,9 +66,13 @@ pub(crate) fn take_leaf(
     requires goods { maker.old.goods ≡ max 1 (length exchange.now.goods) }
     requires going { is_complete maker.old.draft ≡ false }
     requires deep { length maker.old.draft.opened ≤ 16 }
-    ensures taken { OnOk result ((path : Path) → leaf_below (good_names exchange.now) maker.old.draft side path (view value.now) ≡ Ok (taken maker.new.draft)) }
-    ensures refused { IfErr result (λ fault. IsFault fault (λ path. leaf_below (good_names exchange.now) maker.old.draft side path (view value.now))) }
-    ensures same { OnOk result (maker.new ≡ record maker.old { draft = record maker.new.draft { opened = maker.old.draft.opened } }) }
+    ensures taken { OnOk result ((path : Path)
+        → leaf_below (good_names exchange.now) maker.old.draft side path (view value.now)
+        ≡ Ok (taken maker.new.draft)) }
+    ensures refused { IfErr result (λ fault. IsFault fault
+        (λ path. leaf_below (good_names exchange.now) maker.old.draft side path (view value.now))) }
+    ensures same { OnOk result (maker.new
+        ≡ record maker.old { draft = record maker.new.draft { opened = maker.old.draft.opened } }) }
     ensures short { IfErr result (λ fault. length fault.place ≤ 9) }
 {
     let good = good_member(exchange, value, side.word())?;

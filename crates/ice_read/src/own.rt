@@ -34,8 +34,11 @@ fn take_amount(
     requires named { AreNames (good_names exchange.now) }
     requires count { length own.old.items ≡ length exchange.now.goods }
     requires limits { AreAmounts own.old.items }
-    ensures taken { OnOk result ((path : Path) → own_one (good_names exchange.now) path own.old.items name.now (view value.now) ≡ Ok own.new.items) }
-    ensures refused { IfErr result (λ fault. IsFault fault (λ path. own_one (good_names exchange.now) path own.old.items name.now (view value.now))) }
+    ensures taken { OnOk result ((path : Path)
+        → own_one (good_names exchange.now) path own.old.items name.now (view value.now)
+        ≡ Ok own.new.items) }
+    ensures refused { IfErr result (λ fault. IsFault fault
+        (λ path. own_one (good_names exchange.now) path own.old.items name.now (view value.now))) }
     ensures count { OnOk result (length own.new.items ≡ length exchange.now.goods) }
     ensures limits { OnOk result (AreAmounts own.new.items) }
     ensures short { IfErr result (λ fault. length fault.place ≤ 33) }
@@ -58,7 +61,9 @@ pub(crate) fn own_of(
     value: &Value,
 ) -> Result<ArrayVec<u32, 32>, ReadFault>
     requires { AreNames (good_names exchange.now) }
-    ensures reading { MatchResult result (λ own. (path : Path) → own_at (good_names exchange.now) path (view value.now) ≡ Ok own.items) (λ fault. IsFault fault (λ path. own_at (good_names exchange.now) path (view value.now))) }
+    ensures reading { MatchResult result (λ own. (path : Path)
+        → own_at (good_names exchange.now) path (view value.now) ≡ Ok own.items)
+        (λ fault. IsFault fault (λ path. own_at (good_names exchange.now) path (view value.now))) }
     ensures count { IfOk result (λ own. length own.items ≡ length exchange.now.goods) }
     ensures limits { IfOk result (λ own. AreAmounts own.items) }
     ensures short { IfErr result (λ fault. length fault.place ≤ 33) }

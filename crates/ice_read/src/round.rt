@@ -20,7 +20,9 @@ use std::alloc::Global;
 
 /// A list of at most 200 values.
 fn values_at(value: &Value) -> Result<ArrayVec<i64, 200>, ReadFault>
-    ensures reading { MatchResult result (λ values. (path : Path) → values_at path (view value.now) ≡ Ok values.items) (λ fault. IsFault fault (λ path. values_at path (view value.now))) }
+    ensures reading { MatchResult result (λ values. (path : Path)
+        → values_at path (view value.now) ≡ Ok values.items)
+        (λ fault. IsFault fault (λ path. values_at path (view value.now))) }
     ensures place { IfErr result (λ fault. length fault.place ≤ 6) }
     ensures values { IfOk result (λ values. AreValues values.items) }
 {
@@ -52,7 +54,8 @@ fn name_at(value: &Value) -> Result<Name, ReadFault>
 
 /// The name in a bid.
 fn bidder_in(bid: &Value) -> Result<Name, ReadFault>
-    ensures reading { IsReading result (λ path. of_member path (view bid.now) (codes "bidder") name_at) }
+    ensures reading { IsReading result (λ path.
+        of_member path (view bid.now) (codes "bidder") name_at) }
     ensures place { IfErr result (λ fault. length fault.place ≤ 7) }
 {
     match name_at(member(bid, "bidder")?) {
@@ -64,7 +67,9 @@ fn bidder_in(bid: &Value) -> Result<Name, ReadFault>
 /// One of the two lists of values in a bid.
 fn values_in(bid: &Value, name: &str) -> Result<ArrayVec<i64, 200>, ReadFault>
     requires { length name.now < 100 }
-    ensures reading { MatchResult result (λ values. (path : Path) → of_member path (view bid.now) name.now values_at ≡ Ok values.items) (λ fault. IsFault fault (λ path. of_member path (view bid.now) name.now values_at)) }
+    ensures reading { MatchResult result (λ values. (path : Path)
+        → of_member path (view bid.now) name.now values_at ≡ Ok values.items)
+        (λ fault. IsFault fault (λ path. of_member path (view bid.now) name.now values_at)) }
     ensures place { IfErr result (λ fault. length fault.place ≤ length name.now + 7) }
     ensures values { IfOk result (λ values. AreValues values.items) }
 {
@@ -90,7 +95,10 @@ fn bid_at(value: &Value) -> Result<Bid, ReadFault>
 
 /// The list of at most 400 bids in a file.
 fn bids_in(file: &Value) -> Result<&Vec<Value>, ReadFault>
-    ensures reading { MatchResult result (λ items. bids_of_value (view file.now) ≡ each bid_at (at_member [] (codes "bids")) 0 (items_view items.now.items)) (λ fault. bids_of_value (view file.now) ≡ Err (fault_at [] fault)) }
+    ensures reading { MatchResult result (λ items.
+        bids_of_value (view file.now)
+        ≡ each bid_at (at_member [] (codes "bids")) 0 (items_view items.now.items))
+        (λ fault. bids_of_value (view file.now) ≡ Err (fault_at [] fault)) }
     ensures few { IfOk result (λ items. vec_len items.now ≤ 400) }
     ensures place { IfErr result (λ fault. fault.cause ≡ ReadCause.NoMemory → fault.place ≡ []) }
 {
@@ -106,7 +114,9 @@ fn bids_in(file: &Value) -> Result<&Vec<Value>, ReadFault>
 
 /// The bids of a file's value.
 fn bids_of(alloc: Global, file: &Value) -> Result<Vec<Bid>, ReadFault>
-    ensures answer { MatchResult result (λ bids. bids_of_value (view file.now) ≡ Ok bids.items) (λ fault. fault.cause ≢ ReadCause.NoMemory → bids_of_value (view file.now) ≡ Err (fault_at [] fault)) }
+    ensures answer { MatchResult result (λ bids. bids_of_value (view file.now) ≡ Ok bids.items)
+        (λ fault. fault.cause ≢ ReadCause.NoMemory
+        → bids_of_value (view file.now) ≡ Err (fault_at [] fault)) }
     ensures memory { IfErr result (λ fault. fault.cause ≡ ReadCause.NoMemory → fault.place ≡ []) }
 {
     let items = bids_in(file)?;
@@ -128,7 +138,8 @@ fn bids_of(alloc: Global, file: &Value) -> Result<Vec<Bid>, ReadFault>
 ///
 /// Which bidders there are, and how many values a bid needs, is not known here: a bid for an unknown name and a wrong count of values are read.
 pub fn read_round(alloc: Global, bytes: &[u8]) -> Result<Vec<Bid>, ReadFault>
-    ensures answer { MatchResult result (λ bids. bids_of bytes.now ≡ Ok bids.items) (λ fault. fault.cause ≢ ReadCause.NoMemory → bids_of bytes.now ≡ Err (fault_at [] fault)) }
+    ensures answer { MatchResult result (λ bids. bids_of bytes.now ≡ Ok bids.items)
+        (λ fault. fault.cause ≢ ReadCause.NoMemory → bids_of bytes.now ≡ Err (fault_at [] fault)) }
     ensures memory { IfErr result (λ fault. fault.cause ≡ ReadCause.NoMemory → fault.place ≡ []) }
 {
     let file = value_of(alloc, bytes)?;

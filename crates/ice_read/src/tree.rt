@@ -42,10 +42,15 @@ fn take_node(
 ) -> Result<(), ReadFault>
     requires goods { maker.old.goods ≡ max 1 (length exchange.now.goods) }
     requires waiting { IsWaiting maker.old.draft }
-    ensures taken { OnOk result ((path : Path) → node_below (good_names exchange.now) maker.old.draft path (view value.now) ≡ Ok (taken maker.new.draft)) }
-    ensures refused { IfErr result (λ fault. IsFault fault (λ path. node_below (good_names exchange.now) maker.old.draft path (view value.now))) }
-    ensures same { OnOk result (maker.new ≡ record maker.old { draft = record maker.new.draft { opened = maker.old.draft.opened } }) }
-    ensures short { IfErr result (λ fault. length fault.place ≤ 13 + 9 * levels_below maker.old.draft) }
+    ensures taken { OnOk result ((path : Path)
+        → node_below (good_names exchange.now) maker.old.draft path (view value.now)
+        ≡ Ok (taken maker.new.draft)) }
+    ensures refused { IfErr result (λ fault. IsFault fault
+        (λ path. node_below (good_names exchange.now) maker.old.draft path (view value.now))) }
+    ensures same { OnOk result (maker.new
+        ≡ record maker.old { draft = record maker.new.draft { opened = maker.old.draft.opened } }) }
+    ensures short { IfErr result
+        (λ fault. length fault.place ≤ 13 + 9 * levels_below maker.old.draft) }
 {
     if is_buy(value) {
         return take_leaf(exchange, maker, value, Side::Buy);
@@ -70,7 +75,10 @@ fn take_node(
 
 /// The tree of a bidder, with its opening bounds.
 pub(crate) fn tree_of(exchange: &ExchangeMaker, value: &Value) -> Result<(Tree, Bounds), ReadFault>
-    ensures reading { MatchResult result (λ made. (path : Path) → tree_at (good_names exchange.now) path (view value.now) ≡ Ok (record { tree = made.0; bounds = made.1 })) (λ fault. IsFault fault (λ path. tree_at (good_names exchange.now) path (view value.now))) }
+    ensures reading { MatchResult result (λ made. (path : Path)
+        → tree_at (good_names exchange.now) path (view value.now)
+        ≡ Ok (record { tree = made.0; bounds = made.1 }))
+        (λ fault. IsFault fault (λ path. tree_at (good_names exchange.now) path (view value.now))) }
     ensures tree { IfOk result (λ made. IsLimitedTree (length exchange.now.goods) made.0) }
     ensures bounds { IfOk result (λ made. AreBounds (length made.0) made.1) }
     ensures short { IfErr result (λ fault. length fault.place ≤ 157) }

@@ -15,7 +15,9 @@ use serde_json::{Map, Value};
 
 /// The members of an object.
 pub(crate) fn object_of(value: &Value) -> Result<&Map<String, Value>, ReadFault>
-    ensures reading { MatchResult result (λ members. (path : Path) → object_of path (view value.now) ≡ Ok (members_view members.now.entries)) (λ fault. IsFault fault (λ path. object_of path (view value.now))) }
+    ensures reading { MatchResult result (λ members. (path : Path)
+        → object_of path (view value.now) ≡ Ok (members_view members.now.entries))
+        (λ fault. IsFault fault (λ path. object_of path (view value.now))) }
     ensures place { IfErr result (λ fault. fault.place ≡ []) }
 {
     let Some(found) = value.as_object() else {
@@ -26,7 +28,9 @@ pub(crate) fn object_of(value: &Value) -> Result<&Map<String, Value>, ReadFault>
 
 /// The elements of an array.
 pub(crate) fn array_of(value: &Value) -> Result<&Vec<Value>, ReadFault>
-    ensures reading { MatchResult result (λ items. (path : Path) → array_of path (view value.now) ≡ Ok (items_view items.now.items)) (λ fault. IsFault fault (λ path. array_of path (view value.now))) }
+    ensures reading { MatchResult result (λ items. (path : Path)
+        → array_of path (view value.now) ≡ Ok (items_view items.now.items))
+        (λ fault. IsFault fault (λ path. array_of path (view value.now))) }
     ensures place { IfErr result (λ fault. fault.place ≡ []) }
 {
     let Some(found) = value.as_array() else {
@@ -37,7 +41,9 @@ pub(crate) fn array_of(value: &Value) -> Result<&Vec<Value>, ReadFault>
 
 /// A text.
 pub(crate) fn text_of(value: &Value) -> Result<&str, ReadFault>
-    ensures reading { MatchResult result (λ text. (path : Path) → text_of path (view value.now) ≡ Ok text.now) (λ fault. IsFault fault (λ path. text_of path (view value.now))) }
+    ensures reading { MatchResult result (λ text. (path : Path)
+        → text_of path (view value.now) ≡ Ok text.now)
+        (λ fault. IsFault fault (λ path. text_of path (view value.now))) }
     ensures place { IfErr result (λ fault. fault.place ≡ []) }
 {
     let Some(found) = value.as_str() else {
@@ -53,7 +59,7 @@ fn is_between(low: i64, number: i64, high: i64) -> bool
 }
 
 // Whether a value is a whole number.
-#[tactic(auto, using(crate::proofs::Whole::wholes))]
+#[tactic(auto, using(crate::proofs::WholeNumbers::wholes))]
 fn is_whole(value: &Value) -> bool
     ensures { result ≡ is_some (option_and_then as_integer (as_number (view value.now))) }
 {
@@ -98,7 +104,10 @@ pub(crate) fn has_exactly(value: &Value, names: &[&str]) -> bool
 /// A member of an object. Where it isn't there, no value is of the type that its place asks for.
 pub(crate) fn member<'a>(value: &'a Value, name: &str) -> Result<&'a Value, ReadFault>
     requires { length name.now < 256 }
-    ensures { MatchResult result (λ found. view found.now ≡ member_or_null name.now (view value.now)) (λ fault. (member_or_null name.now (view value.now) ≡ null) × (fault ≡ record { place = 46 ∷ name.now; cause = ReadCause.Shape })) }
+    ensures { MatchResult result (λ found.
+        view found.now ≡ member_or_null name.now (view value.now))
+        (λ fault. (member_or_null name.now (view value.now) ≡ null)
+        × (fault ≡ record { place = 46 ∷ name.now; cause = ReadCause.Shape })) }
 {
     let Some(found) = value.get(name) else {
         return Err(ReadFault::of(ReadCause::Shape).under(name));
@@ -108,7 +117,9 @@ pub(crate) fn member<'a>(value: &'a Value, name: &str) -> Result<&'a Value, Read
 
 /// A whole number between these limits, which is not negative.
 pub(crate) fn natural_of(value: &Value, low: u32, high: u32) -> Result<u32, ReadFault>
-    ensures reading { MatchResult result (λ number. (path : Path) → whole_of path (pos low) (pos high) (view value.now) ≡ Ok (pos number)) (λ fault. IsFault fault (λ path. whole_of path (pos low) (pos high) (view value.now))) }
+    ensures reading { MatchResult result (λ number. (path : Path)
+        → whole_of path (pos low) (pos high) (view value.now) ≡ Ok (pos number))
+        (λ fault. IsFault fault (λ path. whole_of path (pos low) (pos high) (view value.now))) }
     ensures place { IfErr result (λ fault. fault.place ≡ []) }
     ensures between { IfOk result (λ number. (low ≤ number) × (number ≤ high)) }
 {
@@ -124,7 +135,11 @@ pub(crate) fn natural_member(
     high: u32,
 ) -> Result<u32, ReadFault>
     requires { length name.now ≤ 32 }
-    ensures reading { MatchResult result (λ number. (path : Path) → of_member path (view value.now) name.now (λ p. whole_of p (pos low) (pos high)) ≡ Ok (pos number)) (λ fault. IsFault fault (λ path. of_member path (view value.now) name.now (λ p. whole_of p (pos low) (pos high)))) }
+    ensures reading { MatchResult result (λ number. (path : Path)
+        → of_member path (view value.now) name.now
+        (λ p. whole_of p (pos low) (pos high)) ≡ Ok (pos number))
+        (λ fault. IsFault fault (λ path. of_member path (view value.now) name.now
+        (λ p. whole_of p (pos low) (pos high)))) }
     ensures short { IfErr result (λ fault. length fault.place ≤ length name.now + 1) }
     ensures between { IfOk result (λ number. (low ≤ number) × (number ≤ high)) }
 {
@@ -137,7 +152,8 @@ pub(crate) fn natural_member(
 /// A whole number between these limits, in a member of an object.
 pub(crate) fn whole_member(value: &Value, name: &str, low: i64, high: i64) -> Result<i64, ReadFault>
     requires { length name.now ≤ 32 }
-    ensures reading { IsReading result (λ path. of_member path (view value.now) name.now (λ p. whole_of p low high)) }
+    ensures reading { IsReading result (λ path. of_member path (view value.now) name.now
+        (λ p. whole_of p low high)) }
     ensures short { IfErr result (λ fault. length fault.place ≤ length name.now + 1) }
     ensures between { IfOk result (IsBetween low high) }
 {
@@ -150,7 +166,9 @@ pub(crate) fn whole_member(value: &Value, name: &str, low: i64, high: i64) -> Re
 /// A text, in a member of an object.
 pub(crate) fn text_member<'a>(value: &'a Value, name: &str) -> Result<&'a str, ReadFault>
     requires { length name.now ≤ 32 }
-    ensures reading { MatchResult result (λ text. (path : Path) → of_member path (view value.now) name.now text_of ≡ Ok text.now) (λ fault. IsFault fault (λ path. of_member path (view value.now) name.now text_of)) }
+    ensures reading { MatchResult result (λ text. (path : Path)
+        → of_member path (view value.now) name.now text_of ≡ Ok text.now)
+        (λ fault. IsFault fault (λ path. of_member path (view value.now) name.now text_of)) }
     ensures short { IfErr result (λ fault. length fault.place ≤ length name.now + 1) }
 {
     match text_of(member(value, name)?) {
@@ -162,7 +180,9 @@ pub(crate) fn text_member<'a>(value: &'a Value, name: &str) -> Result<&'a str, R
 /// The elements of an array, in a member of an object.
 pub(crate) fn array_member<'a>(value: &'a Value, name: &str) -> Result<&'a Vec<Value>, ReadFault>
     requires { length name.now ≤ 32 }
-    ensures reading { MatchResult result (λ items. (path : Path) → of_member path (view value.now) name.now array_of ≡ Ok (items_view items.now.items)) (λ fault. IsFault fault (λ path. of_member path (view value.now) name.now array_of)) }
+    ensures reading { MatchResult result (λ items. (path : Path)
+        → of_member path (view value.now) name.now array_of ≡ Ok (items_view items.now.items))
+        (λ fault. IsFault fault (λ path. of_member path (view value.now) name.now array_of)) }
     ensures short { IfErr result (λ fault. length fault.place ≤ length name.now + 1) }
 {
     match array_of(member(value, name)?) {

@@ -51,7 +51,8 @@ fn goods_value(alloc: Global, ex: &Exchange) -> Result<Value, AllocError>
 /// What a bidder owns of each good of which it owns anything.
 fn own_value(alloc: Global, ex: &Exchange, bidder: u8) -> Result<Value, AllocError>
     requires { bidder < length ex.now.bidders }
-    ensures { IfOk result (λ v. view v ≡ object (own_members ex.now.goods (bidder_of ex.now bidder).own)) }
+    ensures { IfOk result (λ v. view v ≡ object (own_members ex.now.goods
+        (bidder_of ex.now bidder).own)) }
 {
     let mut own = Map::new(alloc);
     for good in (0..ex.goods()).rev() {
@@ -104,7 +105,8 @@ fn node_value(
     requires tree { IsLimitedTree (length ex.now.goods) tree.now }
     requires bounds { length bounds.now.lo ≡ length tree.now }
     requires node { node < length tree.now }
-    ensures { IfOk result (λ v. view v ≡ node_data ex.now.goods (with_tree tree.now bounds.now) levels node) }
+    ensures { IfOk result (λ v. view v ≡ node_data ex.now.goods
+        (with_tree tree.now bounds.now) levels node) }
 {
     if levels == 0 {
         return Ok(Value::Null);
@@ -143,7 +145,8 @@ fn bidder_value(alloc: Global, ex: &Exchange, bidder: u8) -> Result<Value, Alloc
 }
 
 fn bidders_value(alloc: Global, ex: &Exchange) -> Result<Value, AllocError>
-    ensures value { IfOk result (λ v. view v ≡ array (items_of (map (bidder_data ex.now.goods) ex.now.bidders))) }
+    ensures value { IfOk result (λ v. view v ≡ array (items_of (map
+        (bidder_data ex.now.goods) ex.now.bidders))) }
     ensures lawful { IsExchange ex.now }
 {
     let mut bidders = Vec::new(alloc);

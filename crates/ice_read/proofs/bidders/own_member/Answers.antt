@@ -4,7 +4,7 @@ use Rattle.serde_json.specs.View.{view}
 use Rattle.ice_defs.specs.FileFault.{Path}
 use Rattle.ice_defs.specs.Lawful.{good_names}
 use Rattle.ice_read.specs.ExchangeFile.{own_at}
-use Rattle.ice_read.proofs.Placing.{deeper, missing}
+use Rattle.ice_read.proofs.PlacesOfFaults.{deeper, missing}
 use Rattle.ice_read.proofs.bidders.own_member.Goals as goal
 
 pub returns-in_err-member-clause-reading : goal.returns-in_err-member-clause-reading

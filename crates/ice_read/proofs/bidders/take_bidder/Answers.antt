@@ -2,8 +2,8 @@ use Rattle.std.proofs.Common.{◌∙◌, Ok, refl, sym, ap}
 use Rattle.serde_json.specs.View.{view}
 use Rattle.ice_defs.specs.Exchange.{Bidder, Exchange}
 use Rattle.ice_read.specs.declared.cause.ReadCause.TheVariants.{Shape}
-use Rattle.ice_read.proofs.Placing.{refused}
-use Rattle.ice_read.proofs.Following.{bidder_chain, bidder_made, bidder_unmade}
+use Rattle.ice_read.proofs.PlacesOfFaults.{refused}
+use Rattle.ice_read.proofs.GoodsAndBidders.{bidder_chain, bidder_made, bidder_unmade}
 use Rattle.ice_read.proofs.bidders.take_bidder.Goals as goal
 
 pub returns-then-not-has_exactly-clause-refused : goal.returns-then-not-has_exactly-clause-refused

@@ -6,8 +6,8 @@ use Rattle.ice_defs.specs.Lawful.{good_names}
 use Rattle.ice_defs.specs.FileFault.{◌>>=◌}
 use Rattle.ice_read.specs.Values.{at_index}
 use Rattle.ice_read.specs.ExchangeFile.{bidders_from}
-use Rattle.ice_read.proofs.Placing.{fault_below}
-use Rattle.ice_read.proofs.Following.{bad_bidder}
+use Rattle.ice_read.proofs.PlacesOfFaults.{fault_below}
+use Rattle.ice_read.proofs.GoodsAndBidders.{bad_bidder}
 use Rattle.ice_read.proofs.bidders.take_bidders.Goals as goal
 
 pub returns-in-Err-clause-refused : goal.returns-in-Err-clause-refused

@@ -3,7 +3,7 @@ use Rattle.std.specs.Prelude.{decimal}
 use Rattle.serde_json.specs.View.{view}
 use Rattle.ice_defs.specs.FileFault.{Path}
 use Rattle.ice_read.specs.Values.{whole_of}
-use Rattle.ice_read.proofs.Placing.{deeper}
+use Rattle.ice_read.proofs.PlacesOfFaults.{deeper}
 use Rattle.ice_read.proofs.choose.bound_of.Goals as goal
 
 pub returns-in-Err-clause-reading : goal.returns-in-Err-clause-reading

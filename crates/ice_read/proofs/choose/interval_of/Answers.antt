@@ -5,7 +5,7 @@ use Rattle.serde_json.specs.Data.{no_items, item}
 use Rattle.serde_json.specs.View.{view}
 use Rattle.ice_read.specs.declared.cause.ReadCause.TheVariants.{Shape}
 use Rattle.ice_read.specs.Values.{array_of}
-use Rattle.ice_read.proofs.Placing.{refused}
+use Rattle.ice_read.proofs.PlacesOfFaults.{refused}
 use Rattle.ice_read.proofs.Pairs.{pair, items_len-items_view}
 use Rattle.ice_read.proofs.choose.interval_of.Goals as goal
 use Rattle.ice_read.proofs.choose.interval_of.Goals.{in_default-via-then-as_slice-lt2, in_default-via-else-as_slice-lt2+else-this-lt3}

@@ -6,8 +6,8 @@ use Rattle.ice_tree.specs.Fault.{tree_fault_number}
 use Rattle.ice_read.specs.declared.cause.ReadCause.TheVariants.{Tree}
 use Rattle.ice_read.specs.Reading.{taken}
 use Rattle.ice_read.specs.TreeFile.{Interval}
-use Rattle.ice_read.proofs.Placing.{refused}
-use Rattle.ice_read.proofs.Refusing.{opened_chain, made, unmade}
+use Rattle.ice_read.proofs.PlacesOfFaults.{refused}
+use Rattle.ice_read.proofs.Refusals.{opened_chain, made, unmade}
 use Rattle.ice_read.proofs.choose.open_choose.Goals as goal
 
 pub returns-in-Ok-clause-opened : goal.returns-in-Ok-clause-opened

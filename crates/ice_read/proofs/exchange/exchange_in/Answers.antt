@@ -5,10 +5,10 @@ use Rattle.serde_json.specs.View.{view}
 use Rattle.ice_defs.specs.Exchange.{Exchange}
 use Rattle.ice_defs.specs.Making.{exchange_refusal}
 use Rattle.ice_read.specs.ExchangeFile.{settings_at, goods_at, bidders_at}
-use Rattle.ice_read.proofs.Following.{unmade}
-use Rattle.ice_read.proofs.Filing.{file_chain, whole, not_refused}
-use Rattle.ice_read.proofs.Numbered.{member_no_memory}
-use Rattle.ice_read.proofs.NumberedExchange.{settings_numbered, goods_numbered, bidders_numbered}
+use Rattle.ice_read.proofs.GoodsAndBidders.{unmade}
+use Rattle.ice_read.proofs.ExchangeFiles.{file_chain, whole, not_refused}
+use Rattle.ice_read.proofs.FaultNumbers.{member_no_memory}
+use Rattle.ice_read.proofs.ExchangeFaultNumbers.{settings_numbered, goods_numbered, bidders_numbered}
 use Rattle.ice_read.proofs.exchange.exchange_in.Goals as goal
 
 pub returns-in_err-settings-clause-answer : goal.returns-in_err-settings-clause-answer

@@ -1,6 +1,6 @@
 use Rattle.std.proofs.Common.{refl}
 use Rattle.ice_read.specs.declared.cause.ReadCause.TheVariants.{UnknownGood}
-use Rattle.ice_read.proofs.Placing.{refused_part}
+use Rattle.ice_read.proofs.PlacesOfFaults.{refused_part}
 use Rattle.ice_read.proofs.goods.good_member.Goals as goal
 
 pub returns-in-None-clause-reading : goal.returns-in-None-clause-reading

@@ -3,7 +3,7 @@ use Rattle.ice_defs.specs.Exchange.{Good}
 use Rattle.ice_defs.specs.FileFault.{◌>>=◌}
 use Rattle.ice_defs.specs.Making.{good_refusal}
 use Rattle.ice_read.specs.ExchangeFile.{add_good}
-use Rattle.ice_read.proofs.Following.{unmade}
+use Rattle.ice_read.proofs.GoodsAndBidders.{unmade}
 use Rattle.ice_read.proofs.goods.take_good.Goals as goal
 
 pub returns-in-Err-add_good-clause-refused : goal.returns-in-Err-add_good-clause-refused

@@ -4,8 +4,8 @@ use Rattle.serde_json.specs.View.{items_view}
 use Rattle.ice_defs.specs.FileFault.{◌>>=◌}
 use Rattle.ice_read.specs.Values.{at_index}
 use Rattle.ice_read.specs.ExchangeFile.{goods_from}
-use Rattle.ice_read.proofs.Placing.{fault_below}
-use Rattle.ice_read.proofs.Following.{bad_good}
+use Rattle.ice_read.proofs.PlacesOfFaults.{fault_below}
+use Rattle.ice_read.proofs.GoodsAndBidders.{bad_good}
 use Rattle.ice_read.proofs.goods.take_goods.Goals as goal
 
 pub returns-in-Err-clause-refused : goal.returns-in-Err-clause-refused

@@ -6,8 +6,8 @@ use Rattle.ice_defs.specs.Making.{draft_refusal, with_node}
 use Rattle.ice_tree.specs.Fault.{tree_fault_number}
 use Rattle.ice_read.specs.declared.cause.ReadCause.TheVariants.{Tree}
 use Rattle.ice_read.specs.Reading.{side_kind, taken}
-use Rattle.ice_read.proofs.Placing.{refused}
-use Rattle.ice_read.proofs.Refusing.{leaf_chain, made, unmade}
+use Rattle.ice_read.proofs.PlacesOfFaults.{refused}
+use Rattle.ice_read.proofs.Refusals.{leaf_chain, made, unmade}
 use Rattle.ice_read.proofs.leaf.take_leaf.Goals as goal
 
 pub returns-in-Ok-clause-taken : goal.returns-in-Ok-clause-taken

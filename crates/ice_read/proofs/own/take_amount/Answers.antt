@@ -4,8 +4,8 @@ use Rattle.ice_defs.specs.FileFault.{Path}
 use Rattle.ice_defs.specs.Lawful.{good_names}
 use Rattle.ice_read.specs.declared.cause.ReadCause.TheVariants.{UnknownGood}
 use Rattle.ice_read.specs.Values.{whole_of}
-use Rattle.ice_read.proofs.Placing.{refused, deeper}
-use Rattle.ice_read.proofs.Named.{short_good, known_good}
+use Rattle.ice_read.proofs.PlacesOfFaults.{refused, deeper}
+use Rattle.ice_read.proofs.GoodNames.{short_good, known_good}
 use Rattle.ice_read.proofs.own.take_amount.Goals as goal
 
 pub returns-in_default-clause-refused : goal.returns-in_default-clause-refused

@@ -4,9 +4,9 @@ use Rattle.serde_json.specs.View.{view}
 use Rattle.ice_read.specs.Values.{array_of, at_member}
 use Rattle.ice_read.specs.declared.fault.ReadFault.{ReadFault}
 use Rattle.ice_read.specs.declared.cause.ReadCause.TheVariants.{Range}
-use Rattle.ice_read.proofs.Placing.{refused, fault_below}
-use Rattle.ice_read.proofs.Numbered.{no_memory, array_numbered}
-use Rattle.ice_read.proofs.Bidding.{bids_listed, too_many}
+use Rattle.ice_read.proofs.PlacesOfFaults.{refused, fault_below}
+use Rattle.ice_read.proofs.FaultNumbers.{no_memory, array_numbered}
+use Rattle.ice_read.proofs.RoundParts.{bids_listed, too_many}
 use Rattle.ice_read.proofs.round.bids_in.Goals as goal
 
 pub returns-in-Ok-clause-reading : goal.returns-in-Ok-clause-reading

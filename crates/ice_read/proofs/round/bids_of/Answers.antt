@@ -5,9 +5,9 @@ use Rattle.serde_json.specs.View.{view}
 use Rattle.ice_read.specs.declared.fault.ReadFault.{ReadFault}
 use Rattle.ice_read.specs.Values.{at_member, at_index}
 use Rattle.ice_read.specs.RoundFile.{bid_at, bids_of_value}
-use Rattle.ice_read.proofs.Listing.{next}
-use Rattle.ice_read.proofs.Numbered.{no_memory, bid_numbered}
-use Rattle.ice_read.proofs.Bidding.{place_length, bid_fault}
+use Rattle.ice_read.proofs.ArrayElements.{next}
+use Rattle.ice_read.proofs.FaultNumbers.{no_memory, bid_numbered}
+use Rattle.ice_read.proofs.RoundParts.{place_length, bid_fault}
 use Rattle.ice_read.proofs.round.bids_of.Goals as goal
 
 pub under-requires : goal.under-requires

@@ -2,7 +2,7 @@ use Rattle.std.specs.Prelude.{codes, []}
 use Rattle.serde_json.specs.View.{view}
 use Rattle.ice_read.specs.Values.{at_member}
 use Rattle.ice_read.specs.RoundFile.{bid_at, bids_of_value}
-use Rattle.ice_read.proofs.Listing.{SoFar}
+use Rattle.ice_read.proofs.ArrayElements.{SoFar}
 use Rattle.ice_read.proofs.round.bids_of.Given as goal
 
 abbrev pub invariant-loop-index : goal.invariant-loop-index

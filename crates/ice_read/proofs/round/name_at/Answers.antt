@@ -1,8 +1,8 @@
 use Rattle.std.proofs.Common.{refl, ◌∙◌}
 use Rattle.ice_trade.specs.declared.faults.MakeFault.TheVariants.{BadName}
 use Rattle.ice_read.specs.declared.cause.ReadCause.TheVariants.{Make}
-use Rattle.ice_read.proofs.Placing.{refused}
-use Rattle.ice_read.proofs.Bidding.{no_name}
+use Rattle.ice_read.proofs.PlacesOfFaults.{refused}
+use Rattle.ice_read.proofs.RoundParts.{no_name}
 use Rattle.ice_read.proofs.round.name_at.Goals as goal
 
 pub returns-in_default-clause-reading : goal.returns-in_default-clause-reading

@@ -2,8 +2,8 @@ use Rattle.std.proofs.Common.{◌≡◌, ◌<◌, ◌≤◌, ◌∷◌, [], ◌+
 use Rattle.std.proofs.lemmas.Fmt.{length-decimal-le}
 use Rattle.serde_json.specs.View.{view}
 use Rattle.ice_read.specs.declared.cause.ReadCause.TheVariants.{Range}
-use Rattle.ice_read.proofs.Placing.{refused}
-use Rattle.ice_read.proofs.Bidding.{place_length, too_long, none_read, one_more, all_read, fault_read}
+use Rattle.ice_read.proofs.PlacesOfFaults.{refused}
+use Rattle.ice_read.proofs.RoundParts.{place_length, too_long, none_read, one_more, all_read, fault_read}
 use Rattle.ice_read.proofs.round.values_at.Goals as goal
 
 pub returns-then-len-gt200-clause-reading : goal.returns-then-len-gt200-clause-reading

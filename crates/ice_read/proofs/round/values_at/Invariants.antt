@@ -1,5 +1,5 @@
 use Rattle.serde_json.specs.View.{view}
-use Rattle.ice_read.proofs.Bidding.{AreReadSoFar}
+use Rattle.ice_read.proofs.RoundParts.{AreReadSoFar}
 use Rattle.ice_read.proofs.round.values_at.Given as goal
 
 abbrev pub invariant-loop-index : goal.invariant-loop-index

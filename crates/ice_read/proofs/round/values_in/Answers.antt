@@ -2,7 +2,7 @@ use Rattle.std.proofs.Common.{refl}
 use Rattle.std.proofs.lemmas.Result.{err_from_is_err_and}
 use Rattle.serde_json.specs.View.{view}
 use Rattle.ice_read.specs.RoundFile.{values_at}
-use Rattle.ice_read.proofs.Bidding.{absent, in_member}
+use Rattle.ice_read.proofs.RoundParts.{absent, in_member}
 use Rattle.ice_read.proofs.round.values_in.Goals as goal
 
 pub returns-in_err-member-clause-reading : goal.returns-in_err-member-clause-reading

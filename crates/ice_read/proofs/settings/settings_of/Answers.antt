@@ -1,7 +1,7 @@
 use Rattle.std.proofs.Common.{◌≡◌, Ok, refl, sym, ap, rules}
 use Rattle.std.proofs.lemmas.Result.{err_from_is_err_and}
 use Rattle.ice_read.specs.declared.cause.ReadCause.TheVariants.{Shape}
-use Rattle.ice_read.proofs.Placing.{refused}
+use Rattle.ice_read.proofs.PlacesOfFaults.{refused}
 use Rattle.ice_read.proofs.settings.settings_of.Goals as goal
 
 pub returns-then-not-has_exactly-clause-reading : goal.returns-then-not-has_exactly-clause-reading

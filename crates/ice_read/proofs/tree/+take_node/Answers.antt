@@ -9,7 +9,7 @@ use Rattle.ice_read.specs.declared.cause.ReadCause.TheVariants.{Shape, Tree}
 use Rattle.ice_read.specs.Values.{at_member, at_index}
 use Rattle.ice_read.specs.TreeFile.{node_at}
 use Rattle.ice_read.specs.Reading.{taken, levels_below}
-use Rattle.ice_read.proofs.Placing.{refused, fault_below}
+use Rattle.ice_read.proofs.PlacesOfFaults.{refused, fault_below}
 use Rattle.ice_read.proofs.Nodes.{IsGoing, child_read, same_levels, buys, sells, has_no_form, not_opened, next_child, bad_child, no_more_child, begun, waiting_child, with_child, stopped, finished, not_finished}
 use Rattle.ice_read.proofs.tree.+take_node.Goals as goal
 

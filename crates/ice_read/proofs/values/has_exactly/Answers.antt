@@ -1,7 +1,7 @@
 use Rattle.std.proofs.Common.{◌≡◌, true, false, sym, ◌∙◌, length, nat_eq, arith}
 use Rattle.std.proofs.lemmas.Bool.Decides.{nat_tests}
 use Rattle.serde_json.specs.View.{view}
-use Rattle.ice_read.proofs.Exactly.{counted}
+use Rattle.ice_read.proofs.ObjectMembers.{counted}
 use Rattle.ice_read.proofs.values.has_exactly.Goals as goal
 
 pub returns-then-len-names : goal.returns-then-len-names

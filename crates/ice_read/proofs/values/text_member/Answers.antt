@@ -3,7 +3,7 @@ use Rattle.std.proofs.lemmas.Result.{err_from_is_err_and}
 use Rattle.serde_json.specs.View.{view}
 use Rattle.ice_defs.specs.FileFault.{Path}
 use Rattle.ice_read.specs.Values.{text_of}
-use Rattle.ice_read.proofs.Placing.{deeper, missing}
+use Rattle.ice_read.proofs.PlacesOfFaults.{deeper, missing}
 use Rattle.ice_read.proofs.values.text_member.Goals as goal
 
 pub returns-in_err-member-clause-reading : goal.returns-in_err-member-clause-reading

@@ -1,6 +1,6 @@
 use Rattle.ice_read.specs.declared.cause.ReadCause.TheVariants.{Shape}
 use Rattle.std.proofs.Common.{refl}
-use Rattle.ice_read.proofs.Placing.{refused}
+use Rattle.ice_read.proofs.PlacesOfFaults.{refused}
 use Rattle.ice_read.proofs.values.text_of.Goals as goal
 
 pub returns-in_default-clause-reading : goal.returns-in_default-clause-reading

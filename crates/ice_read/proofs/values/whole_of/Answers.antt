@@ -1,8 +1,8 @@
 use Rattle.std.proofs.Common.{◌≡◌, ◌∙◌, false, refl, rules}
 use Rattle.std.specs.Prelude.{◌&&◌, int_le}
 use Rattle.ice_read.specs.declared.cause.ReadCause.TheVariants.{Shape, NotWhole, Range}
-use Rattle.ice_read.proofs.Placing.{refused}
-use Rattle.ice_read.proofs.Whole.{no_number, not_whole, out_of_range, too_large}
+use Rattle.ice_read.proofs.PlacesOfFaults.{refused}
+use Rattle.ice_read.proofs.WholeNumbers.{no_number, not_whole, out_of_range, too_large}
 use Rattle.ice_read.proofs.values.whole_of.Goals as goal
 use Rattle.ice_read.proofs.values.whole_of.Goals.{in_default-via-in-Some+else-is_between, in_default-via-in_default}
 

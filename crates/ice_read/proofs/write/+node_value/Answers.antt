@@ -2,7 +2,7 @@ use Rattle.std.proofs.Common.{◌≡◌, ◌∙◌, sym, subst, rules, to_z, of_
 use Rattle.std.proofs.lemmas.Result.{IfOk-weaker}
 use Rattle.ice_defs.specs.declared.NodeKind.TheVariants.{Buy, Sell}
 use Rattle.ice_defs.specs.Lawful.{IsLimitedKind}
-use Rattle.ice_read.proofs.Listed.{buy_written, sell_written, choose_written}
+use Rattle.ice_read.proofs.ListSpelling.{buy_written, sell_written, choose_written}
 use Rattle.ice_read.proofs.write.+node_value.Goals as goal
 use Rattle.std.specs.Prelude.{length}
 

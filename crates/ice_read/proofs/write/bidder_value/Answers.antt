@@ -1,7 +1,7 @@
 use Rattle.std.proofs.Common.{◌∙◌, ap, get_or}
 use Rattle.std.proofs.lemmas.Result.{IfOk-weaker}
 use Rattle.serde_json.specs.View.{view}
-use Rattle.ice_read.proofs.Listed.{tree_same, bidder_written}
+use Rattle.ice_read.proofs.ListSpelling.{tree_same, bidder_written}
 use Rattle.ice_read.proofs.write.bidder_value.Goals as goal
 
 pub returns : goal.returns

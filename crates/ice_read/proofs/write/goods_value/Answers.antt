@@ -1,6 +1,6 @@
 use Rattle.std.proofs.Common.{◌≡◌, ◌<◌, ◌∙◌, ◌∷◌, [], ◌++◌, ap, arith, rules, length}
 use Rattle.ice_read.specs.Written.{good_data}
-use Rattle.ice_read.proofs.Listed.{no_good, listed_more, good_there}
+use Rattle.ice_read.proofs.ListSpelling.{no_good, listed_more, good_there}
 use Rattle.ice_read.proofs.write.goods_value.Goals as goal
 
 pub loop-good-preserved : goal.loop-good-preserved

@@ -3,7 +3,7 @@ use Rattle.serde_json.specs.Data.{put}
 use Rattle.serde_json.specs.View.{members_view}
 use Rattle.serde_json.proofs.Views.{members_view-insert_entry}
 use Rattle.ice_read.specs.Parts.{bidder_of}
-use Rattle.ice_read.proofs.Listed.{own_start, own_none, own_some}
+use Rattle.ice_read.proofs.ListSpelling.{own_start, own_none, own_some}
 use Rattle.ice_read.proofs.write.own_value.Goals as goal
 
 pub loop-good-init : goal.loop-good-init

@@ -1,8 +1,8 @@
 use Rattle.std.proofs.Common.{◌∙◌, ap}
 use Rattle.serde_json.specs.Written.{has_float, compact_text}
 use Rattle.ice_read.specs.ExchangeFile.{exchange_of}
-use Rattle.ice_read.proofs.Respelling.{exchange_no_float}
-use Rattle.ice_read.proofs.Returning.{written_is_read}
+use Rattle.ice_read.proofs.WrittenText.{exchange_no_float}
+use Rattle.ice_read.proofs.TextAgain.{written_is_read}
 use Rattle.ice_read.proofs.write.write_exchange.Goals as goal
 
 pub returns : goal.returns

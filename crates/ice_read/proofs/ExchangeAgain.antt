@@ -12,28 +12,16 @@ use Rattle.ice_defs.specs.Making.{good_refusal, node_count, over_sale, bidder_re
 use Rattle.ice_defs.specs.Lawful.{IsBidder, IsExchange}
 use Rattle.ice_defs.specs.Exchange.{Settings, Good, Bidder, Exchange}
 use Rattle.ice_defs.specs.FileFault.{Path, Read, ◌>>=◌}
+use Rattle.ice_defs.proofs.Lists.{all_middle}
+use Rattle.ice_defs.proofs.Naming.{AreNamed, new_among}
+use Rattle.ice_trade.proofs.Passing.{good_passes, bidder_passes}
 use Rattle.ice_read.specs.Values.{at_member, at_index}
 use Rattle.ice_read.specs.TreeFile.{Draft, tree_at}
 use Rattle.ice_read.specs.ExchangeFile.{unless_refused, add_good, good_value, goods_from, goods_at, add_bidder, bidder_at, bidders_from, bidders_at, not_empty, exchange_of_value}
 use Rattle.ice_read.specs.Written.{items_of, good_data, node_data, bidder_data, exchange_data}
-use Rattle.ice_read.proofs.Rereading.{settings_again}
-use Rattle.ice_read.proofs.Owning.{own_again}
-use Rattle.ice_read.proofs.Regrowing.{tree_again}
-
--- ---- names
-
-abbrev AreNamed : {X : Type 0} → (X → List ℕ) → List X → Type 0
-AreNamed name xs = AllByRecursion (λ n. IsTrue (is_name n)) (map name xs) × IsDistinct bytes_eq (map name xs)
-
-all_middle : {X : Type 0} (P : List ℕ → Type 0) (name : X → List ℕ) (xs : List X) (x : X) (ys : List X) → AllByRecursion P (map name (xs ++ x ∷ ys)) → P (name x)
-all_middle P name [] x ys all = all.0
-all_middle P name (y ∷ xs) x ys all = all_middle P name xs x ys all.1
-
-new_among : {X : Type 0} (name : X → List ℕ) (xs : List X) (x : X) (ys : List X) → IsDistinct bytes_eq (map name (xs ++ x ∷ ys)) → list_any (λ other. bytes_eq (name other) (name x)) xs ≡ false
-unfolding IsDistinct
-new_among name [] x ys distinct = refl
-new_among name (y ∷ xs) x ys distinct =
-    or_from _ _ (all_middle (λ n. bytes_eq (name y) n ≡ false) name xs x ys distinct.0) (new_among name xs x ys distinct.1)
+use Rattle.ice_read.proofs.PartsAgain.{settings_again}
+use Rattle.ice_read.proofs.OwnedAmounts.{own_again}
+use Rattle.ice_read.proofs.TreesAgain.{tree_again}
 
 -- ---- goods
 
@@ -43,12 +31,6 @@ good_by path name false = refl
 
 good_again : (path : Path) (good : Good) → good_value path (good_data good) ≡ Ok good
 good_again path good = good_by path good.name good.exact
-
-good_passes : (goods : List Good) (name : List ℕ) → is_name name ≡ true → list_any (λ other. bytes_eq other.name name) goods ≡ false → length goods < 32 → good_refusal goods [] name ≡ None
-good_passes goods name named new few =
-    cond-false (not (is_name name)) _ _ (ap not named)
-    ∙ cond-false (list_any (λ other. bytes_eq other.name name) goods) _ _ new
-    ∙ cond-false (leb 32 (length goods)) _ _ (lt-leb 32 (length goods) few)
 
 goods_again : (path : Path) (i : ℕ) (before after : List Good) → AreNamed (λ good. good.name) (before ++ after) → length (before ++ after) ≤ 32
     → goods_from path i before (items_of (map good_data after)) ≡ Ok (before ++ after)
@@ -63,14 +45,6 @@ goods_again path i before (good ∷ after) named few =
     ∙ ap Ok next
 
 -- ---- bidders
-
-bidder_passes : (goods : ℕ) (bidders : List Bidder) (b : Bidder) → is_name b.name ≡ true → list_any (λ other. bytes_eq other.name b.name) bidders ≡ false
-    → length bidders < 40 → node_count bidders + length b.tree ≤ 2000 → over_sale goods b.tree b.own ≡ None → bidder_refusal goods bidders b ≡ None
-bidder_passes goods bidders b named new few few_nodes owned =
-    cond-false (not (is_name b.name)) _ _ (ap not named)
-    ∙ cond-false (list_any (λ other. bytes_eq other.name b.name) bidders) _ _ new
-    ∙ cond-false (leb 40 (length bidders) || ltb 2000 (node_count bidders + length b.tree)) _ _ (or_from _ _ (lt-leb 40 (length bidders) few) (le-ltb 2000 (node_count bidders + length b.tree) few_nodes))
-    ∙ cond-false (is_some (over_sale goods b.tree b.own)) _ _ (ap is_some owned)
 
 module _ (goods : List Good) (distinct : IsDistinct bytes_eq (map (λ good. good.name) goods)) where
   abbrev names : List (List ℕ)

@@ -5,13 +5,7 @@ use Rattle.std.specs.Str.{bytes_eq}
 use Rattle.std.proofs.lemmas.Bool.{lt-ltb, cond-true}
 use Rattle.std.proofs.lemmas.List.Sums.{position_or_len_is}
 use Rattle.std.proofs.lemmas.List.Quantifiers.{position-Some}
-use Rattle.std.proofs.lemmas.Slice.Eq.{bytes_eq-Decides}
-
-pub same_name : (a b : List ℕ) → a ≡ b → bytes_eq a b ≡ true
-same_name a b e = (bytes_eq-Decides a b).1 e
-
-pub name_same : (a b : List ℕ) → bytes_eq a b ≡ true → a ≡ b
-name_same a b e = (bytes_eq-Decides a b).0 e
+use Rattle.ice_defs.proofs.Naming.{bytes_eq-same, same-bytes_eq}
 
 pub all_at : {X : Type 0} (P : X → Type 0) (xs : List X) (i : ℕ) (d : X) → i < length xs → AllByRecursion P xs → P (get_or xs i d)
 all_at P [] i d l all = absurd (omega arith)
@@ -30,7 +24,7 @@ turned_false : (a b : List ℕ) → bytes_eq a b ≡ false → bytes_eq b a ≡ 
 turned_false a b e = by (bytes_eq b a) refl
   where
     by : (c : Bool) → bytes_eq b a ≡ c → c ≡ false
-    by true is = let same : bytes_eq a b ≡ true = same_name a b (sym (name_same b a is)) in absurd cc
+    by true is = let same : bytes_eq a b ≡ true = bytes_eq-same a b (sym (same-bytes_eq b a is)) in absurd cc
     by false is = refl
 
 -- the place of a name
@@ -39,9 +33,9 @@ place_of_name names g distinct l =
     let here : position_or_len (bytes_eq (get_or names g [])) names ≡ g =
     position_or_len_is (bytes_eq (get_or names g [])) names g [] (omega arith)
     (λ k before. turned_false (get_or names k []) (get_or names g []) (differs names k g distinct before l))
-    (λ m. same_name (get_or names g []) (get_or names g []) refl) in
+    (λ m. bytes_eq-same (get_or names g []) (get_or names g []) refl) in
     rw here (cond-true (ltb g (length names)) (Some g) None (lt-ltb g (length names) l))
 
 -- the name at its place
 pub name_at_place : (names : List (List ℕ)) (name : List ℕ) (g : ℕ) → position (bytes_eq name) names ≡ Some g → (g < length names) × (name ≡ get_or names g [])
-name_at_place names name g e = let found = position-Some (bytes_eq name) names g [] e in (found.0, name_same name (get_or names g []) found.1)
+name_at_place names name g e = let found = position-Some (bytes_eq name) names g [] e in (found.0, same-bytes_eq name (get_or names g []) found.1)

@@ -13,7 +13,7 @@ use Rattle.ice_defs.specs.FileFault.{Path, Read, refuse}
 use Rattle.ice_read.specs.Values.{at_member, at_index, object_of, array_of, has_exactly, member_or_null, natural}
 use Rattle.ice_read.specs.TreeFile.{Draft, no_draft, value_at, good_at, make, leaf_at, Interval, bound_at, interval_at, children_at, closed_at, opened_at, choose_at, is_buy, is_sell, is_choose, no_child, node_of, node_at, tree_at}
 use Rattle.ice_read.specs.ExchangeFile.{setting_names, settings_at, unless_refused, add_good, good_value, goods_from, goods_at, own_one, own_from, own_at, add_bidder, bidder_at, bidders_from, bidders_at}
-use Rattle.ice_read.proofs.Numbered.{IsNumbered, numbered_then, numbered_if, array_numbered, text_numbered, whole_numbered}
+use Rattle.ice_read.proofs.FaultNumbers.{IsNumbered, numbered_then, numbered_if, array_numbered, text_numbered, whole_numbered}
 
 -- ---- what the makers refuse
 

@@ -2,9 +2,9 @@
 use Rattle.std.proofs.Common.{ap, ◌∙◌}
 use Rattle.ice_read.specs.ExchangeFile.{of_json, exchange_of_value}
 use Rattle.ice_read.specs.Laws.{WrittenIsRead}
-use Rattle.ice_read.proofs.Owed.{owned_lawful}
-use Rattle.ice_read.proofs.Recovering.{exchange_again}
-use Rattle.ice_read.proofs.Respelling.{value_again}
+use Rattle.ice_trade.proofs.Passing.{owned_lawful}
+use Rattle.ice_read.proofs.ExchangeAgain.{exchange_again}
+use Rattle.ice_read.proofs.WrittenText.{value_again}
 
 pub written_is_read : WrittenIsRead
 written_is_read ex is = ap (of_json exchange_of_value) (value_again ex is) ∙ exchange_again ex is (owned_lawful ex is)

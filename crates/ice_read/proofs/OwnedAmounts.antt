@@ -15,18 +15,19 @@ use Rattle.serde_json.specs.Find.{get_member}
 use Rattle.serde_json.proofs.Views.{get_member-put, get_member-put_other}
 use Rattle.ice_defs.specs.FileFault.{Path}
 use Rattle.ice_defs.specs.Exchange.{Good}
+use Rattle.ice_defs.proofs.Naming.{bytes_eq-same, same-bytes_eq}
 use Rattle.ice_read.specs.Values.{at_member, whole_of}
 use Rattle.ice_read.specs.ExchangeFile.{own_from, own_at}
 use Rattle.ice_read.specs.Written.{whole_data, own_members}
-use Rattle.ice_read.proofs.Naming.{name_same, same_name, all_at, place_of_name, name_at_place}
-use Rattle.ice_read.proofs.Rereading.{whole_again}
-use Rattle.ice_read.proofs.Spelled.{unsigned_spelled, IsBefore, AreRising, AreRising-put, AreMembersSpelled, AreMembersSpelled-put}
+use Rattle.ice_read.proofs.NamePlaces.{all_at, place_of_name, name_at_place}
+use Rattle.ice_read.proofs.PartsAgain.{whole_again}
+use Rattle.ice_read.proofs.Spelling.{unsigned_spelled, IsBefore, AreRising, AreRising-put, AreMembersSpelled, AreMembersSpelled-put}
 
 abbrev compare : List ℕ → List ℕ → Ordering
 compare = slice_cmp nat_cmp
 
 compared_same : (a b : List ℕ) → compare a b ≡ Equal → a ≡ b
-compared_same a b e = name_same a b (sym (is_eq-slice_cmp a b) ∙ ap is_eq e)
+compared_same a b e = same-bytes_eq a b (sym (is_eq-slice_cmp a b) ∙ ap is_eq e)
 
 same_text : (a : List ℕ) → compare a a ≡ Equal
 same_text a = tied_itself nat_list_cmp_total a
@@ -150,7 +151,7 @@ no_member name (good ∷ goods) (amount ∷ own) new = by (amount == 0) (no_memb
     by false later = get_member-put_other name good.name (whole_data (pos amount)) (own_members goods own) (λ e. apart e) ∙ later
       where
         apart : name ≡ good.name → ⊥
-        apart e = let same : bytes_eq name good.name ≡ true = same_name name good.name e in let other : bytes_eq name good.name ≡ false = new.0 in absurd cc
+        apart e = let same : bytes_eq name good.name ≡ true = bytes_eq-same name good.name e in let other : bytes_eq name good.name ≡ false = new.0 in absurd cc
 
 amount_at : (goods : List Good) (own : List ℕ) (g : ℕ) → IsDistinct bytes_eq (map (λ good. good.name) goods) → length own ≡ length goods → g < length goods
     → amount_or 0 (get_member (get_or (map (λ good. good.name) goods) g []) (own_members goods own)) ≡ get_or own g 0
@@ -171,7 +172,7 @@ amount_at (good ∷ goods) (amount ∷ own) (suc g) distinct size l = by (amount
     apart e =
         let inside : g < length (map (λ (x : Good). x.name) goods) = omega (arith, length-map goods (λ (x : Good). x.name)) in
         let other : bytes_eq good.name name ≡ false = all_at (λ y. bytes_eq good.name y ≡ false) (map (λ x. x.name) goods) g [] inside distinct.0 in
-        let same : bytes_eq good.name name ≡ true = same_name good.name name (sym e) in
+        let same : bytes_eq good.name name ≡ true = bytes_eq-same good.name name (sym e) in
         absurd cc
 
     by : (b : Bool) → amount_or 0 (get_member name (own_members goods own)) ≡ get_or own g 0

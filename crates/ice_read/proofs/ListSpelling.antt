@@ -17,7 +17,7 @@ use Rattle.ice_defs.specs.Lawful.{IsBidder, IsExchange, good_names}
 use Rattle.ice_defs.specs.Trade.{is_exact}
 use Rattle.ice_read.specs.Written.{whole_data, items_of, good_name, leaf_data, kind_data, node_data, own_members, bidder_data}
 use Rattle.ice_read.specs.Parts.{with_tree, bidder_of, choose_data, named_data}
-use Rattle.ice_read.proofs.Naming.{all_at}
+use Rattle.ice_read.proofs.NamePlaces.{all_at}
 
 -- ---- lists
 

@@ -22,7 +22,7 @@ use Rattle.ice_read.specs.TreeFile.{tree_at}
 use Rattle.ice_read.specs.ExchangeFile.{unless_refused, good_value, add_good, goods_from, bidder_at, add_bidder, bidders_from, own_at}
 use Rattle.ice_read.specs.Reading.{good_added, bidder_added}
 use Rattle.ice_read.specs.Fault.{fault_at}
-use Rattle.ice_read.proofs.Placing.{refused}
+use Rattle.ice_read.proofs.PlacesOfFaults.{refused}
 
 pub no_good : (d : Data) (path : Path) → None ≡ as_str d → false ≡ has_exactly (codes "exact" ∷ []) d → good_value path d ≡ refuse 2 path
 no_good null path text exact = refl

@@ -22,8 +22,8 @@ use Rattle.ice_read.specs.Fault.{fault_at, IsFault}
 use Rattle.ice_read.specs.Values.{at_member, at_index, array_of, text_of, has_exactly, member_or_null, of_member, each}
 use Rattle.ice_read.specs.RoundFile.{values_at, name_at, bid_at, bids_at, bids_of_value}
 use Rattle.ice_read.specs.TreeFile.{value_at}
-use Rattle.ice_read.proofs.Placing.{refused, fault_below}
-use Rattle.ice_read.proofs.Listing.{SoFar, first, next, last, stops}
+use Rattle.ice_read.proofs.PlacesOfFaults.{refused, fault_below}
+use Rattle.ice_read.proofs.ArrayElements.{SoFar, first, next, last, stops}
 
 -- ---- members
 

@@ -17,40 +17,13 @@ use Rattle.ice_defs.specs.Making.{is_value, is_lawful_kind, node_refusal, close_
 use Rattle.ice_defs.specs.Lawful.{IsLimitedKind, IsBidder}
 use Rattle.ice_defs.specs.Exchange.{Good, Bidder}
 use Rattle.ice_defs.specs.FileFault.{Path, Read, ◌>>=◌}
+use Rattle.ice_trade.proofs.Passing.{node_passes, interval_closes}
 use Rattle.ice_read.specs.Values.{at_member, at_index}
 use Rattle.ice_read.specs.TreeFile.{Draft, no_draft, with_node, good_at, make, children_at, closed_at, Opened, node_of, node_at, tree_at}
 use Rattle.ice_read.specs.Written.{items_of, good_name, kind_data, node_data}
-use Rattle.ice_read.proofs.Naming.{place_of_name}
-use Rattle.ice_read.proofs.Rereading.{whole_again}
+use Rattle.ice_read.proofs.NamePlaces.{place_of_name}
+use Rattle.ice_read.proofs.PartsAgain.{whole_again}
 use Rattle.ice_read.proofs.Levels.{from, few_pass, IsUnder, Ends, next_child, next_depth, under_next, leaf_ends, children_from, no_later_child, next_children, under_more, root_ends}
-
--- ---- what the maker takes
-
-int_le-from : (a b : ℤ) → a ≤ℤ b → int_le a b ≡ true
-int_le-from a b l = grind (arith, ints)
-
-int_lt-not : (a b : ℤ) → b ≤ℤ a → int_lt a b ≡ false
-int_lt-not a b l = grind (arith, ints)
-
-kind_passes : (goods : ℕ) (kind : NodeKind) → IsLimitedKind goods kind → is_lawful_kind goods kind ≡ true
-kind_passes goods (Choose least most) fits = refl
-kind_passes goods (Buy good units) fits = and_from _ _ (and_from _ _ (lt-ltb good goods fits.0) (le-leb 1 units fits.1)) (le-leb units 1000 fits.2)
-kind_passes goods (Sell good units) fits = and_from _ _ (and_from _ _ (lt-ltb good goods fits.0) (le-leb 1 units fits.1)) (le-leb units 1000 fits.2)
-
-node_passes : (goods nodes depth : ℕ) (kind : NodeKind) (lo hi : ℤ) → nodes < 200 → depth ≤ 16 → IsLimitedKind goods kind → neg_ℤ (pos 1000000000) ≤ℤ lo → lo ≤ℤ hi → hi ≤ℤ pos 1000000000
-    → node_refusal goods nodes depth kind lo hi ≡ None
-node_passes goods nodes depth kind lo hi few shallow fits low ordered high =
-    let low_passes : is_value lo ≡ true = and_from _ _ (int_le-from _ _ low) (int_le-from lo (pos 1000000000) (omega (arith, ints))) in
-    let high_passes : is_value hi ≡ true = and_from _ _ (int_le-from (neg_ℤ (pos 1000000000)) hi (omega (arith, ints))) (int_le-from _ _ high) in
-    let passes : (is_lawful_kind goods kind && is_value lo && is_value hi) ≡ true = and_from _ _ (and_from _ _ (kind_passes goods kind fits) low_passes) high_passes in
-    cond-false (leb 200 nodes) _ _ (lt-leb 200 nodes few)
-    ∙ cond-false (ltb 16 depth) _ _ (le-ltb 16 depth shallow)
-    ∙ cond-false (not (is_lawful_kind goods kind && is_value lo && is_value hi)) _ _ (ap not passes)
-    ∙ cond-false (int_lt hi lo) _ _ (int_lt-not hi lo ordered)
-
-interval_closes : (least most children : ℕ) → IsInterval (Choose least most) children → close_refusal least most children ≡ None
-interval_closes least most children fits =
-    cond-true _ None _ (and_from (ltb 0 children && leb least most) (leb most children) (and_from (ltb 0 children) (leb least most) (lt-ltb 0 children fits.2) (le-leb least most fits.0)) (le-leb most children fits.1))
 
 pub items_len-items_of : (ds : List Data) → items_len (items_of ds) ≡ length ds
 items_len-items_of [] = refl

@@ -19,10 +19,10 @@ use Rattle.ice_terms.proofs.Names.{name_text}
 use Rattle.ice_read.specs.Values.{value_of}
 use Rattle.ice_read.specs.Written.{whole_data, items_of, Member, members_of, object_of, is_called, good_name, good_data, own_members, kind_data, node_data, bidder_data, settings_data, exchange_data, exchange_text}
 use Rattle.ice_read.proofs.Floatless.{floatless}
-use Rattle.ice_read.proofs.Naming.{all_at}
-use Rattle.ice_read.proofs.Owning.{spelled_members, rising_members}
+use Rattle.ice_read.proofs.NamePlaces.{all_at}
+use Rattle.ice_read.proofs.OwnedAmounts.{spelled_members, rising_members}
 use Rattle.ice_read.proofs.Levels.{from, numbers_from, few_pass}
-use Rattle.ice_read.proofs.Spelled.{IsSpelled, unsigned_spelled, negative_spelled, string_spelled, array_spelled, object_spelled, AreItemsSpelled, AreMembersSpelled, AreMembersSpelled-put, AreRising, AreRising-put, value_of-spelled}
+use Rattle.ice_read.proofs.Spelling.{IsSpelled, unsigned_spelled, negative_spelled, string_spelled, array_spelled, object_spelled, AreItemsSpelled, AreMembersSpelled, AreMembersSpelled-put, AreRising, AreRising-put, value_of-spelled}
 
 -- ---- parts
 
