@@ -18,6 +18,3 @@ pub use line::{Change, EndWord, Kind, LimitKind, Line, LowestFraction, Stage, Ve
 pub use lines::{LinesEnd, read_lines};
 pub use record::read_record;
 pub use write::write_record;
-
-#[cfg(test)]
-mod tests;
