@@ -1,11 +1,10 @@
 -- The records that describe a lawful exchange are records, and a section takes them and has that exchange.
-use Rattle.std.proofs.Common.{ℕ, zero, suc, ◌+◌, ◌-◌, ◌<◌, ◌≤◌, ◌≡◌, Bool, true, false, cond, ◌||◌, not, ltb, leb, List, [], ◌∷◌, ◌++◌, map, length, ℤ, pos, ◌+ℤ◌, ◌≤ℤ◌, Option, Some, None, Ok, refl, arith, ap, sym, ◌∙◌, subst, length-append, append_assoc}
-use Rattle.std.specs.Prelude.{IsTrue, is_some, slice_index, slice_index_or}
-use Rattle.std.specs.List.{AllByRecursion, IsDistinct, list_any, flat_map, filter}
+use Rattle.std.proofs.Common.{ℕ, zero, suc, ◌+◌, ◌-◌, ◌<◌, ◌≤◌, ◌≡◌, Bool, true, false, cond, List, [], ◌∷◌, ◌++◌, map, length, ℤ, Option, Some, None, Ok, refl, arith, ap, sym, ◌∙◌, subst, length-append, append_assoc}
+use Rattle.std.specs.Prelude.{IsTrue}
+use Rattle.std.specs.List.{AllByRecursion, list_any, flat_map, filter}
 use Rattle.std.specs.Str.{bytes_eq}
 use Rattle.std.proofs.lemmas.Int.{ints}
-use Rattle.std.proofs.lemmas.Bool.{or_from, le-ltb, lt-leb, cond-false}
-use Rattle.std.proofs.lemmas.List.{append-nil, map-append, length-map}
+use Rattle.std.proofs.lemmas.List.{append-nil, map-append}
 use Rattle.std.proofs.lemmas.List.Sums.{sum_by-append, sum_by-cons}
 use Rattle.std.proofs.lemmas.List.Elements.{filter-append}
 use Rattle.ice_defs.specs.declared.NodeKind.{NodeKind}
@@ -13,11 +12,13 @@ use Rattle.ice_defs.specs.declared.NodeKind.TheVariants.{Choose, Buy, Sell}
 use Rattle.ice_defs.specs.Sum.{numbers_below}
 use Rattle.ice_defs.specs.Name.{is_name}
 use Rattle.ice_defs.specs.Tree.{Tree, IsInterval, kind_of, is_child, children_of}
-use Rattle.ice_defs.specs.Set.{NodeSet, IsSatisfied, weight_of, units}
-use Rattle.ice_defs.specs.Trade.{tree_of}
-use Rattle.ice_defs.specs.Making.{node_count, over_sale, bidder_refusal}
+use Rattle.ice_defs.specs.Set.{weight_of, units}
+use Rattle.ice_defs.specs.Making.{node_count, over_sale}
 use Rattle.ice_defs.specs.Lawful.{IsLimitedKind, IsBidder}
 use Rattle.ice_defs.specs.Exchange.{Settings, Good, Bidder}
+use Rattle.ice_defs.proofs.Lists.{all-append, all_middle}
+use Rattle.ice_defs.proofs.Naming.{AreNamed, new_among}
+use Rattle.ice_trade.proofs.Passing.{good_passes, bidder_passes, owned_lawful}
 use Rattle.ice_journal.specs.Records.{Record}
 use Rattle.ice_journal.specs.Records as line
 use Rattle.ice_journal.specs.Ranges.{IsRecord, IsValue}
@@ -25,21 +26,7 @@ use Rattle.ice_section.specs.Section.{Section, no_section, unless_refused, take_
 use Rattle.ice_section.specs.Described.{bidder_records}
 use Rattle.ice_section.specs.Taking.{take_records, section_of}
 use Rattle.ice_section.specs.Laws.{DescribedAreRecords, DescribedAreTaken}
-use Rattle.ice_section.proofs.Sold.{owned_sells}
-use Rattle.ice_section.proofs.Standing.{AreNamed}
-use Rattle.ice_section.proofs.Retaking.{take_then, take_one, bidder_taken}
-
--- ---- names
-
-all_middle : {X : Type 0} (P : List ℕ → Type 0) (name : X → List ℕ) (xs : List X) (x : X) (ys : List X) → AllByRecursion P (map name (xs ++ x ∷ ys)) → P (name x)
-all_middle P name [] x ys all = all.0
-all_middle P name (y ∷ xs) x ys all = all_middle P name xs x ys all.1
-
-new_among : {X : Type 0} (name : X → List ℕ) (xs : List X) (x : X) (ys : List X) → IsDistinct bytes_eq (map name (xs ++ x ∷ ys)) → list_any (λ other. bytes_eq (name other) (name x)) xs ≡ false
-unfolding IsDistinct
-new_among name [] x ys distinct = refl
-new_among name (y ∷ xs) x ys distinct =
-    or_from _ _ (all_middle (λ n. bytes_eq (name y) n ≡ false) name xs x ys distinct.0) (new_among name xs x ys distinct.1)
+use Rattle.ice_section.proofs.BidderRecords.{take_then, take_one, bidder_taken}
 
 -- ---- goods
 
@@ -55,10 +42,7 @@ good_taken : (settings : Settings) (goods : List Good) (good : Good) → is_name
 unfolding goods_at
 good_taken settings goods good named new few =
     take_as_good (goods_at settings goods) good.name good.exact
-    ∙ ap (λ r. unless_refused r (goods_at settings (goods ++ good ∷ []))) (
-    cond-false (not (is_name good.name)) _ _ (ap not named)
-    ∙ cond-false (list_any (λ other. bytes_eq other.name good.name) goods) _ _ new
-    ∙ cond-false (leb 32 (length goods)) _ _ (lt-leb 32 (length goods) few))
+    ∙ ap (λ r. unless_refused r (goods_at settings (goods ++ good ∷ []))) (good_passes goods good.name named new few)
 
 goods_taken : (settings : Settings) (before after : List Good) → AreNamed (λ good. good.name) (before ++ after) → length (before ++ after) ≤ 32
     → take_records (goods_at settings before) (map good_record after) ≡ Ok (goods_at settings (before ++ after))
@@ -73,14 +57,6 @@ goods_taken settings before (good ∷ after) named few =
     ∙ ap (λ goods. Ok (goods_at settings goods)) next)
 
 -- ---- bidders
-
-bidder_passes : (goods : ℕ) (bidders : List Bidder) (b : Bidder) → is_name b.name ≡ true → list_any (λ other. bytes_eq other.name b.name) bidders ≡ false
-    → length bidders < 40 → node_count bidders + length b.tree ≤ 2000 → over_sale goods b.tree b.own ≡ None → bidder_refusal goods bidders b ≡ None
-bidder_passes goods bidders b named new few few_nodes owned =
-    cond-false (not (is_name b.name)) _ _ (ap not named)
-    ∙ cond-false (list_any (λ other. bytes_eq other.name b.name) bidders) _ _ new
-    ∙ cond-false (leb 40 (length bidders) || ltb 2000 (node_count bidders + length b.tree)) _ _ (or_from _ _ (lt-leb 40 (length bidders) few) (le-ltb 2000 (node_count bidders + length b.tree) few_nodes))
-    ∙ cond-false (is_some (over_sale goods b.tree b.own)) _ _ (ap is_some owned)
 
 abbrev AreOwned : ℕ → List Bidder → Type 0
 AreOwned goods bidders = AllByRecursion (λ b. over_sale goods b.tree b.own ≡ None) bidders
@@ -101,36 +77,19 @@ bidders_taken settings goods some before (b ∷ after) are owned named few few_n
     (bidders_taken settings goods some (before ++ b ∷ []) after are.1 owned.1 (subst (AreNamed (λ x. x.name)) (sym next) named) (omega (arith, ap length next)) (omega (arith, ap node_count next))
     ∙ ap (λ bs. Ok (record { settings = settings; goods = goods; bidders = bs; draft = None })) next)
 
--- what no bidder sells more of than it owns, bidder by bidder
-owned_each : (goods : ℕ) (bidders : List Bidder)
-    → ((b g : ℕ) (s : NodeSet) → b < length (map (λ x. x.tree) bidders) → g < goods → IsSatisfied (tree_of (map (λ x. x.tree) bidders) b) s
-    → pos 0 ≤ℤ (pos (slice_index (slice_index_or (map (λ x. x.own) bidders) b []) g) +ℤ units (tree_of (map (λ x. x.tree) bidders) b) s g))
-    → AreOwned goods bidders
-owned_each goods [] owned = tt
-owned_each goods (x ∷ bidders) owned = (
-  owned_sells goods x.tree x.own (λ g s known is. owned 0 g s (omega arith) known is),
-  owned_each goods bidders (λ b g s there known is. owned (suc b) g s (omega arith) known is),
-)
-
 pub described_are_taken : DescribedAreTaken
 unfolding goods_at
 described_are_taken ex is =
-    let kept = length-map ex.goods (λ (good : Good). good.exact) in
-    let owned = owned_each (length ex.goods) ex.bidders (λ b g s there known sat. is.owned b g s there (omega (arith, kept)) sat) in
     take_then no_section (goods_at ex.settings ex.goods) (section_of ex) (line.settings ex.settings ∷ map good_record ex.goods) (flat_map bidder_records ex.bidders)
     (goods_taken ex.settings [] ex.goods (is.goods_named, is.goods) is.goods_count.1)
-    (bidders_taken (Some ex.settings) ex.goods is.goods_count.0 [] ex.bidders is.bidders owned (is.bidders_named, is.names) is.bidders_count.1 is.nodes)
+    (bidders_taken (Some ex.settings) ex.goods is.goods_count.0 [] ex.bidders is.bidders (owned_lawful ex is) (is.bidders_named, is.names) is.bidders_count.1 is.nodes)
 
 -- ---- ranges
-
-all_append : {X : Type 0} (P : X → Type 0) (xs ys : List X) → AllByRecursion P xs → AllByRecursion P ys → AllByRecursion P (xs ++ ys)
-all_append P [] ys all more = more
-all_append P (x ∷ xs) ys all more = (all.0, all_append P xs ys all.1 more)
 
 all_numbers : (P : Record → Type 0) (f : ℕ → Record) (n : ℕ) → ((k : ℕ) → k < n → P (f k)) → AllByRecursion P (map f (numbers_below n))
 all_numbers P f zero each = tt
 all_numbers P f (suc n) each =
-    subst (AllByRecursion P) (sym (map-append f (numbers_below n) (n ∷ []))) (all_append P (map f (numbers_below n)) (f n ∷ []) (all_numbers P f n (λ k l. each k (omega arith))) (each n (omega arith), tt))
+    subst (AllByRecursion P) (sym (map-append f (numbers_below n) (n ∷ []))) (all-append P (map f (numbers_below n)) (f n ∷ []) (all_numbers P f n (λ k l. each k (omega arith))) (each n (omega arith), tt))
 
 -- where 0 doesn't pass, fewer than n + 1 numbers do
 few_numbers : (p : ℕ → Bool) (n : ℕ) → p 0 ≡ false → length (filter p (numbers_below (suc n))) ≤ n
@@ -175,11 +134,11 @@ bidders_are_records : (goods : ℕ) (bidders : List Bidder) → 1 ≤ goods → 
     → AllByRecursion IsRecord (flat_map bidder_records bidders)
 bidders_are_records goods [] some few named are = tt
 bidders_are_records goods (b ∷ bidders) some few named are =
-    all_append IsRecord (bidder_records b) (flat_map bidder_records bidders) (bidder_are_records goods b some few named.0 are.0) (bidders_are_records goods bidders some few named.1 are.1)
+    all-append IsRecord (bidder_records b) (flat_map bidder_records bidders) (bidder_are_records goods b some few named.0 are.0) (bidders_are_records goods bidders some few named.1 are.1)
 
 pub described_are_records : DescribedAreRecords
 described_are_records ex is = (
   is.settings,
-  all_append IsRecord (map good_record ex.goods) (flat_map bidder_records ex.bidders) (good_are_records ex.goods is.goods_named)
+  all-append IsRecord (map good_record ex.goods) (flat_map bidder_records ex.bidders) (good_are_records ex.goods is.goods_named)
       (bidders_are_records (length ex.goods) ex.bidders is.goods_count.0 is.goods_count.1 is.bidders_named is.bidders),
 )

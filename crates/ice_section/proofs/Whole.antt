@@ -10,9 +10,9 @@ use Rattle.ice_defs.specs.Exchange.{Settings, AreSettings, Good, Bidder}
 use Rattle.ice_journal.specs.Records.{Record}
 use Rattle.ice_section.specs.Section.{Section, no_section, may_end, settings_in, exchange_in}
 use Rattle.ice_section.specs.Laws.{SectionIsLawful, SectionRecords}
-use Rattle.ice_section.proofs.Sold.{sells_owned}
-use Rattle.ice_section.proofs.Standing.{IsBuilt, Stands, whole, described_whole, no_section_stands, records_stand}
-use Rattle.ice_section.proofs.Ranged.{AreSettingsOf, IsOwned, IsRanged, no_section_ranged, records_ranged}
+use Rattle.ice_trade.proofs.Passing.{sells_owned}
+use Rattle.ice_section.proofs.Sections.{IsBuilt, Stands, whole, described_whole, no_section_stands, records_stand}
+use Rattle.ice_section.proofs.Ranges.{AreSettingsOf, IsOwned, IsRanged, no_section_ranged, records_ranged}
 
 settings_whole : (settings : Option Settings) → is_some settings ≡ true → AreSettingsOf settings → AreSettings (settings_in settings)
 settings_whole None some are = absurd cc

@@ -1,7 +1,7 @@
 use Rattle.std.proofs.Common.{◌≡◌, ◌-◌, ◌+◌, length, reverse, ap, sym, ◌∙◌, refl, rules}
 use Rattle.std.proofs.lemmas.List.{nil_from_length, length-reverse}
 use Rattle.std.proofs.lemmas.Result.{err_from_is_err_and}
-use Rattle.ice_section.proofs.Keeping.{kept_length, step_fewer, step_closed, step_refused, length_fewer, none_left}
+use Rattle.ice_section.proofs.KeptNodes.{kept_length, step_fewer, step_closed, step_refused, length_fewer, none_left}
 use Rattle.ice_tree.specs.Making.{all_but_first}
 use Rattle.ice_section.proofs.draft.complete.Goals as goal
 

@@ -6,7 +6,7 @@ use Rattle.ice_journal.specs.Lines.{record_of}
 use Rattle.ice_section.specs.LineFile.{exchange_of_records, IsExchangeOfLines}
 use Rattle.ice_section.specs.FileSteps.{IsBegun, exchange_after}
 use Rattle.ice_section.specs.FileStates.{IsFaultFrom, bad_line_of, so_far}
-use Rattle.ice_section.proofs.Filing.{read_more, read_all, read_fault, read_bad}
+use Rattle.ice_section.proofs.Files.{read_more, read_all, read_fault, read_bad}
 use Rattle.ice_section.proofs.exchange_file.read_exchange_lines.Goals as goal
 
 pub returns-in-Err-clause-fault : goal.returns-in-Err-clause-fault

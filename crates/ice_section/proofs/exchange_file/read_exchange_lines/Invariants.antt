@@ -2,7 +2,7 @@ use Rattle.std.proofs.Common.{length}
 use Rattle.ice_section.specs.LineFile.{exchange_of_records}
 use Rattle.ice_section.specs.FileSteps.{IsBegun, exchange_after}
 use Rattle.ice_section.specs.FileStates.{so_far}
-use Rattle.ice_section.proofs.Filing.{HasRead}
+use Rattle.ice_section.proofs.Files.{HasRead}
 use Rattle.ice_section.proofs.exchange_file.read_exchange_lines.Given as goal
 
 abbrev pub invariant-loop-rest : goal.invariant-loop-rest

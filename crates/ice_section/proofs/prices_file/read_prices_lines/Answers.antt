@@ -6,7 +6,7 @@ use Rattle.ice_section.specs.declared.faults.LineFileFault.TheVariants.{NoMemory
 use Rattle.ice_section.specs.LineFile.{prices_of_records, IsPricesOfLines}
 use Rattle.ice_section.specs.FileSteps.{prices_after}
 use Rattle.ice_section.specs.FileStates.{IsFaultFrom, bad_line_of, prices_so_far}
-use Rattle.ice_section.proofs.Filing.{read_more, read_all, read_fault, read_bad}
+use Rattle.ice_section.proofs.Files.{read_more, read_all, read_fault, read_bad}
 use Rattle.ice_section.proofs.prices_file.read_prices_lines.Goals as goal
 
 pub returns-in-Err-clause-fault : goal.returns-in-Err-clause-fault

@@ -6,7 +6,7 @@ use mir.Syntax.{w64}
 use mir.Val.{SFits}
 use Rattle.ice_defs.specs.declared.NodeKind.TheVariants.{Choose}
 use Rattle.ice_section.specs.Kept.{IsDrafting}
-use Rattle.ice_section.proofs.Carrying.{refused, childless_refused, childless_close, choose_taken}
+use Rattle.ice_section.proofs.NodesTaken.{refused, childless_refused, childless_close, choose_taken}
 use Rattle.ice_section.proofs.draft.Draft.choose.Goals as goal
 
 pub returns-in_err-open_choose-clause-refused : goal.returns-in_err-open_choose-clause-refused

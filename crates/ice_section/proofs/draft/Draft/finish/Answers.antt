@@ -1,6 +1,6 @@
 use Rattle.std.proofs.Common.{◌≡◌, ◌<◌, length, ap, sym, ◌∙◌, subst}
 use Rattle.std.proofs.lemmas.Bool.{false≢true, and_from, lt-ltb, eq-eqb}
-use Rattle.ice_section.proofs.Keeping.{closed_when}
+use Rattle.ice_section.proofs.KeptNodes.{closed_when}
 use Rattle.ice_section.proofs.draft.Draft.finish.Goals as goal
 
 pub unreachable-requires : goal.unreachable-requires

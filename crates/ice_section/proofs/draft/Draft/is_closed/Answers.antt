@@ -1,5 +1,5 @@
 use Rattle.std.proofs.Common.{length, ap, sym, ◌∙◌, eqb}
-use Rattle.ice_section.proofs.Keeping.{closed_when}
+use Rattle.ice_section.proofs.KeptNodes.{closed_when}
 use Rattle.ice_section.proofs.draft.Draft.is_closed.Goals as goal
 
 pub returns : goal.returns

@@ -5,7 +5,7 @@ use mir.Syntax.{w64}
 use mir.Val.{SFits}
 use Rattle.ice_tree.specs.Fault.{tree_fault_number}
 use Rattle.ice_section.specs.Kept.{IsDrafting}
-use Rattle.ice_section.proofs.Carrying.{refused, leaf_kept, leaf_taken, leaf_refused}
+use Rattle.ice_section.proofs.NodesTaken.{refused, leaf_kept, leaf_taken, leaf_refused}
 use Rattle.ice_section.proofs.draft.Draft.leaf.Goals as goal
 
 pub returns-in_err-leaf-clause-refused : goal.returns-in_err-leaf-clause-refused

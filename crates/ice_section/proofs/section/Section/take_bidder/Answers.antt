@@ -1,7 +1,7 @@
 use Rattle.std.proofs.Common.{◌≡◌, ◌≢◌, false, length, sym, ◌∙◌, subst, Some, ap, rules}
 use Rattle.std.specs.Prelude.{is_some}
 use Rattle.ice_section.specs.Kept.{section_from, IsHeld}
-use Rattle.ice_section.proofs.Holding.{begun_drafting, held_bidder}
+use Rattle.ice_section.proofs.HeldSections.{begun_drafting, held_bidder}
 use Rattle.ice_section.proofs.section.Section.take_bidder.Goals as goal
 
 pub invariant_of-self : goal.invariant_of-self

@@ -1,7 +1,7 @@
 use Rattle.std.proofs.Common.{◌≡◌, ◌≤◌, false, subst, rules}
 use Rattle.std.specs.Prelude.{is_some}
 use Rattle.ice_section.specs.Kept.{IsHeld}
-use Rattle.ice_section.proofs.Holding.{held_good}
+use Rattle.ice_section.proofs.HeldSections.{held_good}
 use Rattle.ice_section.proofs.section.Section.take_good.Goals as goal
 
 pub invariant_of-self-2 : goal.invariant_of-self-2

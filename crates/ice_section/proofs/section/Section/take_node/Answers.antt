@@ -14,7 +14,7 @@ use mir.Val.{SFits}
 use Rattle.ice_tree.specs.Fault.{tree_fault_number}
 use Rattle.ice_section.specs.Section.{names_no_good, maker, take_node}
 use Rattle.ice_section.specs.Kept.{section_from, IsHeld}
-use Rattle.ice_section.proofs.Noding.{held_without, node_refused, node_taken, held_node, tree_there, own_counted, own_ranged, whole_taken, whole_refused, held_whole}
+use Rattle.ice_section.proofs.SectionNodes.{held_without, node_refused, node_taken, held_node, tree_there, own_counted, own_ranged, whole_taken, whole_refused, held_whole}
 use Rattle.ice_section.proofs.section.Section.take_node.Goals as goal
 
 pub invariant_of-self-in-Err : goal.invariant_of-self-in-Err

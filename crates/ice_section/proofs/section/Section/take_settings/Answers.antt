@@ -1,7 +1,7 @@
 use Rattle.std.proofs.Common.{◌≡◌, false, sym, subst, rules}
 use Rattle.std.specs.Prelude.{is_some}
 use Rattle.ice_section.specs.Kept.{IsHeld}
-use Rattle.ice_section.proofs.Holding.{held_settings}
+use Rattle.ice_section.proofs.HeldSections.{held_settings}
 use Rattle.ice_section.proofs.section.Section.take_settings.Goals as goal
 use Rattle.std.proofs.Common.{Some}
 

@@ -10,9 +10,10 @@ use Rattle.ice_defs.specs.Exchange.{Settings, AreSettings, Good, Bidder}
 use Rattle.ice_journal.specs.Records.{Record}
 use Rattle.ice_journal.specs.Records as line
 use Rattle.ice_journal.specs.Ranges.{IsRecord}
+use Rattle.ice_defs.proofs.Lists.{all_push}
 use Rattle.ice_section.specs.Section.{SectionFault, order, count, no_good, OpenNode, Draft, Section, no_section, take_good, with_node, go_on, open_after, names_no_good, take_node_of, take_node_at, take_node, take_record}
 use Rattle.ice_section.specs.Taking.{unless_fault, take_records}
-use Rattle.ice_section.proofs.Standing.{ok_if, ok_unless, unless_refused_ok, unless_unmade_ok, all_push}
+use Rattle.ice_section.proofs.Sections.{ok_if, ok_unless, unless_refused_ok, unless_unmade_ok}
 
 abbrev pub AreSettingsOf : Option Settings → Type 0
 AreSettingsOf None = Unit {0}

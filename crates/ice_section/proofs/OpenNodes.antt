@@ -9,7 +9,7 @@ use Rattle.ice_defs.specs.Tree.{Tree, IsTree, IsInterval, kind_of, parent_of, ch
 use Rattle.ice_defs.specs.Bounds.{Bounds}
 use Rattle.ice_defs.specs.Making.{close_refusal}
 use Rattle.ice_section.specs.Section.{SectionFault, OpenNode, complete, unless_unfit, parent_under, open_after}
-use Rattle.ice_section.proofs.Growing.{with_last, at_last, before_last, length_grown, old_kind, last_kind, old_parent, last_parent, old_or_last, children_of_other, children_of_parent, IsShaped, IsPlace}
+use Rattle.ice_section.proofs.NewNode.{with_last, at_last, before_last, length_grown, old_kind, last_kind, old_parent, last_parent, old_or_last, children_of_other, children_of_parent, IsShaped, IsPlace}
 
 abbrev pub IsOutside : ℕ → List OpenNode → Type 0
 IsOutside n [] = Unit {0}

@@ -15,9 +15,9 @@ use Rattle.ice_section.specs.declared.faults.SectionFault.TheVariants as fault
 use Rattle.ice_section.specs.Section.{SectionFault, maker, OpenNode, Draft, Section, unless_refused, parent_under, with_node, add_bidder, go_on, open_after, names_no_good, unless_unmade, take_node_at, take_node, take_record, node_record}
 use Rattle.ice_section.specs.Refusal.{IsRefusal, IsMakerRefusal}
 use Rattle.ice_section.specs.Kept.{Drafting, section_from, IsReached, IsDrafting, IsHeld, node_made, draft_after}
-use Rattle.ice_section.proofs.Ranged.{IsDraftOwned}
-use Rattle.ice_section.proofs.Reaching.{reached_more, reached_stands, reached_without}
-use Rattle.ice_section.proofs.Carrying.{drafting_is}
+use Rattle.ice_section.proofs.Ranges.{IsDraftOwned}
+use Rattle.ice_section.proofs.ReachedSections.{reached_more, reached_stands, reached_without}
+use Rattle.ice_section.proofs.NodesTaken.{drafting_is}
 
 -- ---- in the words of the incomplete bidder
 

@@ -12,12 +12,12 @@ use Rattle.ice_defs.specs.Exchange.{Bidder}
 use Rattle.ice_tree.specs.Making.{Making, IsLeaf, kind_close_refusal, draft_close_refusal}
 use Rattle.ice_section.specs.Section.{maker, OpenNode, complete, with_node, open_after}
 use Rattle.ice_section.specs.Kept.{open_nodes, AreKept, Drafting, drafting_of, IsDrafting, node_made, draft_after}
-use Rattle.ice_section.proofs.Growing.{last_kind, none_yet}
-use Rattle.ice_section.proofs.Opening.{place_of_next}
+use Rattle.ice_section.proofs.NewNode.{last_kind, none_yet}
+use Rattle.ice_section.proofs.OpenNodes.{place_of_next}
 use Rattle.ice_section.proofs.Drafts.{IsDraft}
-use Rattle.ice_section.proofs.Standing.{IsDrafted}
-use Rattle.ice_section.proofs.Keeping.{length_open, parent_open, grown_open, grown_kept, begun_open}
-use Rattle.ice_section.proofs.Reaching.{reached_stands}
+use Rattle.ice_section.proofs.Sections.{IsDrafted}
+use Rattle.ice_section.proofs.KeptNodes.{length_open, parent_open, grown_open, grown_kept, begun_open}
+use Rattle.ice_section.proofs.ReachedSections.{reached_stands}
 
 -- what holds of the incomplete bidder of a section that records lead to
 pub drafting_is : (d : Drafting) → IsDrafting d → (stated : ℕ → ℕ) × (depth : ℕ → ℕ) × IsDraft d.goods d.draft.bidder d.draft.opened stated depth

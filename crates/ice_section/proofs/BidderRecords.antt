@@ -16,9 +16,10 @@ use Rattle.ice_journal.specs.Records as line
 use Rattle.ice_section.specs.Section.{SectionFault, OpenNode, Draft, Section, unless_refused, parent_under, with_node, add_bidder, go_on, open_after, unless_unmade, take_node_of, take_record, node_record}
 use Rattle.ice_section.specs.Described.{bidder_records}
 use Rattle.ice_section.specs.Taking.{unless_fault, take_records}
-use Rattle.ice_section.proofs.Growing.{with_last}
+use Rattle.ice_section.proofs.NewNode.{with_last}
 use Rattle.ice_section.proofs.Drafts.{IsDraft, IsDraft-begun, IsDraftGrown, draft_grown}
-use Rattle.ice_section.proofs.Returning.{stated_in, next_parent, next_depth, opens, leaf_count, kind_known, node_passes, parent_waits, front_kind, front_length}
+use Rattle.ice_trade.proofs.Passing.{node_passes}
+use Rattle.ice_section.proofs.NodeRecords.{stated_in, next_parent, next_depth, opens, leaf_count, kind_known, parent_waits, front_kind, front_length}
 
 -- the bidder with the first nodes of its tree
 front : Bidder → ℕ → Bidder

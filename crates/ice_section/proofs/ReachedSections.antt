@@ -12,12 +12,14 @@ use Rattle.ice_defs.specs.Exchange.{Good, Bidder}
 use Rattle.ice_journal.specs.Records.{Record}
 use Rattle.ice_journal.specs.Records as line
 use Rattle.ice_journal.specs.Ranges.{IsRecord}
+use Rattle.ice_defs.proofs.Lists.{all_push}
+use Rattle.ice_defs.proofs.Choices.{is_none-true, is_some-false}
 use Rattle.ice_section.specs.Section.{SectionFault, order, count, no_good, OpenNode, Draft, Section, no_section, may_end, exchange_in, take_good, with_node, go_on, open_after, names_no_good, take_node_of, take_node_at, take_node, take_record}
 use Rattle.ice_section.specs.Taking.{unless_fault, take_records}
 use Rattle.ice_section.specs.Kept.{IsReached}
-use Rattle.ice_section.proofs.Standing.{none_is, not_some, ok_if, ok_unless, unless_refused_ok, unless_unmade_ok, all_push, Stands, no_section_stands, record_stands, records_stand}
-use Rattle.ice_section.proofs.Ranged.{IsRanged, no_section_ranged, records_ranged}
-use Rattle.ice_section.proofs.Retaking.{take_then, take_one}
+use Rattle.ice_section.proofs.Sections.{ok_if, ok_unless, unless_refused_ok, unless_unmade_ok, Stands, no_section_stands, record_stands, records_stand}
+use Rattle.ice_section.proofs.Ranges.{IsRanged, no_section_ranged, records_ranged}
+use Rattle.ice_section.proofs.BidderRecords.{take_then, take_one}
 use Rattle.ice_section.proofs.Whole.{lawful_whole}
 
 -- one more record
@@ -71,12 +73,12 @@ good_without s good after e =
     let (may, e₁) = ok_unless (is_none s.settings || ltb 0 (length s.bidders) || is_some s.draft) _ after order e in
     let (earlier, draft_none) = or_parts (is_none s.settings || ltb 0 (length s.bidders)) (is_some s.draft) may in
     let (unrefused, same) = unless_refused_ok (good_refusal s.goods s.bidders good.name) (record s { goods = s.goods ++ good ∷ [] }) after e₁ in
-    ap (λ x. x.draft) (sym same) ∙ not_some s.draft draft_none
+    ap (λ x. x.draft) (sym same) ∙ is_some-false s.draft draft_none
 
 record_without : (s : Section) (before : List Record) (r : Record) (after : Section) → Stands s before → take_record s r ≡ Ok after → (without_draft after ≡ without_draft s) ⊎ (after.draft ≡ None)
 record_without s before (line.settings settings) after is e =
     let (none, same) = ok_if (is_none s.settings) (record s { settings = Some settings }) after order e in
-    inr (ap (λ x. x.draft) (sym same) ∙ (is.no_goods (is.no_settings (none_is s.settings none))).1)
+    inr (ap (λ x. x.draft) (sym same) ∙ (is.no_goods (is.no_settings (is_none-true s.settings none))).1)
 record_without s before (line.good name) after is e = inr (good_without s (record { name = name; exact = false }) after e)
 record_without s before (line.exact name) after is e = inr (good_without s (record { name = name; exact = true }) after e)
 record_without s before (line.bidder name own) after is e =

@@ -11,8 +11,8 @@ use Rattle.ice_defs.specs.Making.{close_refusal, innermost, TreeDraft}
 use Rattle.ice_tree.specs.Making.{kind_close_refusal, draft_close_refusal, all_but_first}
 use Rattle.ice_section.specs.Section.{maker, OpenNode, complete, unless_unfit, parent_under}
 use Rattle.ice_section.specs.Kept.{least_of, most_of, open_node, open_nodes, IsChoose, AreKept}
-use Rattle.ice_section.proofs.Growing.{old_kind, children_of_other, children_of_parent}
-use Rattle.ice_section.proofs.Opening.{IsAfter, AreWaiting}
+use Rattle.ice_section.proofs.NewNode.{old_kind, children_of_other, children_of_parent}
+use Rattle.ice_section.proofs.OpenNodes.{IsAfter, AreWaiting}
 
 same_node : (n c d : ℕ) (k l : NodeKind) (left : ℕ) → k ≡ l → c ≡ d
     → ◌≡◌ {A = OpenNode} (record { number = n; least = least_of k; most = most_of k; children = c; left = left }) (record { number = n; least = least_of l; most = most_of l; children = d; left = left })

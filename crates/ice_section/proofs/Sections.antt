@@ -14,13 +14,16 @@ use Rattle.ice_defs.specs.Bounds.{no_bounds}
 use Rattle.ice_defs.specs.Making.{node_refusal, good_refusal, node_count, over_sale, bidder_refusal}
 use Rattle.ice_defs.specs.Lawful.{IsLimitedTree, AreBounds}
 use Rattle.ice_defs.specs.Exchange.{Settings, Good, Bidder}
+use Rattle.ice_defs.proofs.Lists.{all_push}
+use Rattle.ice_defs.proofs.Choices.{is_none-true, is_some-false}
+use Rattle.ice_defs.proofs.Naming.{AreNamed, named_push}
 use Rattle.ice_journal.specs.Records.{Record}
 use Rattle.ice_journal.specs.Records as line
 use Rattle.ice_section.specs.Section.{SectionFault, order, count, no_good, OpenNode, Draft, Section, no_section, may_end, settings_in, exchange_in, take_settings, unless_refused, take_good, take_bidder, with_node, add_bidder, go_on, open_after, names_no_good, unless_unmade, take_node_of, take_node_at, take_node, take_record, good_record, node_record}
 use Rattle.ice_section.specs.Described.{bidder_records, section_records}
 use Rattle.ice_section.specs.Taking.{unless_fault, take_records}
-use Rattle.ice_section.proofs.Growing.{with_last}
-use Rattle.ice_section.proofs.Opening.{IsLeafCount}
+use Rattle.ice_section.proofs.NewNode.{with_last}
+use Rattle.ice_section.proofs.OpenNodes.{IsLeafCount}
 use Rattle.ice_section.proofs.Drafts.{some_refused, drafted, drafted_more, drafted_complete, IsDraft, IsDraft-begun, IsDraftGrown, draft_grown, limited_complete}
 
 -- ---- what holds
@@ -44,9 +47,6 @@ settings_records (Some settings) = line.settings settings ∷ []
 abbrev pub described : Option Settings → List Good → List Bidder → List Record → List Record
 described settings goods bidders rest = settings_records settings ++ (map good_record goods ++ (flat_map bidder_records bidders ++ rest))
 
-abbrev pub AreNamed : {X : Type 0} → (X → List ℕ) → List X → Type 0
-AreNamed name xs = AllByRecursion (λ n. IsTrue (is_name n)) (map name xs) × IsDistinct bytes_eq (map name xs)
-
 pub record Stands (s : Section) (records : List Record) : Type 0 where
   pub goods_count : length s.goods ≤ 32
   pub goods_named : AreNamed (λ good. good.name) s.goods
@@ -59,14 +59,6 @@ pub record Stands (s : Section) (records : List Record) : Type 0 where
   pub told : (rest : List Record) × IsDrafted (length s.goods) s.draft rest × (records ≡ described s.settings s.goods s.bidders rest)
 
 -- ---- steps
-
-pub none_is : {X : Type 0} (o : Option X) → is_none o ≡ true → o ≡ None
-none_is None e = refl
-none_is (Some x) e = absurd cc
-
-pub not_some : {X : Type 0} (o : Option X) → is_some o ≡ false → o ≡ None
-not_some None e = refl
-not_some (Some x) e = absurd cc
 
 pub ok_if : (b : Bool) (s after : Section) (fault : SectionFault) → cond b (Ok s) (Err fault) ≡ Ok after → (b ≡ true) × (s ≡ after)
 ok_if true s after fault e = (refl, cc)
@@ -84,22 +76,6 @@ pub unless_unmade_ok : (refusal : Option ℕ) (next : Result Section SectionFaul
 unless_unmade_ok (Some number) next after e = absurd cc
 unless_unmade_ok None next after e = (refl, e)
 
-pub all_push : {X : Type 0} (P : X → Type 0) (xs : List X) (x : X) → AllByRecursion P xs → P x → AllByRecursion P (xs ++ x ∷ [])
-all_push P [] x all is = (is, tt)
-all_push P (y ∷ xs) x all is = (all.0, all_push P xs x all.1 is)
-
-distinct_push : {X : Type 0} (name : X → List ℕ) (xs : List X) (x : X) → IsDistinct bytes_eq (map name xs) → list_any (λ other. bytes_eq (name other) (name x)) xs ≡ false → IsDistinct bytes_eq (map name xs ++ name x ∷ [])
-unfolding IsDistinct
-distinct_push name [] x distinct new = (tt, tt)
-distinct_push name (y ∷ xs) x distinct new =
-    let (here, later) = or_parts (bytes_eq (name y) (name x)) (list_any (λ other. bytes_eq (name other) (name x)) xs) new in
-    (all_push (λ n. bytes_eq (name y) n ≡ false) (map name xs) (name x) distinct.0 here, distinct_push name xs x distinct.1 later)
-
-named_push : {X : Type 0} (name : X → List ℕ) (xs : List X) (x : X) → AreNamed name xs → is_name (name x) ≡ true → list_any (λ other. bytes_eq (name other) (name x)) xs ≡ false → AreNamed name (xs ++ x ∷ [])
-named_push name xs x named is new =
-    subst (λ ns. AllByRecursion (λ n. IsTrue (is_name n)) ns × IsDistinct bytes_eq ns) (sym (map-append name xs (x ∷ [])))
-    (all_push (λ n. IsTrue (is_name n)) (map name xs) (name x) named.0 is, distinct_push name xs x named.1 new)
-
 -- one more record at the end
 described_push : (settings : Option Settings) (goods : List Good) (bidders : List Bidder) (rest : List Record) (r : Record) → described settings goods bidders rest ++ r ∷ [] ≡ described settings goods bidders (rest ++ r ∷ [])
 described_push settings goods bidders rest r =
@@ -116,7 +92,7 @@ described_same a b goods more bidders others rest last p q r s =
 settings_stands : (s : Section) (records : List Record) (settings : Settings) (after : Section) → Stands s records → take_settings s settings ≡ Ok after → Stands after (records ++ line.settings settings ∷ [])
 settings_stands s records settings after is e =
     let (none, same) = ok_if (is_none s.settings) (record s { settings = Some settings }) after order e in
-    let unset : s.settings ≡ None = none_is s.settings none in
+    let unset : s.settings ≡ None = is_none-true s.settings none in
     let no_good_yet : s.goods ≡ [] = is.no_settings unset in
     let (no_bidder, no_draft) = is.no_goods no_good_yet in
     let (rest, of_draft, are) = is.told in
@@ -144,7 +120,7 @@ good_stands s records good after is e =
     let (may, e₁) = ok_unless (is_none s.settings || ltb 0 (length s.bidders) || is_some s.draft) _ after order e in
     let (earlier, draft_none) = or_parts (is_none s.settings || ltb 0 (length s.bidders)) (is_some s.draft) may in
     let (set_before, bidder_none) = or_parts (is_none s.settings) (ltb 0 (length s.bidders)) earlier in
-    let no_draft : s.draft ≡ None = not_some s.draft draft_none in
+    let no_draft : s.draft ≡ None = is_some-false s.draft draft_none in
     let no_bidder : s.bidders ≡ [] = nil_from_length s.bidders (omega (arith, ltb-false 0 (length s.bidders) bidder_none)) in
     let (unrefused, same) = unless_refused_ok (good_refusal s.goods s.bidders good.name) (record s { goods = s.goods ++ good ∷ [] }) after e₁ in
     let (f₁, r₁) = some_refused (ltb 0 (length s.bidders)) _ _ unrefused in
@@ -178,7 +154,7 @@ bidder_stands s records name own after is e =
     let (some, e₁) = ok_unless (eqb (length s.goods) 0) _ after order e in
     let (draft_none, e₂) = ok_unless (is_some s.draft) _ after order e₁ in
     let (counted, e₃) = ok_unless (not (eqb (length own) (length s.goods))) _ after count e₂ in
-    let no_draft : s.draft ≡ None = not_some s.draft draft_none in
+    let no_draft : s.draft ≡ None = is_some-false s.draft draft_none in
     let begun : Draft = record { bidder = record { name = name; own = own; tree = []; bounds = no_bounds }; opened = [] } in
     let same : record s { draft = Some begun } ≡ after = cc in
     let (rest, of_draft, are) = is.told in
@@ -241,7 +217,7 @@ module _ (s : Section) (records : List Record) (is : Stands s records) (there : 
           tree = limited_complete (length s.goods) b stated depth grown;
           bounds = grown.shaped.values;
           own_count = grown.own_count;
-          sold = not_some _ sold;
+          sold = is_some-false _ sold;
         });
         no_settings = is.no_settings;
         no_goods = λ f. absurd (there f);
@@ -352,7 +328,7 @@ whole s records is ends =
       settings = by s.settings (λ f. good (is.no_settings f));
       good_there = there s.goods good;
       bidder_there = some;
-      draft = none_is s.draft draft;
+      draft = is_none-true s.draft draft;
     }
   where
     by : (o : Option Settings) → (o ≡ None → ⊥) → is_some o ≡ true

@@ -11,7 +11,7 @@ use Rattle.ice_journal.specs.Ranges.{IsName, IsRecord}
 use Rattle.ice_section.specs.Section.{unless_refused, good_record}
 use Rattle.ice_section.specs.Kept.{Drafting, section_from, IsHeld}
 use Rattle.ice_section.proofs.Describing.{take_as_good}
-use Rattle.ice_section.proofs.Reaching.{reached_more}
+use Rattle.ice_section.proofs.ReachedSections.{reached_more}
 
 pub held_settings : (made : Option Exchange) (drafting : Option Drafting) (x : Settings) → IsHeld made drafting → is_some made ≡ false → AreSettings x → IsHeld (Some (no_exchange x)) drafting
 held_settings (Some ex) drafting x h none are = absurd cc

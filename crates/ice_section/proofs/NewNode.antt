@@ -1,6 +1,6 @@
 -- A tree that grows by one node: what holds of a tree whose last nodes are still to come.
-use Rattle.std.proofs.Common.{ℕ, zero, suc, ◌+◌, ◌<◌, ◌≤◌, ◌≡◌, ◌≢◌, Bool, true, false, cond, ◌&&◌, eqb, ltb, [], ◌∷◌, ◌++◌, length, get_or, ℤ, pos, neg_ℤ, ◌≤ℤ◌, refl, arith, ap, sym, ◌∙◌, ◌⊎◌, inl, inr, subst, length-append}
-use Rattle.std.proofs.lemmas.Bool.{cases_lt, cases_eq, and_parts, and_right, ltb-true, lt-ltb, eqb-true, eq-eqb, ne_eqb, false_from_ne_true}
+use Rattle.std.proofs.Common.{ℕ, suc, ◌+◌, ◌<◌, ◌≤◌, ◌≡◌, ◌≢◌, true, cond, ◌&&◌, eqb, ltb, [], ◌∷◌, ◌++◌, length, get_or, ℤ, pos, neg_ℤ, ◌≤ℤ◌, refl, arith, ap, sym, ◌∙◌, ◌⊎◌, inl, inr, subst, length-append}
+use Rattle.std.proofs.lemmas.Bool.{cases_lt, cases_eq, and_right, lt-ltb, eq-eqb, ne_eqb}
 use Rattle.std.proofs.lemmas.List.{get_or_append_left, get_or_at, append-nil}
 use Rattle.std.proofs.lemmas.List.Elements.{filter-append}
 use Rattle.std.specs.List.{filter}
@@ -12,6 +12,8 @@ use Rattle.ice_defs.specs.Tree.{Tree, kind_of, parent_of, is_child, children_of,
 use Rattle.ice_defs.specs.Set.{Weights, weight_of}
 use Rattle.ice_defs.specs.Bounds.{Bounds}
 use Rattle.ice_defs.specs.Lawful.{IsLimitedKind, IsDepth, AreBounds}
+use Rattle.ice_defs.proofs.Below.{filter-same}
+use Rattle.ice_tree.proofs.Growing.{children_of-past}
 
 -- ---- a number per node, with one more
 
@@ -25,32 +27,6 @@ pub before_last : (last v : ℕ) (f : ℕ → ℕ) (n : ℕ) → n < last → wi
 before_last last v f n l = ap (λ b. cond b v (f n)) (ne_eqb n last (λ e. omega arith))
 
 -- ---- children
-
--- a filter of numbers goes by the test below the bound
-pub filter-same : (p q : ℕ → Bool) (n : ℕ) → ((k : ℕ) → k < n → p k ≡ q k) → filter p (numbers_below n) ≡ filter q (numbers_below n)
-filter-same p q zero same = refl
-filter-same p q (suc n) same =
-    filter-append p (numbers_below n) (n ∷ [])
-    ∙ ap (λ l. l ++ filter p (n ∷ [])) (filter-same p q n (λ k h. same k (omega arith)))
-    ∙ ap (λ b. filter q (numbers_below n) ++ cond b (n ∷ []) []) (same n (omega arith))
-    ∙ sym (filter-append q (numbers_below n) (n ∷ []))
-
-filter-none : (p : ℕ → Bool) (n : ℕ) → ((k : ℕ) → k < n → p k ≡ false) → filter p (numbers_below n) ≡ []
-filter-none p zero none = refl
-filter-none p (suc n) none =
-    filter-append p (numbers_below n) (n ∷ [])
-    ∙ ap (λ l. l ++ filter p (n ∷ [])) (filter-none p n (λ k h. none k (omega arith)))
-    ∙ ap (λ b. cond b (n ∷ []) []) (none n (omega arith))
-
--- the last node has no child
-children_of-past : (t : Tree) (p : ℕ) → ((c : ℕ) → 0 < c → c < length t → parent_of t c < c) → length t ≤ p + 1 → children_of t p ≡ []
-children_of-past t p first past = filter-none (is_child t p) (length t) (λ c l. false_from_ne_true _ (λ e. by c l (and_parts _ _ e)))
-  where
-    by : (c : ℕ) → c < length t → (ltb 0 c ≡ true) × (eqb (parent_of t c) p ≡ true) → ⊥
-    by c l both =
-        let before = first c (ltb-true 0 c both.0) l in
-        let same : parent_of t c ≡ p = eqb-true _ _ both.1 in
-        omega arith
 
 module _ (t : Tree) (x : Node) where
   pub length_grown : length (t ++ x ∷ []) ≡ length t + 1

@@ -1,9 +1,7 @@
 -- The records of a lawful bidder's nodes are taken, and give its tree again.
-use Rattle.std.proofs.Common.{ℕ, zero, suc, ◌+◌, ◌-◌, ◌<◌, ◌≤◌, ◌≡◌, ◌≢◌, Bool, true, false, cond, ◌&&◌, not, eqb, ltb, leb, List, [], ◌∷◌, take, length, get_or, ℤ, pos, neg_ℤ, ◌≤ℤ◌, None, Ok, refl, arith, ap, sym, ◌∙◌, ◌⊎◌, inl, inr, subst, length-append}
-use Rattle.std.specs.Prelude.{int_le, int_lt}
+use Rattle.std.proofs.Common.{ℕ, zero, suc, ◌+◌, ◌-◌, ◌<◌, ◌≤◌, ◌≡◌, ◌≢◌, Bool, true, false, cond, ◌&&◌, eqb, ltb, List, [], ◌∷◌, take, length, get_or, None, Ok, refl, arith, ap, sym, ◌∙◌, ◌⊎◌, inl, inr, subst, length-append}
 use Rattle.std.specs.List.{filter}
-use Rattle.std.proofs.lemmas.Int.{ints}
-use Rattle.std.proofs.lemmas.Bool.{cases_lt, cases_eq, and_from, and_parts, lt-ltb, le-ltb, lt-leb, le-leb, ltb-true, eq-eqb, eqb-true, cond-true, cond-false}
+use Rattle.std.proofs.lemmas.Bool.{cases_lt, cases_eq, lt-leb}
 use Rattle.std.proofs.lemmas.List.{get_or-take, length-take-le}
 use Rattle.std.proofs.lemmas.List.Elements.{filter-append}
 use Rattle.ice_defs.specs.declared.Node.{Node}
@@ -11,11 +9,12 @@ use Rattle.ice_defs.specs.declared.NodeKind.{NodeKind}
 use Rattle.ice_defs.specs.declared.NodeKind.TheVariants.{Choose, Buy, Sell}
 use Rattle.ice_defs.specs.Sum.{numbers_below}
 use Rattle.ice_defs.specs.Tree.{Tree, IsTree, IsInterval, kind_of, parent_of, is_child, children_of, no_node}
-use Rattle.ice_defs.specs.Making.{is_value, is_lawful_kind, node_refusal, close_refusal}
+use Rattle.ice_defs.specs.Making.{close_refusal}
 use Rattle.ice_defs.specs.Lawful.{IsLimitedKind, IsDepth}
+use Rattle.ice_defs.proofs.Below.{filter-same}
+use Rattle.ice_trade.proofs.Passing.{child_parent, parent_child, interval_closes}
 use Rattle.ice_section.specs.Section.{OpenNode, complete, unless_unfit, parent_under, open_after, names_no_good}
-use Rattle.ice_section.proofs.Growing.{filter-same}
-use Rattle.ice_section.proofs.Opening.{IsOutside, IsAfter, AreWaiting, AreClosed, IsLeafCount}
+use Rattle.ice_section.proofs.OpenNodes.{IsOutside, IsAfter, AreWaiting, AreClosed, IsLeafCount}
 
 -- ---- the first nodes of a tree
 
@@ -80,12 +79,6 @@ below_find t p k (suc n) l = by (is_child t p n) refl (λ m. below_find t p k n 
         let none : number (is_child t p n) ≡ 0 = ap number is in
         let (c, low, high, child) = go (omega (arith, l, below_suc t p n, none)) in
         (c, low, omega arith, child)
-
-child_parent : (t : Tree) (p c : ℕ) → is_child t p c ≡ true → (0 < c) × (parent_of t c ≡ p)
-child_parent t p c is = let (some, same) = and_parts (ltb 0 c) (eqb (parent_of t c) p) is in (ltb-true 0 c some, eqb-true _ _ same)
-
-parent_child : (t : Tree) (p c : ℕ) → 0 < c → parent_of t c ≡ p → is_child t p c ≡ true
-parent_child t p c some e = and_from (ltb 0 c) (eqb (parent_of t c) p) (lt-ltb 0 c some) (eq-eqb _ _ e)
 
 -- ---- where the next node of the tree goes
 
@@ -162,9 +155,6 @@ module _ (t : Tree) (is : IsTree t) (k : ℕ) (l : k < length t) where
 
 -- ---- the node is taken
 
-interval_closes : (least most children : ℕ) → IsInterval (Choose least most) children → close_refusal least most children ≡ None
-interval_closes least most children fits = cond-true _ None _ (and_from (ltb 0 children && leb least most) (leb most children) (and_from (ltb 0 children) (leb least most) (lt-ltb 0 children fits.2) (le-leb least most fits.0)) (le-leb most children fits.1))
-
 completes : (t : Tree) (extra : ℕ) (stated depth : ℕ → ℕ) → ((n : ℕ) → n < length t → IsInterval (kind_of t n) (stated n)) → (opened : List OpenNode) → AreWaiting t extra stated depth opened
     → (after : List OpenNode) × (complete opened ≡ Ok after)
 completes t extra stated depth fits [] waiting = ([], refl)
@@ -191,29 +181,7 @@ leaf_count (Choose least most) children fit = tt
 leaf_count (Buy good units) children fit = fit
 leaf_count (Sell good units) children fit = fit
 
-int_le-from : (a b : ℤ) → a ≤ℤ b → int_le a b ≡ true
-int_le-from a b l = grind (arith, ints)
-
-int_lt-not : (a b : ℤ) → b ≤ℤ a → int_lt a b ≡ false
-int_lt-not a b l = grind (arith, ints)
-
-kind_passes : (goods : ℕ) (kind : NodeKind) → IsLimitedKind goods kind → is_lawful_kind goods kind ≡ true
-kind_passes goods (Choose least most) fits = refl
-kind_passes goods (Buy good units) fits = and_from _ _ (and_from _ _ (lt-ltb good goods fits.0) (le-leb 1 units fits.1)) (le-leb units 1000 fits.2)
-kind_passes goods (Sell good units) fits = and_from _ _ (and_from _ _ (lt-ltb good goods fits.0) (le-leb 1 units fits.1)) (le-leb units 1000 fits.2)
-
 pub kind_known : (goods : ℕ) (kind : NodeKind) → IsLimitedKind goods kind → names_no_good kind goods ≡ false
 kind_known goods (Choose least most) fits = refl
 kind_known goods (Buy good units) fits = lt-leb goods good fits.0
 kind_known goods (Sell good units) fits = lt-leb goods good fits.0
-
-pub node_passes : (goods nodes depth : ℕ) (kind : NodeKind) (lo hi : ℤ) → nodes < 200 → depth ≤ 16 → IsLimitedKind goods kind → neg_ℤ (pos 1000000000) ≤ℤ lo → lo ≤ℤ hi → hi ≤ℤ pos 1000000000
-    → node_refusal goods nodes depth kind lo hi ≡ None
-node_passes goods nodes depth kind lo hi few shallow fits low ordered high =
-    let low_passes : is_value lo ≡ true = and_from _ _ (int_le-from _ _ low) (int_le-from lo (pos 1000000000) (omega (arith, ints))) in
-    let high_passes : is_value hi ≡ true = and_from _ _ (int_le-from (neg_ℤ (pos 1000000000)) hi (omega (arith, ints))) (int_le-from _ _ high) in
-    let passes : (is_lawful_kind goods kind && is_value lo && is_value hi) ≡ true = and_from _ _ (and_from _ _ (kind_passes goods kind fits) low_passes) high_passes in
-    cond-false (leb 200 nodes) _ _ (lt-leb 200 nodes few)
-    ∙ cond-false (ltb 16 depth) _ _ (le-ltb 16 depth shallow)
-    ∙ cond-false (not (is_lawful_kind goods kind && is_value lo && is_value hi)) _ _ (ap not passes)
-    ∙ cond-false (int_lt hi lo) _ _ (int_lt-not hi lo ordered)

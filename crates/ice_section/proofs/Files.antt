@@ -4,6 +4,7 @@ use Rattle.std.specs.List.{AllByRecursion}
 use Rattle.std.proofs.lemmas.List.{append-nil, length_push}
 use Rattle.std.proofs.lemmas.List.Concat.{flat_map-append}
 use Rattle.ice_defs.specs.FileFault.{FileFault, at_line}
+use Rattle.ice_defs.proofs.Lists.{all_push}
 use Rattle.ice_journal.specs.Records.{Record}
 use Rattle.ice_journal.specs.Ranges.{IsRecord}
 use Rattle.ice_journal.specs.Spelling.{text_of, line_of}
@@ -13,7 +14,6 @@ use Rattle.ice_section.specs.declared.faults.LineFileFault.TheVariants.{Fault, N
 use Rattle.ice_section.specs.FileStates.{IsFaultOf, IsFaultFrom}
 use Rattle.ice_section.specs.LineFile.{of_lines}
 use Rattle.ice_section.specs.FileSteps.{BadLine, no_record, not_ended, bad_line_number, IsBadLine}
-use Rattle.ice_section.proofs.Standing.{all_push}
 
 -- the records of these lines, and what the others would give
 pub record HasRead {X : Type 0} (whole left : List Record → Result X FileFault) (bytes rest : List ℕ) (lines : ℕ) : Type 0 where
