@@ -19,7 +19,8 @@ fn copy_fixing(marks: &mut Fixings, bidder: u8, from: &Fixing)
 pub fn copy_fixings(marks: &mut Fixings, from: &Fixings)
     requires few { length from.now ≤ 40 }
     requires bidders { length from.now ≡ length marks.old }
-    requires nodes { (b : ℕ) → b < length from.now → length (fixing_of from.now b) ≡ length (fixing_of marks.old b) }
+    requires nodes { (b : ℕ) → b < length from.now → length (fixing_of from.now b) ≡ length
+        (fixing_of marks.old b) }
     ensures { marks.new ≡ from.now }
 {
     for bidder in 0..from.len() as u8 {

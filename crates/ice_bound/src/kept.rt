@@ -107,7 +107,8 @@ fn sum_of(nets: &[Option<i128>]) -> NetSum
 fn value_of(trees: &[Tree], sets: &Assignment, weights: &[Weights]) -> i128
     requires few { length trees.now ≤ 40 }
     requires sets { length sets.now ≡ length trees.now }
-    requires nodes { (b : ℕ) → b < length trees.now → length (set_of sets.now b) ≡ length (tree_of trees.now b) }
+    requires nodes { (b : ℕ) → b < length trees.now → length (set_of sets.now b) ≡ length
+        (tree_of trees.now b) }
     requires weights { AreWeightsOf trees.now weights.now }
     ensures { result ≡ total_value sets.now weights.now }
 {
@@ -136,8 +137,10 @@ impl<'a> Kept<'a> {
         requires weights { AreWeightsOf trees.now weights.now }
         ensures trees { IfOk result (λ k. k.trees ≡ trees.now) }
         ensures weights { IfOk result (λ k. k.weights ≡ weights.now) }
-        ensures marks { IfOk result (λ k. k.marks ≡ map (λ t. replicate (length t) Free) trees.now) }
-        ensures multipliers { IfOk result (λ k. k.multipliers ≡ replicate (length exact.now) (pos 0)) }
+        ensures marks { IfOk result (λ k. k.marks ≡ map (λ t. replicate (length t) Free)
+            trees.now) }
+        ensures multipliers { IfOk result (λ k. k.multipliers ≡ replicate (length exact.now)
+            (pos 0)) }
         ensures exact { IfOk result (λ k. k.exact ≡ exact.now) }
     {
         let weights = copy_all(alloc, trees, weights)?;
@@ -216,7 +219,8 @@ impl<'a> Kept<'a> {
     /// The sum of the bidders' greatest nets, in 64ths, which is the sum of the relaxed sets' nets; or the first bidder
     /// that has no satisfied set that meets its fixing.
     pub fn net_sum(&self) -> NetSum
-        ensures answer { IsNetAnswer self.now.trees self.now.weights self.now.multipliers self.now.marks result }
+        ensures answer { IsNetAnswer self.now.trees self.now.weights self.now.multipliers
+            self.now.marks result }
         ensures sets { IsSumOfNets self.now result }
     {
         sum_of(&self.found.nets)
@@ -224,8 +228,10 @@ impl<'a> Kept<'a> {
 
     /// The bound of the trees, weights, marks and multipliers as they stand. See `bound`.
     pub fn bound(&self) -> Bound
-        ensures answer { IsAnswer self.now.trees self.now.weights self.now.multipliers self.now.marks result }
-        ensures above { IsAboveAll self.now.trees self.now.exact self.now.weights self.now.marks result }
+        ensures answer { IsAnswer self.now.trees self.now.weights self.now.multipliers
+            self.now.marks result }
+        ensures above { IsAboveAll self.now.trees self.now.exact self.now.weights self.now.marks
+            result }
     {
         match sum_of(&self.found.nets) {
             NetSum::Dead(bidder) => Bound::Dead(bidder),
