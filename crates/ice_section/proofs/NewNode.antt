@@ -13,7 +13,7 @@ use Rattle.ice_defs.specs.Set.{Weights, weight_of}
 use Rattle.ice_defs.specs.Bounds.{Bounds}
 use Rattle.ice_defs.specs.Lawful.{IsLimitedKind, IsDepth, AreBounds}
 use Rattle.ice_defs.proofs.Below.{filter-same}
-use Rattle.ice_tree.proofs.Growing.{children_of-past}
+use Rattle.ice_tree.proofs.MoreNodes.{children_of-past}
 
 -- ---- a number per node, with one more
 
