@@ -34,6 +34,7 @@ fn best_set(
     ensures best { IsBestNet exchange.now prices.now bidder result.set result.net }
 {
     let tree = &exchange.trees()[bidder as usize];
+    let _nodes = tree.nodes();
     let best = best_at_prices(tree, weights.of(bidder), 100, prices, scratch);
     let name = exchange.bidder_name(bidder).copy();
     BestSet {
