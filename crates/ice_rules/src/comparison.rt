@@ -214,6 +214,72 @@ fn drawn_inside(old: &Bounds, draw: &mut Draw) -> ([i64; 6], [i64; 6]) {
     (lo, hi)
 }
 
+/// What the rules must find of a set, by all sets and corners.
+#[derive(Drop)]
+struct Expected {
+    loss: i128,
+    mrpar: bool,
+    improves: bool,
+    verdict: Verdict,
+}
+
+/// What they must find where the loss must fall by so much, by the nets at the old bounds and at the new ones.
+fn expected_of(before: &Nets, after: &Nets, set: usize, fall: i64) -> Expected
+    requires { set < 64 }
+{
+    let most = before.losses[set].wrapping_sub(fall);
+    let left = after.losses[set];
+    let improves = left == 0 || left <= most || after.gains_more(set, most);
+    let mrpar = after.mrpar(set);
+    let verdict = if !mrpar {
+        Verdict::Mrpar
+    } else if !improves {
+        Verdict::Improve
+    } else {
+        Verdict::Accepted
+    };
+    Expected {
+        loss: i128::from(before.losses[set]),
+        mrpar,
+        improves,
+        verdict,
+    }
+}
+
+/// The loss at the old bounds, and whether the rules hold at the new ones; None where the arguments are not those of one
+/// tree.
+fn found(
+    tree: &Tree,
+    old: &Bounds,
+    new: &Bounds,
+    set: &NodeSet,
+    prices: &Prices,
+    improve: i64,
+    scratch: &mut Scratch,
+) -> Option<(i128, bool, bool)> {
+    let nodes = tree.nodes();
+    if old.len() != nodes || new.len() != nodes || set.len() != nodes {
+        return None;
+    }
+    if tree.is_satisfied(set).is_err() {
+        return None;
+    }
+    let at = Standing {
+        tree,
+        bounds: old,
+        set,
+        prices,
+    };
+    let then = Standing {
+        tree,
+        bounds: new,
+        set,
+        prices,
+    };
+    let improves = improvement(&at, new, improve, scratch);
+    Some((loss(&at, scratch), mrpar(&then, scratch), improves))
+}
+
 #[test]
 fn the_rules_agree_with_all_sets_and_corners(rt: HostRuntime) -> Result<(), Fail> {
     let mut draw = Draw { state: 1 };
@@ -236,7 +302,6 @@ fn the_rules_agree_with_all_sets_and_corners(rt: HostRuntime) -> Result<(), Fail
         let Ok(new) = tree.set_bounds(lo, hi) else {
             return Err("bounds".into());
         };
-        assert!(rt; old.len() == nodes && new.len() == nodes);
         let before = Nets::of(&tree, &old, den, nums);
         let after = Nets::of(&tree, &new, den, nums);
         for bits in 0..64u16 {
@@ -245,43 +310,20 @@ fn the_rules_agree_with_all_sets_and_corners(rt: HostRuntime) -> Result<(), Fail
             if !before.satisfied[place] || tree.is_satisfied(&set).is_err() {
                 continue;
             }
-            let most = before.losses[place].wrapping_sub(improve.wrapping_mul(den));
-            let left = after.losses[place];
-            let improves = left == 0 || left <= most || after.gains_more(place, most);
-            let at = Standing {
-                tree: &tree,
-                bounds: &old,
-                set: &set,
-                prices: &prices,
-            };
-            let then = Standing {
-                tree: &tree,
-                bounds: &new,
-                set: &set,
-                prices: &prices,
-            };
-            let found = loss(&at, &mut scratch);
+            let want = expected_of(&before, &after, place, improve.wrapping_mul(den));
+            let rules = found(&tree, &old, &new, &set, &prices, improve, &mut scratch);
             assert_eq!(rt;
-                found,
-                i128::from(before.losses[place]),
+                rules,
+                Some((want.loss, want.mrpar, want.improves)),
                 "round {round}, set {bits}"
             );
-            let tight = mrpar(&then, &mut scratch);
-            assert_eq!(rt; tight, after.mrpar(place), "round {round}, set {bits}");
-            let found = improvement(&at, &new, improve, &mut scratch);
-            assert_eq!(rt; found, improves, "round {round}, set {bits}");
-            let want = if !tight {
-                first = first.wrapping_add(1);
-                Verdict::Mrpar
-            } else if !improves {
-                second = second.wrapping_add(1);
-                Verdict::Improve
-            } else {
-                accepted = accepted.wrapping_add(1);
-                Verdict::Accepted
-            };
-            let found = verdict(&tree, &old, lo, hi, &set, &prices, improve);
-            assert_eq!(rt; found, Some(want), "round {round}, set {bits}");
+            let judged = verdict(&tree, &old, lo, hi, &set, &prices, improve);
+            assert_eq!(rt; judged, Some(want.verdict), "round {round}, set {bits}");
+            match want.verdict {
+                Verdict::Mrpar => first = first.wrapping_add(1),
+                Verdict::Improve => second = second.wrapping_add(1),
+                _ => accepted = accepted.wrapping_add(1),
+            }
         }
     }
     assert!(rt;

@@ -37,7 +37,8 @@ pub(crate) fn least_gain(at: &Standing, scratch: &mut Scratch) -> i128
     requires satisfied { IsSatisfied at.now.tree.now at.now.set.now }
     requires nodes { length at.now.bounds.now.lo ≡ length at.now.tree.now }
     ensures { (least : ℤ)
-        → GainsMore at.now.tree.now at.now.prices.now at.now.set.now at.now.bounds.now least ↔ (least <ℤ result) }
+        → GainsMore at.now.tree.now at.now.prices.now at.now.set.now at.now.bounds.now least
+        ↔ (least <ℤ result) }
 {
     let weights = in_favour(at.bounds, at.set);
     let best = best_at_prices(at.tree, &weights, 1, at.prices, scratch);
@@ -48,8 +49,10 @@ pub(crate) fn least_gain(at: &Standing, scratch: &mut Scratch) -> i128
 pub(crate) fn is_best_throughout(at: &Standing, scratch: &mut Scratch) -> bool
     requires satisfied { IsSatisfied at.now.tree.now at.now.set.now }
     requires nodes { length at.now.bounds.now.lo ≡ length at.now.tree.now }
-    ensures yes { IsTrue result → IsBestThroughout at.now.tree.now at.now.prices.now at.now.bounds.now at.now.set.now }
-    ensures no { IsBestThroughout at.now.tree.now at.now.prices.now at.now.bounds.now at.now.set.now → IsTrue result }
+    ensures yes { IsTrue result → IsBestThroughout at.now.tree.now at.now.prices.now at.now.bounds.now
+        at.now.set.now }
+    ensures no { IsBestThroughout at.now.tree.now at.now.prices.now at.now.bounds.now at.now.set.now
+        → IsTrue result }
 {
     loss(at, scratch) == 0
 }

@@ -11,7 +11,8 @@ use ice_tree::{Bounds, NodeSet, Weights};
 fn upper_where(bounds: &Bounds, node: u16, inside: bool) -> i128
     requires node { node < length bounds.now.lo }
     requires bounds { AreBounds (length bounds.now.lo) bounds.now }
-    ensures value { result ≡ (if inside then weight_of bounds.now.hi node else weight_of bounds.now.lo node) }
+    ensures value { result ≡ (if inside then weight_of bounds.now.hi node
+        else weight_of bounds.now.lo node) }
     ensures low { neg_ℤ (pos 1000000000) ≤ℤ result }
     ensures high { result ≤ℤ pos 1000000000 }
 {
