@@ -103,8 +103,10 @@ pub(crate) fn judge(
     requires weights { AreWeightsOf trees.now weights.now }
     requires goods { CountsGoods (length room.old) (step_of step.now) }
     requires marks { AreFixingsOf trees.now marks.now }
-    ensures ok { OnOk result (PassesAt trees.now room.old weights.now target marks.now (step_of step.now)) }
-    ensures fault { IfErr result (HasFault trees.now room.old weights.now target marks.now (step_of step.now)) }
+    ensures ok { OnOk result (PassesAt trees.now room.old weights.now target marks.now
+        (step_of step.now)) }
+    ensures fault { IfErr result (HasFault trees.now room.old weights.now target marks.now
+        (step_of step.now)) }
     ensures exact { room.new ≡ room.old }
 {
     match step {

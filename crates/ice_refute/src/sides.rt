@@ -30,7 +30,8 @@ fn split(marks: &mut Fixings, branches: &mut Vec<(u8, u16)>, bidder: u8, node: u
     requires bidder { bidder < length marks.old }
     requires node { node < length (fixing_of marks.old bidder) }
     requires free { mark_of (fixing_of marks.old bidder) node ≡ Free }
-    ensures sides { open_sides true marks.new branches.new.items ≡ sides_after (open_sides true marks.old branches.old.items) (branch bidder node) }
+    ensures sides { open_sides true marks.new branches.new.items
+        ≡ sides_after (open_sides true marks.old branches.old.items) (branch bidder node) }
     ensures kept { AreKept marks.new branches.new.items }
     ensures nodes { nodes_of marks.new ≡ nodes_of marks.old }
     ensures room { 2000 ≤ vec_capacity branches.new }
@@ -43,7 +44,8 @@ fn split(marks: &mut Fixings, branches: &mut Vec<(u8, u16)>, bidder: u8, node: u
 fn leave(marks: &mut Fixings, branches: &mut Vec<(u8, u16)>) -> bool
     requires kept { AreKept marks.old branches.old.items }
     requires room { 2000 ≤ vec_capacity branches.old }
-    ensures sides { open_sides result marks.new branches.new.items ≡ waiting marks.old (reverse branches.old.items) }
+    ensures sides { open_sides result marks.new branches.new.items
+        ≡ waiting marks.old (reverse branches.old.items) }
     ensures kept { AreKept marks.new branches.new.items }
     ensures nodes { nodes_of marks.new ≡ nodes_of marks.old }
     ensures room { 2000 ≤ vec_capacity branches.new }
@@ -64,7 +66,8 @@ pub(crate) fn advance(step: &Step, marks: &mut Fixings, branches: &mut Vec<(u8, 
     requires kept { AreKept marks.old branches.old.items }
     requires room { 2000 ≤ vec_capacity branches.old }
     requires passes { CanBranch marks.old (step_of step.now) }
-    ensures sides { open_sides result marks.new branches.new.items ≡ sides_after (open_sides true marks.old branches.old.items) (step_of step.now) }
+    ensures sides { open_sides result marks.new branches.new.items
+        ≡ sides_after (open_sides true marks.old branches.old.items) (step_of step.now) }
     ensures kept { AreKept marks.new branches.new.items }
     ensures nodes { nodes_of marks.new ≡ nodes_of marks.old }
     ensures room { 2000 ≤ vec_capacity branches.new }

@@ -89,9 +89,11 @@ impl Walk {
         requires nodes { self.old.nodes ≡ nodes_of trees.now }
         requires opened { 0 < length self.old.sides }
         requires goods { CountsGoods (length desk.old.room) (step_of step.now) }
-        ensures ok { OnOk result (PassesAt trees.now desk.old.room weights.now target (first_side self.old.sides) (step_of step.now)) }
+        ensures ok { OnOk result (PassesAt trees.now desk.old.room weights.now target
+            (first_side self.old.sides) (step_of step.now)) }
         ensures sides { OnOk result (self.new.sides ≡ sides_after self.old.sides (step_of step.now)) }
-        ensures fault { IfErr result (HasFault trees.now desk.old.room weights.now target (first_side self.old.sides) (step_of step.now)) }
+        ensures fault { IfErr result (HasFault trees.now desk.old.room weights.now target
+            (first_side self.old.sides) (step_of step.now)) }
         ensures few { OnOk result (length self.new.sides ≤ 2001) }
         ensures unchanged { OnErr result (self.new ≡ self.old) }
         ensures nodes { self.new.nodes ≡ self.old.nodes }

@@ -92,7 +92,8 @@ impl Bidders {
     pub(crate) fn owns(&self, bidder: u8, good: u8) -> u32
         requires bidder { bidder < length self.now }
         requires good { good < length (slice_index_or (map (λ bidder. bidder.own) self.now) bidder []) }
-        ensures { result ≡ slice_index (slice_index_or (map (λ bidder. bidder.own) self.now) bidder []) good }
+        ensures { result ≡ slice_index (slice_index_or (map (λ bidder. bidder.own) self.now) bidder [])
+            good }
     {
         self.owned[bidder as usize].get(good)
     }
@@ -117,7 +118,13 @@ impl Bidders {
         requires fresh { list_any (λ other. bytes_eq other.name name) self.old ≡ false }
         requires goods { length own.now ≤ 32 }
         requires nodes { node_count self.old + length tree ≤ 2000 }
-        ensures { self.new ≡ self.old ++ record { name = name; own = own.now; tree = tree; bounds = bounds } ∷ [] }
+        ensures { self.new ≡ self.old ++ record {
+          name = name;
+          own = own.now;
+          tree = tree;
+          bounds =
+              bounds;
+        } ∷ [] }
     {
         self.nodes += tree.nodes();
         self.names.push(name);

@@ -128,7 +128,8 @@ impl Exchange {
     /// The weighted values of all nodes at the opening bounds, in hundredths: the settings' weight times the lower value,
     /// and the rest of 100 times the upper one.
     pub fn weighted_values(&self, alloc: Global) -> Result<AllWeights, NoMemory>
-        ensures value { IfOk result (λ w. w ≡ weighted_weights self.now.settings.weight (opening_bounds self.now)) }
+        ensures value { IfOk result (λ w. w ≡ weighted_weights self.now.settings.weight
+            (opening_bounds self.now)) }
         ensures nodes { IfOk result (HasWeightPerNode (trees_of self.now)) }
         ensures lawful { IsExchange self.now }
     {
@@ -155,9 +156,11 @@ impl Exchange {
     /// names the least good at fault, and the sum of its units. It takes no memory.
     pub fn feasible(&self, sets: &Assignment) -> Result<(), TradeFault>
         requires count { length sets.now ≡ length self.now.bidders }
-        requires satisfied { (b : ℕ) → b < length self.now.bidders → IsSatisfied (tree_of (trees_of self.now) b) (set_of sets.now b) }
+        requires satisfied { (b : ℕ) → b < length self.now.bidders
+            → IsSatisfied (tree_of (trees_of self.now) b) (set_of sets.now b) }
         ensures feasible { IsOk result ↔ IsFeasible (trees_of self.now) (exact_of self.now) sets.now }
-        ensures excess { IfErr result (λ fault. IsExcess (exact_of self.now) (total_units (trees_of self.now) sets.now) fault.good fault.excess) }
+        ensures excess { IfErr result (λ fault. IsExcess (exact_of self.now)
+            (total_units (trees_of self.now) sets.now) fault.good fault.excess) }
     {
         let sums = total_units(self.trees(), sets);
         match first_excess(&sums, self.exact()) {

@@ -30,7 +30,8 @@ fn add_to(sums: &mut [i64; 32], good: u8, units: i64)
 // Adds the units of a set to the sums.
 fn add_units(sums: &mut [i64; 32], units: &Units)
     requires { AreWithin 7800000 sums.old }
-    ensures added { (g : ℕ) → g < 32 → weight_of sums.new g ≡ weight_of sums.old g +ℤ weight_of units.now g }
+    ensures added { (g : ℕ) → g < 32
+        → weight_of sums.new g ≡ weight_of sums.old g +ℤ weight_of units.now g }
     ensures small { AreWithin 200000 units.now }
 {
     for good in 0..32u8 {
@@ -42,7 +43,8 @@ fn add_units(sums: &mut [i64; 32], units: &Units)
 pub(crate) fn total_units(trees: &[Tree], sets: &Assignment) -> [i64; 32]
     requires few { length trees.now ≤ 40 }
     requires count { length sets.now ≡ length trees.now }
-    requires sizes { (b : ℕ) → b < length trees.now → length (set_of sets.now b) ≡ length (tree_of trees.now b) }
+    requires sizes { (b : ℕ) → b < length trees.now
+        → length (set_of sets.now b) ≡ length (tree_of trees.now b) }
     ensures { (g : ℕ) → g < 32 → weight_of result g ≡ units_of_all trees.now sets.now g }
 {
     let mut sums = no_units();
@@ -62,7 +64,9 @@ fn is_covered(exact: bool, units: i64) -> bool
 /// The least good whose units don't balance.
 pub(crate) fn first_excess(sums: &[i64; 32], exact: &[bool]) -> Option<TradeFault>
     requires { length exact.now ≤ 32 }
-    ensures { MatchOption result ((g : ℕ) → g < length exact.now → IsBalanced exact.now (weight_of sums.now) g) (λ f. IsExcess exact.now (weight_of sums.now) f.good f.excess) }
+    ensures { MatchOption result ((g : ℕ) → g < length exact.now
+        → IsBalanced exact.now (weight_of sums.now) g)
+        (λ f. IsExcess exact.now (weight_of sums.now) f.good f.excess) }
 {
     for (good, exact) in exact.iter().enumerate() {
         let excess = sums[good];

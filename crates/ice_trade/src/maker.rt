@@ -113,7 +113,8 @@ impl ExchangeMaker {
     }
 
     fn add_good(&mut self, name: &str, exact: bool) -> Result<u8, MakeFault>
-        ensures made { IfOk result (λ number. (number ≡ length self.old.goods) × (self.new ≡ with_good self.old (record { name = name.now; exact = exact }))) }
+        ensures made { IfOk result (λ number. (number ≡ length self.old.goods)
+            × (self.new ≡ with_good self.old (record { name = name.now; exact = exact }))) }
         ensures refused { RefusedBy result (good_refusal self.old.goods self.old.bidders name.now) }
         ensures unchanged { OnErr result (self.new ≡ self.old) }
     {
@@ -129,7 +130,8 @@ impl ExchangeMaker {
     /// the name (`DuplicateGood`), and where 32 goods stand (`TooMany`). A refusal leaves the maker as it was. It takes
     /// no memory.
     pub fn good(&mut self, name: &str) -> Result<u8, MakeFault>
-        ensures made { IfOk result (λ number. (number ≡ length self.old.goods) × (self.new ≡ with_good self.old (record { name = name.now; exact = false }))) }
+        ensures made { IfOk result (λ number. (number ≡ length self.old.goods)
+            × (self.new ≡ with_good self.old (record { name = name.now; exact = false }))) }
         ensures refused { RefusedBy result (good_refusal self.old.goods self.old.bidders name.now) }
         ensures unchanged { OnErr result (self.new ≡ self.old) }
     {
@@ -138,7 +140,8 @@ impl ExchangeMaker {
 
     /// Adds a good of which what is bought must equal what is sold, and answers its number. It refuses as `good` does.
     pub fn exact_good(&mut self, name: &str) -> Result<u8, MakeFault>
-        ensures made { IfOk result (λ number. (number ≡ length self.old.goods) × (self.new ≡ with_good self.old (record { name = name.now; exact = true }))) }
+        ensures made { IfOk result (λ number. (number ≡ length self.old.goods)
+            × (self.new ≡ with_good self.old (record { name = name.now; exact = true }))) }
         ensures refused { RefusedBy result (good_refusal self.old.goods self.old.bidders name.now) }
         ensures unchanged { OnErr result (self.new ≡ self.old) }
     {
@@ -148,7 +151,8 @@ impl ExchangeMaker {
     fn check_bidder(&self, name: &str, own: &[u32], tree: &Tree) -> Result<Name, MakeFault>
         requires { length own.now ≡ length self.now.goods }
         ensures made { IfOk result (λ made. made ≡ name.now) }
-        ensures refused { RefusedBy result (bidder_refusal (length self.now.goods) self.now.bidders (record { name = name.now; own = own.now; tree = tree.now; bounds = no_bounds })) }
+        ensures refused { RefusedBy result (bidder_refusal (length self.now.goods) self.now.bidders
+            (record { name = name.now; own = own.now; tree = tree.now; bounds = no_bounds })) }
         ensures sale { IfErr result (λ fault. TellsSale fault (length self.now.goods) tree.now own.now) }
     {
         let Some(name) = Name::new(name) else {
@@ -180,9 +184,13 @@ impl ExchangeMaker {
         tree: Tree,
         bounds: Bounds,
     ) -> Result<u8, MakeFault>
-        requires { IsBidder (length self.old.goods) (record { name = name.now; own = own.now; tree = tree; bounds = bounds }) }
-        ensures made { IfOk result (λ number. (number ≡ length self.old.bidders) × (self.new ≡ with_bidder self.old (record { name = name.now; own = own.now; tree = tree; bounds = bounds }))) }
-        ensures refused { RefusedBy result (bidder_refusal (length self.old.goods) self.old.bidders (record { name = name.now; own = own.now; tree = tree; bounds = bounds })) }
+        requires { IsBidder (length self.old.goods)
+            (record { name = name.now; own = own.now; tree = tree; bounds = bounds }) }
+        ensures made { IfOk result (λ number. (number ≡ length self.old.bidders)
+            × (self.new ≡ with_bidder self.old
+            (record { name = name.now; own = own.now; tree = tree; bounds = bounds }))) }
+        ensures refused { RefusedBy result (bidder_refusal (length self.old.goods) self.old.bidders
+            (record { name = name.now; own = own.now; tree = tree; bounds = bounds })) }
         ensures sale { IfErr result (λ fault. TellsSale fault (length self.old.goods) tree own.now) }
         ensures unchanged { OnErr result (self.new ≡ self.old) }
     {

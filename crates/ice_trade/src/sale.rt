@@ -17,7 +17,9 @@ pub(crate) struct OverSold {
 #[tactic(auto, using(crate::proofs::Finding::sales))]
 pub(crate) fn over_sale(tree: &Tree, own: &[u32]) -> Option<OverSold>
     requires { length own.now ≤ 32 }
-    ensures { MatchOption result (over_sale (length own.now) tree.now own.now ≡ None) (λ s. (over_sale (length own.now) tree.now own.now ≡ Some s.good) × (s.amount ≡ most_sold tree.now s.good)) }
+    ensures { MatchOption result (over_sale (length own.now) tree.now own.now ≡ None)
+        (λ s. (over_sale (length own.now) tree.now own.now ≡ Some s.good)
+        × (s.amount ≡ most_sold tree.now s.good)) }
 {
     let mut scratch = Scratch::new();
     for good in 0..own.len() as u8 {
