@@ -1,0 +1,5 @@
+//! Tests of the printed texts of faults: each fault with the text that it prints, written by hand.
+#![tactic(auto)]
+
+#[cfg(test)]
+mod texts;
