@@ -8,7 +8,7 @@ use Rattle.ice_defs.specs.Set.{Weights}
 use Rattle.ice_defs.specs.Bound.{Multipliers}
 use Rattle.ice_defs.specs.Steps.{Step, branch, leaf, dead, Side, sides_after}
 use Rattle.ice_defs.specs.Log.{Fault, above, is_above, is_dead_leaf, closes}
-use Rattle.ice_defs.specs.Group.{Group}
+use Rattle.ice_defs.specs.declared.Group.{Group}
 use Rattle.ice_refute.specs.Passing.{PassesAt, HasFault}
 use Rattle.ice_refute.specs.Waiting.{first_side}
 use Rattle.ice_refute.specs.declared.fault.LogFault.{LogFault}

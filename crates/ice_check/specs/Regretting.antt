@@ -14,7 +14,7 @@ use Rattle.ice_journal.specs.Lines.{version_of}
 use Rattle.ice_check.specs.declared.rule.Rule.{Rule}
 use Rattle.ice_check.specs.declared.rule.Rule.TheVariants as rule
 use Rattle.ice_check.specs.declared.next.Group as code
-use Rattle.ice_check.specs.declared.next.Group.TheVariants.{Final, Rival}
+use Rattle.ice_check.specs.declared.next.Group.TheVariants as coded
 use Rattle.ice_check.specs.declared.next.Next.{Next}
 use Rattle.ice_check.specs.declared.next.Next.TheVariants as next
 use Rattle.ice_check.specs.declared.groups.Groups.{Groups}
@@ -24,8 +24,8 @@ use Rattle.ice_check.specs.Logs.{IsWalkOf}
 use Rattle.ice_check.specs.Progress.{passing, failed, TakesOn}
 
 abbrev pub group_of : code.Group → Group
-group_of Final = Final
-group_of Rival = Rival
+group_of coded.Final = Final
+group_of coded.Rival = Rival
 
 -- the exchange is described, and so much is stated behind it
 abbrev pub regretting : Version → ℕ → Exchange → Place → Stated → ℤ → ℤ → State
@@ -41,8 +41,8 @@ final_stated g = record { value = g.final_value; sets = g.final_sets }
 
 -- and what is known of it in a group
 abbrev pub final_of : Groups → code.Group → Stated
-final_of g Final = record { value = pos 0; sets = [] }
-final_of g Rival = final_stated g
+final_of g coded.Final = record { value = pos 0; sets = [] }
+final_of g coded.Rival = final_stated g
 
 -- the state where this is next
 abbrev pub state_at : Groups → ℕ → Next → State
@@ -63,7 +63,7 @@ weights_for g group = group_weights g.stated.exchange.settings.weight (opening_b
 abbrev pub IsReady : Groups → Next → Type 0
 IsReady g (next.Set group) = (length g.stated.sets < length (trees_of g.stated.exchange)) × (g.log.weights ≡ weights_for g group)
 IsReady g (next.Step group) = (length g.stated.sets ≡ length (trees_of g.stated.exchange)) × (g.log.weights ≡ weights_for g group) × (0 < length g.log.walk.sides)
-IsReady g next.Rival = (g.stated.sets ≡ []) × (g.log.weights ≡ weights_for g Rival)
+IsReady g next.Rival = (g.stated.sets ≡ []) × (g.log.weights ≡ weights_for g coded.Rival)
 IsReady g next.Amount = Unit {0}
 IsReady g next.End = Unit {0}
 IsReady g next.Nothing = Unit {0}

@@ -7,7 +7,7 @@ use Rattle.ice_defs.specs.Trade.{Assignment}
 use Rattle.ice_defs.specs.declared.Group.TheVariants.{Rival}
 use Rattle.ice_journal.specs.Lines.{version_of}
 use Rattle.ice_journal.specs.Records as records
-use Rattle.ice_check.specs.declared.next.Group.TheVariants.{Rival}
+use Rattle.ice_check.specs.declared.next.Group.TheVariants as coded
 use Rattle.ice_check.specs.declared.next.Next.TheVariants as coming
 use Rattle.ice_check.specs.State.{at_sets, at_group}
 use Rattle.ice_check.specs.Progress.{passing, TakesOn}
@@ -23,7 +23,7 @@ returns c =
     let ex = g.stated.exchange in
     let value = c.args.value in
     let same : to_z w64 (of_z w64 value) ≡ value = to_z-of_z w64 value c.ranges.value in
-    subst (λ (z : ℤ). IsTaken coming.Rival g (records.rival value) (record g { value = z; next = coming.Set Rival })) (sym same)
+    subst (λ (z : ℤ). IsTaken coming.Rival g (records.rival value) (record g { value = z; next = coming.Set coded.Rival })) (sym same)
     (record {
       passes = λ n. subst (λ (sets : Assignment). TakesOn (regretting v n ex (at_group Rival) (final_stated g) (pos 0) (pos 0)) (records.rival value) (passing (regretting v (suc n) ex (at_sets Rival (record { value = value; sets = sets })) (final_stated g) (pos 0) (pos 0))))
           (sym c.requires.ready.0) (rival_opens v n ex (final_stated g) value);
