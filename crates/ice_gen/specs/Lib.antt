@@ -1,0 +1,4 @@
+pub mod Generated
+pub mod Drawing
+pub mod Growing
+pub mod Parts
