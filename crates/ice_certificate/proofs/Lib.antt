@@ -1,0 +1,2 @@
+mod Worths
+mod Equality

@@ -1,0 +1,16 @@
+use Rattle.std.proofs.Common.{◌*◌, ◌^◌, ◌≤◌, arith}
+use Rattle.std.proofs.lemmas.Int.{ints}
+use Rattle.ice_rows.specs.Sizes.{IsSizedWithin}
+use Rattle.ice_certificate.proofs.sums.RowSums.worth.Goals as goal
+
+pub returns-clause-low : goal.returns-clause-low
+returns-clause-low c =
+    let worth : IsSizedWithin (c.self.inside.weight * 2 ^ 49) c.self.inside.worth = c.self.invariant.worth in
+    let few : c.self.inside.weight ≤ 2 ^ 40 = c.self.invariant.weight in
+    omega (arith, ints, worth.low, worth.high, few)
+
+pub returns-clause-high : goal.returns-clause-high
+returns-clause-high c =
+    let worth : IsSizedWithin (c.self.inside.weight * 2 ^ 49) c.self.inside.worth = c.self.invariant.worth in
+    let few : c.self.inside.weight ≤ 2 ^ 40 = c.self.invariant.weight in
+    omega (arith, ints, worth.low, worth.high, few)

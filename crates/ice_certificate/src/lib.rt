@@ -1,0 +1,11 @@
+//! The tests of certificates of prices: whether prices are accurate, and balanced, as weighted sets show.
+#![tactic(auto)]
+
+mod certified;
+mod gains;
+mod sums;
+#[cfg(test)]
+mod tests;
+
+pub use gains::{Scratch, excess};
+pub use sums::RowSums;
