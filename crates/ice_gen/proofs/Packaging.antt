@@ -10,7 +10,7 @@ use Rattle.ice_defs.specs.Sum.{numbers_below}
 use Rattle.ice_defs.specs.Tree.{Tree, kind_of, parent_of, children_of}
 use Rattle.ice_defs.specs.Making.{is_complete, innermost, close_refusal}
 use Rattle.ice_tree.specs.Making.{draft_close_refusal, kind_close_refusal, all_but_first}
-use Rattle.ice_tree.proofs.Growing.{old_node, last_node, children_of-new, children_of-past}
+use Rattle.ice_tree.proofs.MoreNodes.{old_node, last_node, children_of-new, children_of-past}
 use Rattle.ice_gen.specs.declared.valued.Valued.{Valued}
 use Rattle.ice_gen.specs.Generated.{advanced, draws, no_value, package_draws, package_tree, package_values, buyer, buyer_draws}
 use Rattle.ice_gen.specs.Drawing.{drawn, state_after}
