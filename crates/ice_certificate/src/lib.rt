@@ -7,5 +7,5 @@ mod sums;
 #[cfg(test)]
 mod tests;
 
-pub use gains::{Scratch, excess};
+pub use gains::{Excess, Scratch, best_excess};
 pub use sums::RowSums;

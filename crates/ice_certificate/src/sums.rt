@@ -2,7 +2,7 @@
 ghost use Rattle.std.specs.Prelude.{ℕ, ◌≡◌, ◌≤◌, ◌<◌, ◌+◌, ◌*◌, ◌^◌, length, ℤ, pos, neg_ℤ, ◌≤ℤ◌, ◌+ℤ◌, ◌-ℤ◌, ◌*ℤ◌};
 ghost use Rattle.std.specs.Int.{int_max};
 ghost use Rattle.ice_defs.specs.Set.{weight_of, value};
-ghost use Rattle.ice_net.specs.Net.{AreModest};
+ghost use Rattle.ice_best.specs.Nets.{AreAtMostTrillion};
 ghost use Rattle.ice_defs.specs.Sum.{sum_below};
 ghost use Rattle.ice_rows.specs.Sums.{AreZero, wanted_in};
 ghost use Rattle.ice_rows.specs.Sizes.{IsSizedWithin};
@@ -50,7 +50,7 @@ fn worth_above(tree: &Tree, weights: &Weights, own: &NodeSet, set: &NodeSet) -> 
     requires own { length own.now ≡ length tree.now }
     requires set { length set.now ≡ length tree.now }
     requires nodes { length weights.now ≡ length tree.now }
-    requires modest { AreModest weights.now }
+    requires modest { AreAtMostTrillion weights.now }
     ensures value { result ≡ value set.now weights.now -ℤ value own.now weights.now }
     ensures low { neg_ℤ (pos (2 ^ 49)) ≤ℤ result }
     ensures high { result ≤ℤ pos (2 ^ 49) }
@@ -124,7 +124,7 @@ impl RowSums {
         requires own { length own.now ≡ length tree.now }
         requires set { length set.now ≡ length tree.now }
         requires nodes { length weights.now ≡ length tree.now }
-        requires modest { AreModest weights.now }
+        requires modest { AreAtMostTrillion weights.now }
         requires few { self.old.weight + weight ≤ 2 ^ 40 }
         ensures { AddsRow tree.now weights.now own.now set.now weight self.old self.new }
     {

@@ -1,8 +1,8 @@
 //! Worked certificates.
 ghost use Rattle.std.specs.Prelude.{◌≡◌, length};
-ghost use Rattle.ice_net.specs.Net.{AreModest};
+ghost use Rattle.ice_best.specs.Nets.{AreAtMostTrillion};
 
-use crate::{RowSums, Scratch, excess};
+use crate::{RowSums, Scratch, best_excess};
 use ice_terms::Prices;
 use ice_tree::{NodeKind, NodeSet, Tree, TreeFault, TreeMaker, Weights};
 use std::test::Fail;
@@ -21,7 +21,7 @@ fn buys_or_sells() -> Result<Tree, TreeFault> {
 /// Buying is worth 10, which is 1,000 in hundredths, and selling 0.
 fn worth_of_buying() -> Weights
     ensures nodes { length result ≡ 3 }
-    ensures modest { AreModest result }
+    ensures modest { AreAtMostTrillion result }
 {
     let mut weights = Weights::zero(3);
     weights.put(1, 1000);
@@ -53,16 +53,8 @@ fn rows_of_one_bidder(rt: HostRuntime) -> Result<(), Fail> {
     assert!(rt; sums.pass_accuracy(1, 100, &prices, 500, 2));
     assert!(rt; !sums.pass_accuracy(1, 100, &prices, 499, 2));
     assert!(rt; !sums.pass_balance(1, &prices, 500, 2));
-    let mut set = NodeSet::empty(3);
-    let most = excess(
-        &tree,
-        &weights,
-        &own,
-        &prices,
-        &mut Scratch::new(),
-        &mut set,
-    );
-    assert_eq!(rt; most, 500);
+    let most = best_excess(&tree, &weights, &own, &prices, &mut Scratch::new());
+    assert_eq!(rt; most.amount, 500);
     Ok(())
 }
 
