@@ -1,5 +1,12 @@
+-- puts one after another, and counts that rose
 pub mod Puts
-pub mod Replying
-pub mod Parting
+-- parts of a call, and what is said of a part's answer
+pub mod Parts
+-- why a file is not had
+pub mod Refusing
+-- what `check` answers
+pub mod Checking
+-- the best sets of all bidders
 pub mod Bidding
+-- what `best` answers
 pub mod Besting

@@ -2,30 +2,28 @@
 use Rattle.std.specs.Prelude.{ℕ, ◌<◌, ◌≤◌, ◌≡◌, List, ◌++◌, length, codes, Option, Some, None}
 use Rattle.ice_edge.specs.declared.status.Status.{Status}
 use Rattle.ice_edge.specs.Edge.{Rose}
+use Rattle.ice_edge.specs.Told.{Told}
 use Rattle.ice_defs.specs.FileFault.{FileFault}
 
--- what a shelf tells of a name: nothing, or that no file has it, or its bytes; the counts before and after the call; and the text that the call appended to the sink
+-- its words; what the shelf told before and after it, and the sink's count of faults then; and the text that it appended to the sink
 pub record Call : Type 0 where
   pub words : List (List ℕ)
-  pub holds : List ℕ → Option (Option (List ℕ))
-  pub faults : List ℕ → ℕ
-  pub faults_after : List ℕ → ℕ
-  pub overlong : List ℕ → ℕ → ℕ
-  pub overlong_after : List ℕ → ℕ → ℕ
+  pub before : Told
+  pub after : Told
   pub sink_faults : ℕ
   pub sink_faults_after : ℕ
   pub text : List ℕ
   pub status : Status
 
 abbrev pub IsTold : Call → List ℕ → List ℕ → Type 0
-IsTold call name bytes = call.holds name ≡ Some (Some bytes)
+IsTold call name bytes = call.before.holds name ≡ Some (Some bytes)
 
 -- the shelf's count of faults for this name rose in the call
 abbrev pub FaultRose : Call → List ℕ → Type 0
-FaultRose call name = Rose (call.faults name) (call.faults_after name)
+FaultRose call name = Rose (call.before.faults name) (call.after.faults name)
 
 abbrev pub OverlongRose : Call → List ℕ → ℕ → Type 0
-OverlongRose call name limit = Rose (call.overlong name limit) (call.overlong_after name limit)
+OverlongRose call name limit = Rose (call.before.overlong name limit) (call.after.overlong name limit)
 
 abbrev pub SinkFaultRose : Call → Type 0
 SinkFaultRose call = Rose call.sink_faults call.sink_faults_after
@@ -44,7 +42,7 @@ OfTold limit P (Some None) = ⊥
 OfTold limit P (Some (Some bytes)) = (length bytes ≤ limit) × P bytes
 
 abbrev pub OfFile : Call → List ℕ → ℕ → (List ℕ → Type 0) → Type 0
-OfFile call name limit P = OfTold limit P (call.holds name)
+OfFile call name limit P = OfTold limit P (call.before.holds name)
 
 -- a file is refused: it is too long, and the count of that rose; or its bytes, which are those that are told, have this fault
 pub data IsRefused (call : Call) (name : List ℕ) (limit : ℕ) (HasFault : List ℕ → FileFault → Type 0) : FileFault → Type 0 where

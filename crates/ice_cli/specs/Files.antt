@@ -1,9 +1,19 @@
 -- Exchange and prices files.
-use Rattle.std.specs.Prelude.{ℕ, ◌≡◌, ◌==◌, Bool, true, false, List, [], ◌∷◌, Err}
+use Rattle.std.specs.Prelude.{ℕ, ◌≡◌, ◌==◌, Bool, true, false, List, [], ◌∷◌, Option, Some, None, Ok, Err}
+use Rattle.ice_edge.specs.Told.{Told}
+use Rattle.ice_defs.specs.Prices.{Prices}
 use Rattle.ice_defs.specs.Exchange.{Exchange}
 use Rattle.ice_defs.specs.FileFault.{FileFault, Read}
 use Rattle.ice_section.specs.LineFile.{IsExchangeOfLines, IsPricesOfLines}
+use Rattle.ice_section.specs.declared.faults.LineFileFault.{LineFileFault}
+use Rattle.ice_section.specs.declared.faults.LineFileFault.TheVariants as fault
 use Rattle.ice_read.specs.ExchangeFile.{exchange_of}
+use Rattle.ice_read.specs.declared.fault.ReadFault.{ReadFault}
+use Rattle.ice_read.specs.Cause.{cause_number}
+use Rattle.ice_cli.specs.declared.refusal.FileFault.TheVariants.{AtLine, AtPlace}
+use Rattle.ice_cli.specs.declared.refusal.Refusal.{Refusal}
+use Rattle.ice_cli.specs.declared.refusal.Refusal.TheVariants.{File, NoMemory}
+use Rattle.ice_cli.specs.Call.{file_limit, OfTold}
 
 -- the first byte is `i`
 abbrev pub is_line_form : List ℕ → Bool
@@ -25,3 +35,24 @@ IsExchangeFault bytes fault = IsExchangeOf bytes (Err fault)
 -- a fault of the prices for so many goods
 abbrev pub IsPricesFault : ℕ → List ℕ → FileFault → Type 0
 IsPricesFault goods bytes fault = IsPricesOfLines goods bytes (Err fault)
+
+-- the file of this name, where it is told, is this exchange
+abbrev pub HoldsExchange : Told → List ℕ → Exchange → Type 0
+HoldsExchange shelf name exchange = OfTold file_limit (λ bytes. IsExchangeOf bytes (Ok exchange)) (shelf.holds name)
+
+-- the file of this name, where it is told, has these prices for so many goods
+abbrev pub HoldsPrices : Told → List ℕ → ℕ → Prices → Type 0
+HoldsPrices shelf name goods prices = OfTold file_limit (λ bytes. IsPricesOfLines goods bytes (Ok prices)) (shelf.holds name)
+
+-- a fault that a reader of lines found in the file with this number
+abbrev pub IsLineRefusal : ℕ → LineFileFault → Refusal → Type 0
+IsLineRefusal file (fault.Fault number line) refusal = refusal ≡ File file (AtLine number line)
+IsLineRefusal file fault.NoMemory refusal = refusal ≡ NoMemory
+
+-- a fault that the reader of JSON found in the file with this number: every number has its place; want of memory has no number
+abbrev pub IsPlaceRefusal : ℕ → ReadFault → Refusal → Type 0
+IsPlaceRefusal file fault refusal = numbered (cause_number fault.cause)
+  where
+    numbered : Option ℕ → Type 0
+    numbered (Some number) = refusal ≡ File file (AtPlace number fault.place)
+    numbered None = refusal ≡ NoMemory

@@ -8,9 +8,10 @@ use Rattle.ice_cli.specs.Output.{words_line}
 use Rattle.ice_cli.specs.CheckServed.{CheckAnswers}
 use Rattle.ice_cli.specs.BestServed.{BestAnswers}
 
--- the words are none of the forms
+-- the words are none of the forms; no file is fetched, so all that the shelf tells is the same, each count among it
 pub record RefusesWords (call : Call) : Type 0 where
   pub none : IsNoCommand call.words
+  pub untouched : call.after ≡ call.before
   pub status : call.status ≡ Words
   pub text : call.text ≡ words_line
 

@@ -2,18 +2,17 @@
 ghost use Rattle.std.specs.Prelude.{◌≡◌, ◌<◌, [], length, slice_index_or, IfOk, IfErr};
 ghost use Rattle.ice_defs.specs.Exchange.{names_of, opening_bounds};
 ghost use Rattle.ice_defs.specs.Weighing.{weighted_weights};
-ghost use Rattle.ice_cli.specs.Call.{Call};
-ghost use Rattle.ice_cli.specs.FileReplies.{told, HasPart};
 ghost use Rattle.ice_cli.specs.BestServed.{IsBestNet, BestAnswers};
 ghost use Rattle.ice_cli.specs.Bests.{AreBestSets};
-ghost use Rattle.ice_cli.specs.BestReplies.{AreBestOf, IsBestReply};
-ghost use Rattle.ice_cli.specs.Outcomes.{outcome_text, outcome_status};
+ghost use Rattle.ice_cli.specs.BestFound.{AreBestOf, BestRefuses};
+ghost use Rattle.ice_cli.specs.Parts.{Serves};
 
+use crate::best_lines::put_best;
 use crate::best_set::BestSet;
 use crate::files::{read_exchange, read_prices};
-use crate::outcome::Outcome;
-use crate::reply::Reply;
-use ice_edge::Shelf;
+use crate::refusal::Refusal;
+use crate::say::ended;
+use ice_edge::{Shelf, Sink, Status};
 use ice_net::{Scratch, best_at_prices};
 use ice_terms::Prices;
 use ice_trade::Exchange;
@@ -28,7 +27,8 @@ fn best_set(
     bidder: u8,
     scratch: &mut Scratch,
 ) -> BestSet
-    requires weights { weights.now ≡ weighted_weights exchange.now.settings.weight (opening_bounds exchange.now) }
+    requires weights { weights.now
+        ≡ weighted_weights exchange.now.settings.weight (opening_bounds exchange.now) }
     requires bidder { bidder < length exchange.now.bidders }
     ensures name { result.name ≡ slice_index_or (names_of exchange.now) bidder [] }
     ensures best { IsBestNet exchange.now prices.now bidder result.set result.net }
@@ -46,7 +46,8 @@ fn best_set(
 
 /// The best sets of all bidders, in order.
 fn best_sets(alloc: Global, exchange: &Exchange, prices: &Prices) -> Result<Vec<BestSet>, NoMemory>
-    ensures { IfOk result (λ sets. AreBestSets exchange.now prices.now 0 (names_of exchange.now) sets.items) }
+    ensures { IfOk result (λ sets.
+        AreBestSets exchange.now prices.now 0 (names_of exchange.now) sets.items) }
 {
     let weights = exchange.weighted_values(alloc)?;
     let mut scratch = Scratch::new();
@@ -60,30 +61,40 @@ fn best_sets(alloc: Global, exchange: &Exchange, prices: &Prices) -> Result<Vec<
     Ok(sets)
 }
 
-/// The best sets at the prices of one file, over the exchange of another; or what is replied in their place.
+/// The best sets at the prices of one file, over the exchange of another; or why there are none.
 fn best_of_files<H: Shelf>(
     alloc: Global,
     exchange: &str,
     prices: &str,
     shelf: &mut H,
-) -> Result<Vec<BestSet>, Reply>
-    ensures sets { IfOk result (λ sets. AreBestOf (H.holds shelf.old exchange.now) (H.holds shelf.old prices.now) sets.items) }
-    ensures reply { IfErr result (λ reply. (call : Call) → HasPart call (told (H.holds shelf.old) (H.faults shelf.old) (H.overlong shelf.old)) (told (H.holds shelf.new) (H.faults shelf.new) (H.overlong shelf.new)) → IsBestReply call exchange.now prices.now reply) }
+) -> Result<Vec<BestSet>, Refusal>
+    ensures sets { IfOk result (λ sets.
+        AreBestOf (H.told shelf.old) exchange.now prices.now sets.items) }
+    ensures refusal { IfErr result
+        (BestRefuses exchange.now prices.now (H.told shelf.old) (H.told shelf.new)) }
 {
     let exchange = read_exchange(alloc, 1, exchange, shelf)?;
     let prices = read_prices(alloc, 2, prices, exchange.goods(), shelf)?;
     match best_sets(alloc, &exchange, &prices) {
         Ok(sets) => Ok(sets),
-        Err(NoMemory) => Err(Reply::NoMemory),
+        Err(NoMemory) => Err(Refusal::NoMemory),
     }
 }
 
-/// What is written at `best` on an exchange file and a prices file.
-pub fn best<H: Shelf>(alloc: Global, exchange: &str, prices: &str, shelf: &mut H) -> Outcome
-    ensures { (call : Call) → HasPart call (told (H.holds shelf.old) (H.faults shelf.old) (H.overlong shelf.old)) (told (H.holds shelf.new) (H.faults shelf.new) (H.overlong shelf.new)) → call.text ≡ outcome_text result → BestAnswers call exchange.now prices.now (outcome_status result) }
+/// Writes the best set of each bidder at the prices of one file, over the exchange of another.
+pub fn best<H: Shelf, K: Sink>(
+    alloc: Global,
+    exchange: &str,
+    prices: &str,
+    shelf: &mut H,
+    out: &mut K,
+) -> Status
+    ensures { Serves (λ call. BestAnswers call exchange.now prices.now)
+        (H.told shelf.old) (H.told shelf.new)
+        (K.written out.old) (K.written out.new) (K.faults out.old) (K.faults out.new) result }
 {
     match best_of_files(alloc, exchange, prices, shelf) {
-        Ok(sets) => Outcome::Best(sets),
-        Err(reply) => Outcome::Line(reply),
+        Ok(sets) => ended(put_best(&sets, out), Status::Done),
+        Err(refusal) => refusal.say(out),
     }
 }

@@ -5,7 +5,7 @@ ghost use Rattle.ice_edge.specs.Edge.{Rose, Appends, AppendsFront};
 ghost use Rattle.ice_journal.specs.Ranges.{IsBits};
 ghost use Rattle.ice_journal.specs.Records as line;
 ghost use Rattle.ice_journal.specs.Spelling.{line_of};
-ghost use Rattle.ice_cli.specs.Output.{line_text, best_lines};
+ghost use Rattle.ice_cli.specs.Output.{line_text};
 
 use ice_edge::{Sink, SinkFault};
 use ice_journal::{Line, write_record};
@@ -23,10 +23,13 @@ pub struct BestSet {
 }
 
 impl BestSet {
+    ghost use Rattle.ice_cli.specs.Bests.{lines_of};
+
     /// Writes the line of the net.
     fn write_net<'a>(&self, to: &'a mut LineWriter) -> &'a [u8]
         requires { to.old ≡ [] }
-        ensures { result.now ≡ line_text (codes "best" ∷ self.now.name ∷ signed_decimal self.now.net ∷ []) }
+        ensures { result.now
+            ≡ line_text (codes "best" ∷ self.now.name ∷ signed_decimal self.now.net ∷ []) }
     {
         to.word(b"best");
         to.word(self.name.bytes());
@@ -45,8 +48,10 @@ impl BestSet {
 
     /// Puts its two lines.
     pub fn put<K: Sink>(&self, out: &mut K) -> Result<(), SinkFault>
-        ensures ok { OnOk result (Appends (K.written out.old) (best_lines self.now.name self.now.net self.now.set) (K.written out.new)) }
-        ensures err { OnErr result (AppendsFront (K.written out.old) (best_lines self.now.name self.now.net self.now.set) (K.written out.new)) }
+        ensures ok { OnOk result
+            (Appends (K.written out.old) (lines_of self.now) (K.written out.new)) }
+        ensures err { OnErr result
+            (AppendsFront (K.written out.old) (lines_of self.now) (K.written out.new)) }
         ensures failed { OnErr result (Rose (K.faults out.old) (K.faults out.new)) }
         ensures later { K.faults out.old ≤ K.faults out.new }
     {

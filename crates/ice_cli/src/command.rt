@@ -11,7 +11,9 @@ pub enum Command<'a> {
 
 /// The word, where there is no other.
 fn one_word(words: &[String]) -> Option<&str>
-    ensures { MatchOption result ((word : List ℕ) → map string_bytes words.now ≡ word ∷ [] → ⊥) (λ word. map string_bytes words.now ≡ word.now ∷ []) }
+    ensures { MatchOption result
+        ((word : List ℕ) → map string_bytes words.now ≡ word ∷ [] → ⊥)
+        (λ word. map string_bytes words.now ≡ word.now ∷ []) }
 {
     let (word, rest) = words.split_first()?;
     if rest.is_empty() {
@@ -23,7 +25,9 @@ fn one_word(words: &[String]) -> Option<&str>
 
 /// The two words, where there are two.
 fn two_words(words: &[String]) -> Option<(&str, &str)>
-    ensures { MatchOption result ((one other : List ℕ) → map string_bytes words.now ≡ one ∷ other ∷ [] → ⊥) (λ two. map string_bytes words.now ≡ two.0.now ∷ two.1.now ∷ []) }
+    ensures { MatchOption result
+        ((one other : List ℕ) → map string_bytes words.now ≡ one ∷ other ∷ [] → ⊥)
+        (λ two. map string_bytes words.now ≡ two.0.now ∷ two.1.now ∷ []) }
 {
     let (one, rest) = words.split_first()?;
     let other = one_word(rest)?;
@@ -32,7 +36,8 @@ fn two_words(words: &[String]) -> Option<(&str, &str)>
 
 /// The command that the words are; None exactly where they are none.
 pub fn command_in(words: &[String]) -> Option<Command<'_>>
-    ensures { MatchOption result (IsNoCommand (map string_bytes words.now)) (λ command. IsCommand (map string_bytes words.now) (command_of command)) }
+    ensures { let all = map string_bytes words.now in
+        MatchOption result (IsNoCommand all) (λ command. IsCommand all (command_of command)) }
 {
     let (word, names) = words.split_first()?;
     match word.as_str() {

@@ -1,11 +1,12 @@
 //! The files that a command's words name, fetched and read.
 ghost use Rattle.std.specs.Prelude.{◌≡◌, IfOk, IfErr, Ok as Found};
 ghost use Rattle.ice_section.specs.LineFile.{IsPricesOfLines};
-ghost use Rattle.ice_cli.specs.Call.{Call, file_limit, OfTold};
-ghost use Rattle.ice_cli.specs.Files.{is_line_form, IsExchangeOf, IsExchangeFault, IsPricesFault};
-ghost use Rattle.ice_cli.specs.FileReplies.{told, IsLater, HasPart, IsFileReply, IsFaultReply, IsLineReply, IsPlaceReply};
+ghost use Rattle.ice_edge.specs.Told.{IsLater};
+ghost use Rattle.ice_cli.specs.Files.{is_line_form, IsExchangeOf, IsExchangeFault, IsPricesFault, HoldsExchange, HoldsPrices, IsLineRefusal, IsPlaceRefusal};
+ghost use Rattle.ice_cli.specs.Parts.{AreFetched};
+ghost use Rattle.ice_cli.specs.Refusals.{NoFault, IsFaultOf, Refuses};
 
-use crate::reply::{FileFault, Reply};
+use crate::refusal::{FileFault, Refusal};
 use ice_edge::{FetchFault, Shelf};
 use ice_read::ReadFault;
 use ice_section::{LineFileFault, read_exchange_lines, read_prices_lines};
@@ -16,20 +17,28 @@ use std::alloc::Global;
 /// The most bytes of an exchange or prices file.
 const FILE_LIMIT: usize = 16_777_216;
 
-/// The bytes of the file with this number and name, or what is replied where they are not had.
-fn fetch<H: Shelf>(alloc: Global, file: u8, name: &str, shelf: &mut H) -> Result<Vec<u8>, Reply>
-    ensures bytes { IfOk result (λ bytes. OfTold file_limit (λ told. told ≡ bytes.items) (H.holds shelf.old name.now)) }
-    ensures reply { IfErr result (λ reply. (call : Call) → HasPart call (told (H.holds shelf.old) (H.faults shelf.old) (H.overlong shelf.old)) (told (H.holds shelf.new) (H.faults shelf.new) (H.overlong shelf.new)) → IsFileReply call file name.now (λ bytes fault. ⊥) reply) }
-    ensures later { IsLater (told (H.holds shelf.old) (H.faults shelf.old) (H.overlong shelf.old)) (told (H.holds shelf.new) (H.faults shelf.new) (H.overlong shelf.new)) }
+/// The bytes of the file with this number and name, of which there are at most `limit`, or why they are not had.
+pub fn fetch<H: Shelf>(
+    alloc: Global,
+    file: u8,
+    name: &str,
+    limit: usize,
+    shelf: &mut H,
+) -> Result<Vec<u8>, Refusal>
+    ensures bytes { IfOk result
+        (λ bytes. AreFetched (H.told shelf.old) name.now limit bytes.items) }
+    ensures refusal { IfErr result
+        (Refuses file name.now limit NoFault (H.told shelf.old) (H.told shelf.new)) }
+    ensures later { IsLater (H.told shelf.old) (H.told shelf.new) }
 {
-    match shelf.fetch(alloc, name, FILE_LIMIT) {
+    match shelf.fetch(alloc, name, limit) {
         Ok(bytes) => Ok(bytes),
-        Err(FetchFault::Failed) => Err(Reply::Unread { file }),
-        Err(FetchFault::TooLong) => Err(Reply::Refused {
+        Err(FetchFault::Failed) => Err(Refusal::Unread { file }),
+        Err(FetchFault::TooLong) => Err(Refusal::File {
             file,
             fault: FileFault::TooLong,
         }),
-        Err(FetchFault::NoMemory) => Err(Reply::NoMemory),
+        Err(FetchFault::NoMemory) => Err(Refusal::NoMemory),
     }
 }
 
@@ -43,89 +52,91 @@ fn is_line_form(bytes: &[u8]) -> bool
     }
 }
 
-/// The reply to a fault in a line of the file with this number.
-fn line_reply(file: u8, fault: LineFileFault) -> Reply
-    ensures { IsLineReply file fault result }
+/// What is wrong with the file with this number, of which a line is at fault.
+fn line_refusal(file: u8, fault: LineFileFault) -> Refusal
+    ensures { IsLineRefusal file fault result }
 {
     match fault {
-        LineFileFault::Fault { number, line } => Reply::Refused {
+        LineFileFault::Fault { number, line } => Refusal::File {
             file,
             fault: FileFault::AtLine { number, line },
         },
-        LineFileFault::NoMemory => Reply::NoMemory,
+        LineFileFault::NoMemory => Refusal::NoMemory,
     }
 }
 
-/// The reply to a fault in the JSON file with this number.
-fn place_reply(file: u8, fault: ReadFault) -> Reply
-    ensures { IsPlaceReply file fault result }
+/// What is wrong with the JSON file with this number, of which a value is at fault.
+fn place_refusal(file: u8, fault: ReadFault) -> Refusal
+    ensures { IsPlaceRefusal file fault result }
 {
     let ReadFault { place, cause } = fault;
     match cause.number() {
-        Some(number) => Reply::Refused {
+        Some(number) => Refusal::File {
             file,
             fault: FileFault::AtPlace { number, place },
         },
-        None => Reply::NoMemory,
+        None => Refusal::NoMemory,
     }
 }
 
 /// The exchange of the bytes of the file with this number.
-fn exchange_of(alloc: Global, file: u8, bytes: &[u8]) -> Result<Exchange, Reply>
+fn exchange_of(alloc: Global, file: u8, bytes: &[u8]) -> Result<Exchange, Refusal>
     ensures exchange { IfOk result (λ exchange. IsExchangeOf bytes.now (Found exchange)) }
-    ensures reply { IfErr result (IsFaultReply file (IsExchangeFault bytes.now)) }
+    ensures refusal { IfErr result (IsFaultOf file (IsExchangeFault bytes.now)) }
 {
     if is_line_form(bytes) {
         match read_exchange_lines(alloc, bytes) {
             Ok(exchange) => Ok(exchange),
-            Err(fault) => Err(line_reply(file, fault)),
+            Err(fault) => Err(line_refusal(file, fault)),
         }
     } else {
         match ice_read::read_exchange(alloc, bytes) {
             Ok(exchange) => Ok(exchange),
-            Err(fault) => Err(place_reply(file, fault)),
+            Err(fault) => Err(place_refusal(file, fault)),
         }
     }
 }
 
 /// The prices, for so many goods, of the bytes of the file with this number.
-fn prices_of(file: u8, bytes: &[u8], goods: u8) -> Result<Prices, Reply>
+fn prices_of(file: u8, bytes: &[u8], goods: u8) -> Result<Prices, Refusal>
     ensures prices { IfOk result (λ prices. IsPricesOfLines goods bytes.now (Found prices)) }
-    ensures reply { IfErr result (IsFaultReply file (IsPricesFault goods bytes.now)) }
+    ensures refusal { IfErr result (IsFaultOf file (IsPricesFault goods bytes.now)) }
 {
     match read_prices_lines(bytes, goods) {
         Ok(prices) => Ok(prices),
-        Err(fault) => Err(line_reply(file, fault)),
+        Err(fault) => Err(line_refusal(file, fault)),
     }
 }
 
-/// The exchange of the file with this number and name, or what is replied where there is none.
+/// The exchange of the file with this number and name, or why there is none.
 pub fn read_exchange<H: Shelf>(
     alloc: Global,
     file: u8,
     name: &str,
     shelf: &mut H,
-) -> Result<Exchange, Reply>
-    ensures exchange { IfOk result (λ exchange. OfTold file_limit (λ bytes. IsExchangeOf bytes (Found exchange)) (H.holds shelf.old name.now)) }
-    ensures reply { IfErr result (λ reply. (call : Call) → HasPart call (told (H.holds shelf.old) (H.faults shelf.old) (H.overlong shelf.old)) (told (H.holds shelf.new) (H.faults shelf.new) (H.overlong shelf.new)) → IsFileReply call file name.now IsExchangeFault reply) }
-    ensures later { IsLater (told (H.holds shelf.old) (H.faults shelf.old) (H.overlong shelf.old)) (told (H.holds shelf.new) (H.faults shelf.new) (H.overlong shelf.new)) }
+) -> Result<Exchange, Refusal>
+    ensures exchange { IfOk result (HoldsExchange (H.told shelf.old) name.now) }
+    ensures refusal { IfErr result
+        (Refuses file name.now FILE_LIMIT IsExchangeFault (H.told shelf.old) (H.told shelf.new)) }
+    ensures later { IsLater (H.told shelf.old) (H.told shelf.new) }
 {
-    let bytes = fetch(alloc, file, name, shelf)?;
+    let bytes = fetch(alloc, file, name, FILE_LIMIT, shelf)?;
     exchange_of(alloc, file, &bytes)
 }
 
-/// The prices, for so many goods, of the file with this number and name, or what is replied where there are none.
+/// The prices, for so many goods, of the file with this number and name, or why there are none.
 pub fn read_prices<H: Shelf>(
     alloc: Global,
     file: u8,
     name: &str,
     goods: u8,
     shelf: &mut H,
-) -> Result<Prices, Reply>
-    ensures prices { IfOk result (λ prices. OfTold file_limit (λ bytes. IsPricesOfLines goods bytes (Found prices)) (H.holds shelf.old name.now)) }
-    ensures reply { IfErr result (λ reply. (call : Call) → HasPart call (told (H.holds shelf.old) (H.faults shelf.old) (H.overlong shelf.old)) (told (H.holds shelf.new) (H.faults shelf.new) (H.overlong shelf.new)) → IsFileReply call file name.now (IsPricesFault goods) reply) }
-    ensures later { IsLater (told (H.holds shelf.old) (H.faults shelf.old) (H.overlong shelf.old)) (told (H.holds shelf.new) (H.faults shelf.new) (H.overlong shelf.new)) }
+) -> Result<Prices, Refusal>
+    ensures prices { IfOk result (HoldsPrices (H.told shelf.old) name.now goods) }
+    ensures refusal { IfErr result
+        (Refuses file name.now FILE_LIMIT (IsPricesFault goods) (H.told shelf.old) (H.told shelf.new)) }
+    ensures later { IsLater (H.told shelf.old) (H.told shelf.new) }
 {
-    let bytes = fetch(alloc, file, name, shelf)?;
+    let bytes = fetch(alloc, file, name, FILE_LIMIT, shelf)?;
     prices_of(file, &bytes, goods)
 }

@@ -1,17 +1,19 @@
 //! The program of the exchange: its words are answered by `serve`.
 #![tactic(auto)]
 
+mod answer;
 mod best;
 mod best_lines;
 mod best_set;
 #[cfg(test)]
 mod best_tests;
+mod check;
 mod command;
 mod files;
 #[cfg(test)]
 mod json_tests;
-mod outcome;
-mod reply;
+mod refusal;
+mod say;
 mod serve;
 #[cfg(test)]
 mod tests;

@@ -1,4 +1,5 @@
 pub mod Edge
+pub mod Told
 pub mod Status
 pub mod MemoryShelf
 pub mod MemorySink

@@ -3,6 +3,7 @@ use Rattle.std.specs.Prelude.{ℕ, ◌==◌, Bool, nat_lt, List, [], ◌∷◌, 
 use Rattle.std.specs.List.{list_any}
 use Rattle.std.specs.Str.{bytes_eq}
 use Rattle.ice_edge.specs.Edge.{one_more}
+use Rattle.ice_edge.specs.Told.{Told}
 use Rattle.ice_edge.specs.declared.shelf.FetchFault.{FetchFault}
 use Rattle.ice_edge.specs.declared.shelf.FetchFault.TheVariants.{Failed, TooLong, NoMemory}
 
@@ -28,6 +29,10 @@ found (file ∷ files) name = if bytes_eq file.name name then Some file.bytes el
 
 abbrev pub held : ShelfState → List ℕ → Option (List ℕ)
 held shelf name = found shelf.files name
+
+-- it tells of every name what it holds; its counts are one for all names
+abbrev pub told_of : ShelfState → Told
+told_of shelf = record { holds = λ name. Some (held shelf name); faults = λ name. shelf.faults; overlong = λ name limit. shelf.overlong }
 
 -- a file that is there takes the place of the one of its name
 abbrev pub with_file : ShelfState → List ℕ → List ℕ → ShelfState

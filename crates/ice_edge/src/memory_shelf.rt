@@ -1,7 +1,7 @@
-ghost use Rattle.std.specs.Prelude.{◌≡◌, ◌==◌, ℕ, ◌≤◌, ◌<◌, ◌↔◌, List, length, map, IfOk, IfErr, Err, IsErrOf, IsSomeAnd, OnOk, OnErr, Some, None, IsTrue, MatchOption, string_bytes};
+ghost use Rattle.std.specs.Prelude.{◌≡◌, ◌==◌, ◌≤◌, length, map, IfOk, IfErr, Err, IsErrOf, OnOk, OnErr, Some, None, MatchOption};
 ghost use Rattle.std.specs.List.{list_any};
-ghost use Rattle.ice_edge.specs.Edge.{Rose};
-ghost use Rattle.ice_edge.specs.MemoryShelf.{found, held, empty_shelf, with_file, with_failing, fetch_fault, after_fetch};
+ghost use Rattle.ice_edge.specs.Told.{IsLater, AreTold, IsLonger, FaultRose, OverlongRose};
+ghost use Rattle.ice_edge.specs.MemoryShelf.{found, empty_shelf, with_file, with_failing, fetch_fault, after_fetch, told_of};
 ghost use Rattle.ice_edge.specs.MemoryFile.{file_of};
 
 use crate::{FetchFault, NoMemory, Shelf};
@@ -36,7 +36,8 @@ impl Model for MemShelf {
 }
 
 fn look_up<'a>(files: &'a [MemFile], name: &str) -> Option<&'a Vec<u8>>
-    ensures { let here = found (map file_of files.now) name.now in MatchOption result (here ≡ None) (λ bytes. here ≡ Some bytes.now.items) }
+    ensures { let here = found (map file_of files.now) name.now in
+        MatchOption result (here ≡ None) (λ bytes. here ≡ Some bytes.now.items) }
 {
     for file in files {
         if file.name.as_str() == name {
@@ -103,26 +104,23 @@ impl MemShelf {
 }
 
 impl Shelf for MemShelf {
-    ghost holds = { λ shelf name. Some (held shelf name) };
-
-    ghost faults = { λ shelf name. shelf.faults };
-
-    ghost overlong = { λ shelf name limit. shelf.overlong };
+    ghost told = { told_of };
 
     fn fetch(&mut self, alloc: Global, name: &str, limit: usize) -> Result<Vec<u8>, FetchFault>
-        ensures bytes { IfOk result (λ v. held self.old name.now ≡ Some v.items) }
+        ensures bytes { IfOk result (λ v. AreTold (told_of self.old) name.now v.items) }
         ensures within { IfOk result (λ v. length v.items ≤ limit) }
-        ensures too_long { IsErrOf result FetchFault.TooLong → IsSomeAnd (held self.old name.now) (λ bytes. limit < length bytes) }
-        ensures failed { IsErrOf result FetchFault.Failed → Rose self.old.faults self.new.faults }
-        ensures overlong { IsErrOf result FetchFault.TooLong → Rose self.old.overlong self.new.overlong }
-        ensures same { (n : List ℕ) → held self.new n ≡ held self.old n }
-        ensures faults_later { (n : List ℕ) → self.old.faults ≤ self.new.faults }
-        ensures overlong_later { (n : List ℕ) (most : ℕ) → self.old.overlong ≤ self.new.overlong }
+        ensures too_long { IsErrOf result FetchFault.TooLong → IsLonger (told_of self.old) name.now limit }
+        ensures failed { IsErrOf result FetchFault.Failed
+            → FaultRose (told_of self.old) (told_of self.new) name.now }
+        ensures overlong { IsErrOf result FetchFault.TooLong
+            → OverlongRose (told_of self.old) (told_of self.new) name.now limit }
+        ensures later { IsLater (told_of self.old) (told_of self.new) }
 
         // It fails exactly where it is told to and where there is no file, and else is too long exactly where there are
         // more than `limit` bytes. Only want of memory comes beside that.
         ensures after { self.new ≡ after_fetch self.old name.now limit }
-        ensures answer { MatchOption (fetch_fault self.old name.now limit) (IfErr result (λ fault. fault ≡ FetchFault.NoMemory)) (λ fault. result ≡ Err fault) }
+        ensures answer { MatchOption (fetch_fault self.old name.now limit)
+            (IfErr result (λ fault. fault ≡ FetchFault.NoMemory)) (λ fault. result ≡ Err fault) }
     {
         self.calls = self.calls.saturating_add(1);
         if is_planned(&self.failing, self.calls) {

@@ -1,5 +1,5 @@
 //! Files of the system, and standard output. They tell no bytes.
-ghost use Rattle.std.specs.Prelude.{◌≡◌, ◌≤◌, length, IfOk, None};
+ghost use Rattle.std.specs.Prelude.{◌≡◌, ◌≤◌, length, IfOk, IsErrOf};
 
 use crate::reading::read_rest;
 use crate::{FetchFault, Shelf, WriterSink};
@@ -51,11 +51,9 @@ impl<R: Files> DirShelf<'_, R> {
 }
 
 impl<R: Files> Shelf for DirShelf<'_, R> {
-    ghost holds = { λ shelf name. None };
+    ghost use Rattle.ice_edge.specs.RealCounts.{told_of};
 
-    ghost faults = { λ shelf name. shelf.faults };
-
-    ghost overlong = { λ shelf name limit. shelf.overlong };
+    ghost told = { told_of };
 
     fn fetch(&mut self, alloc: Global, name: &str, limit: usize) -> Result<Vec<u8>, FetchFault> {
         let found = self.read(alloc, name, limit);

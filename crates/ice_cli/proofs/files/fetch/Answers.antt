@@ -1,6 +1,11 @@
 use Rattle.std.proofs.Common.{rules}
-use Rattle.ice_cli.proofs.Parting.{too_long_reply}
+use Rattle.ice_cli.specs.Refusals.{NoFault}
+use Rattle.ice_cli.proofs.Parts.{fetched}
+use Rattle.ice_cli.proofs.Refusing.{unread, overlong}
 use Rattle.ice_cli.proofs.files.fetch.Goals as goal
 
-pub returns-in-Err-TooLong-clause-reply : goal.returns-in-Err-TooLong-clause-reply
-returns-in-Err-TooLong-clause-reply g c call part = too_long_reply call _ _ c.args.file c.args.name.now (λ bytes fault. ⊥) part (search rules) (search rules)
+pub returns-in-Err-Failed-clause-refusal : goal.returns-in-Err-Failed-clause-refusal
+returns-in-Err-Failed-clause-refusal g c = unread c.args.file c.args.name.now c.args.limit NoFault _ _ (search rules)
+
+pub returns-in-Err-TooLong-clause-refusal : goal.returns-in-Err-TooLong-clause-refusal
+returns-in-Err-TooLong-clause-refusal g c = overlong c.args.file c.args.name.now c.args.limit NoFault _ _ (search rules) (search rules)

@@ -1,18 +1,20 @@
-use Rattle.std.proofs.Common.{rules, ◌≡◌}
+use Rattle.std.proofs.Common.{◌≡◌, ℕ, List, sym, subst}
 use Rattle.std.proofs.lemmas.Result.{MatchResult-weaker, err_from_is_err_and}
-use Rattle.ice_cli.specs.Call.{file_limit, OfTold}
+use Rattle.ice_cli.specs.Call.{file_limit}
 use Rattle.ice_cli.specs.Files.{IsPricesFault}
-use Rattle.ice_cli.proofs.Parting.{not_had, fault_of_told, told_in_call}
+use Rattle.ice_cli.specs.Parts.{AreFetched}
+use Rattle.ice_cli.proofs.Refusing.{not_had, fault_of_fetched}
 use Rattle.ice_cli.proofs.files.read_prices.Goals as goal
 
-pub returns-in_err-bytes-clause-reply : goal.returns-in_err-bytes-clause-reply
-returns-in_err-bytes-clause-reply g c =
+pub returns-in_err-bytes-clause-refusal : goal.returns-in_err-bytes-clause-refusal
+returns-in_err-bytes-clause-refusal g c =
     let p = err_from_is_err_and c.from_residual.result c.from_residual.ensures.1 in
-    rw (p.1, p.2) (λ call part. not_had call c.args.file c.args.name.now (IsPricesFault c.args.goods) c.in_err-bytes.field-0.0 (c.in_err-bytes.ensures.reply call part))
+    rw (p.1, p.2) (λ call part. not_had call c.args.file c.args.name.now file_limit (IsPricesFault c.args.goods) c.in_err-bytes.field-0.0 (c.in_err-bytes.ensures.refusal call part))
 
-pub returns-clause-reply : goal.returns-clause-reply
-returns-clause-reply g c =
-    let told : OfTold file_limit (λ bytes. bytes ≡ c.deref.result.now) (g.H.Shelf.holds c.args.shelf.now c.args.name.now) = search rules in
-    MatchResult-weaker c.prices_of.result c.prices_of.ensures.reply (λ x h. tt)
-    (λ reply h call part. fault_of_told call c.args.file c.args.name.now c.deref.result.now (IsPricesFault c.args.goods) reply
-    (told_in_call call _ _ c.args.name.now file_limit (λ bytes. bytes ≡ c.deref.result.now) part told) h)
+pub returns-clause-refusal : goal.returns-clause-refusal
+returns-clause-refusal g c =
+    let shelf = g.H.Shelf.told c.args.shelf.now in
+    let told : AreFetched shelf c.args.name.now file_limit c.deref.result.now =
+    subst (λ (read : List ℕ). AreFetched shelf c.args.name.now file_limit read) (sym c.deref.ensures.value) c.in_ok-bytes.ensures.bytes in
+    MatchResult-weaker c.prices_of.result c.prices_of.ensures.refusal (λ x h. tt)
+    (λ refusal h. fault_of_fetched shelf (g.H.Shelf.told c.fetch.new.shelf) c.args.file c.args.name.now file_limit c.deref.result.now (IsPricesFault c.args.goods) refusal told h)

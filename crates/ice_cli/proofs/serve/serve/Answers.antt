@@ -1,6 +1,52 @@
-use Rattle.std.proofs.Common.{refl}
-use Rattle.ice_cli.proofs.Replying.{said}
+use Rattle.std.proofs.Common.{refl, [], map, string_bytes}
+use Rattle.ice_cli.specs.Call.{Call}
+use Rattle.ice_cli.specs.Command.{check, best}
+use Rattle.ice_cli.specs.CheckServed.{CheckAnswers}
+use Rattle.ice_cli.specs.BestServed.{BestAnswers}
+use Rattle.ice_cli.proofs.Parts.{served, refused_words}
 use Rattle.ice_cli.proofs.serve.serve.Goals as goal
 
-pub returns : goal.returns
-returns g c = said _ _ _ _ _ _ refl refl (c.outcome_of-outcome.ensures _ _) c.say.ensures
+pub returns-in-Some-Check : goal.returns-in-Some-Check
+returns-in-Some-Check g c =
+    let journal = c.in-Some-Check.journal.now in
+    let call : Call = record {
+      words = map string_bytes c.args.words.now;
+      before = g.H.Shelf.told c.args.shelf.now;
+      after = g.H.Shelf.told c.check.new.shelf;
+      sink_faults = g.K.Sink.faults c.args.out.now;
+      sink_faults_after = g.K.Sink.faults c.check.new.out;
+      text = [];
+      status = c.check.result;
+    } in
+    served call (check journal) (λ one. CheckAnswers one journal) (g.K.Sink.written c.args.out.now) (g.K.Sink.written c.check.new.out)
+    (rw c.in-Some-Check.field-0-is at c.in-Some-Check.ensures) (λ text status h. h) c.check.ensures
+
+pub returns-in-Some-Best : goal.returns-in-Some-Best
+returns-in-Some-Best g c =
+    let exchange = c.in-Some-Best.exchange.now in
+    let prices = c.in-Some-Best.prices.now in
+    let call : Call = record {
+      words = map string_bytes c.args.words.now;
+      before = g.H.Shelf.told c.args.shelf.now;
+      after = g.H.Shelf.told c.best.new.shelf;
+      sink_faults = g.K.Sink.faults c.args.out.now;
+      sink_faults_after = g.K.Sink.faults c.best.new.out;
+      text = [];
+      status = c.best.result;
+    } in
+    served call (best exchange prices) (λ one. BestAnswers one exchange prices) (g.K.Sink.written c.args.out.now) (g.K.Sink.written c.best.new.out)
+    (rw c.in-Some-Best.field-0-is at c.in-Some-Best.ensures) (λ text status h. h) c.best.ensures
+
+pub returns-in-None : goal.returns-in-None
+returns-in-None g c =
+    let shelf = g.H.Shelf.told c.args.shelf.now in
+    let call : Call = record {
+      words = map string_bytes c.args.words.now;
+      before = shelf;
+      after = shelf;
+      sink_faults = g.K.Sink.faults c.args.out.now;
+      sink_faults_after = g.K.Sink.faults c.refuse_words.new.out;
+      text = [];
+      status = c.refuse_words.result;
+    } in
+    refused_words call (g.K.Sink.written c.args.out.now) (g.K.Sink.written c.refuse_words.new.out) c.in-None.ensures refl c.refuse_words.ensures
