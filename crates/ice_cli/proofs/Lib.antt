@@ -10,3 +10,5 @@ pub mod Checking
 pub mod Bidding
 -- what `best` answers
 pub mod Besting
+-- `check` on told bytes
+pub mod Completing

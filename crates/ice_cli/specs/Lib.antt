@@ -10,3 +10,4 @@ pub mod BestServed
 pub mod Bests
 pub mod BestFound
 pub mod Served
+pub mod Completeness

@@ -12,6 +12,7 @@ mod command;
 mod files;
 #[cfg(test)]
 mod json_tests;
+pub mod laws;
 mod refusal;
 mod say;
 mod serve;
