@@ -18,29 +18,18 @@ mod say;
 mod serve;
 #[cfg(test)]
 mod tests;
+mod words;
 
 use ice_edge::{DirShelf, Status, StdSink};
-use std::env::Env;
 use std::process::ExitCode;
-use std::{env, io};
-
-// The words behind the program's name.
-fn words<R: Env + AllocGlobal>(rt: &R) -> io::Result<Vec<String>> {
-    let mut words = Vec::new(rt.alloc());
-    let mut all = env::args(rt)?;
-    let _program = all.next();
-    for word in all {
-        words.push(word)?;
-    }
-    Ok(words)
-}
 
 fn main(rt: HostRuntime) -> ExitCode {
-    let Ok(words) = words(&rt) else {
+    let Ok(all) = words::all_words(&rt) else {
         return ExitCode::from(Status::NoMemory.code());
     };
+    let words = words::behind_name(&all);
     let mut shelf = DirShelf::new(&rt);
     let mut out = StdSink::new(&rt);
-    let status = serve::serve(rt.alloc(), &words, &mut shelf, &mut out);
+    let status = serve::serve(rt.alloc(), words, &mut shelf, &mut out);
     ExitCode::from(status.code())
 }
