@@ -1,27 +1,27 @@
--- What a record makes of the tests while the exchange is described, and at the end of an assign journal.
-use Rattle.std.proofs.Common.{◌≡◌, ◌<◌, ℕ, suc, Bool, true, false, cond, [], length, ℤ, pos, refl, sym, ◌∙◌, ap, arith, ◌⊎◌, inl, inr}
+-- What a record makes of the tests while the exchange is described.
+use Rattle.std.proofs.Common.{◌≡◌, ◌<◌, ℕ, suc, Bool, true, false, cond, [], length, ℤ, pos, refl, sym, ◌∙◌, ap, subst, arith, ◌⊎◌, inl, inr}
 use Rattle.std.specs.Prelude.{◌||◌, ◌&&◌, is_none, nat_lt, Option, Some, None, is_some, option_map, Result, Ok, Err, IsSome}
 use Rattle.std.proofs.lemmas.Bool.{and_parts, or_parts, true≢false, false≢true}
 use Rattle.std.proofs.lemmas.Option.{none-some}
-use Rattle.ice_defs.specs.Trade.{Assignment}
 use Rattle.ice_defs.specs.Exchange.{Settings, Exchange}
 use Rattle.ice_defs.specs.declared.Group.TheVariants.{Assign, Final}
-use Rattle.ice_journal.specs.Records.{Record, Version, version_1, Kind, assign_kind, regret_kind, assign_end, exchange_end, prices_end, regret_end, closed_end, open_end, spent_end, limit_end}
+use Rattle.ice_journal.specs.Records.{Record, Version, version_1, Kind, assign_kind, regret_kind}
 use Rattle.ice_journal.specs.Records as line
 use Rattle.ice_journal.specs.Lines.{version_of}
 use Rattle.ice_section.specs.Section.{Section, SectionFault, order, count, no_good, maker, take_record, may_end, exchange_in, settings_in, Draft}
 use Rattle.ice_check.specs.declared.rule.Rule.{Rule}
 use Rattle.ice_check.specs.declared.rule.Rule.TheVariants as rule
 use Rattle.ice_check.specs.declared.head.Head.{Head}
-use Rattle.ice_check.specs.declared.head.Head.TheVariants.{Assign, Regret}
-use Rattle.ice_check.specs.State.{Place, at_sets, at_end, at_spent_sets, done, State}
-use Rattle.ice_check.specs.Fields.{is_assign, is_end, is_spent, is_limit, is_round_stop, final_value}
+use Rattle.ice_check.specs.declared.head.Head.TheVariants as head
+use Rattle.ice_check.specs.State.{Place, at_sets, at_spent_sets, State}
+use Rattle.ice_check.specs.Fields.{is_assign, is_spent, is_limit, is_round_stop, final_value}
 use Rattle.ice_check.specs.Next.{next, to_line, go_to, from_section, after_section, section_ended, from_head, if_true}
 use Rattle.ice_check.specs.Tests.{Fails, place_of, is_refusal, ended_list}
 use Rattle.ice_check.specs.Progress.{passing, failed, TakesOn, passes_on, fails_at}
-use Rattle.ice_check.specs.Heads.{version_of_head, kind_of_head, ends_section}
-use Rattle.ice_check.specs.Assigning.{describing, section_of, described, stating, stated, HasSettings}
-use Rattle.ice_check.specs.Regretting.{regretting}
+use Rattle.ice_check.specs.Heads.{version_of_head, kind_of_head, first_group, first_value, stops_first, ends_section}
+use Rattle.ice_check.specs.Assigning.{describing, section_of, described, HasSettings}
+use Rattle.ice_check.specs.Groups.{standing, not_stated}
+use Rattle.ice_check.proofs.Single.{some_same}
 
 -- ---- a record that may not stand there
 
@@ -35,26 +35,6 @@ fails_order s r list none = fails_at (λ z e. absurd (none-some z (sym list ∙ 
     least : (z : Rule) → place_of z < 1 → ¬ Fails z s r
     least rule.Closed l h = not_some (next s r) none h.1
     least other l h = absurd (omega (arith, l))
-
--- ---- the end
-
-pub end_reached : (number : ℕ) (ex : Exchange) (sets : Assignment) → TakesOn (stated (at_end assign_end) number ex sets) (line.end assign_end) (passing (stated done (suc number) ex sets))
-end_reached number ex sets = passes_on (λ z e. absurd (none-some z e)) quiet (record { leaf = tt; violation = tt; list = tt; verdict = tt }) refl
-  where
-    quiet : (z : Rule) → ¬ Fails z (stated (at_end assign_end) number ex sets) (line.end assign_end)
-    quiet rule.Closed h = false≢true h.0
-    quiet rule.Order h = none-some _ (sym h)
-    quiet rule.Exchange h = false≢true h.1
-    quiet other h = h
-
-pub end_missing : (number : ℕ) (ex : Exchange) (sets : Assignment) (r : Record) → is_end assign_end r ≡ false → TakesOn (stated (at_end assign_end) number ex sets) r (failed (record { line = number; rule = rule.Order }))
-end_missing number ex sets r other =
-    fails_order (stated (at_end assign_end) number ex sets) r refl
-    (ap (λ (b : Bool). option_map (to_line (suc number)) (cond b (Some (stated done number ex sets)) None)) other)
-
--- nothing follows the end
-pub end_passed : (number : ℕ) (ex : Exchange) (sets : Assignment) (r : Record) → TakesOn (stated done number ex sets) r (failed (record { line = number; rule = rule.Order }))
-end_passed number ex sets r = fails_order (stated done number ex sets) r refl refl
 
 -- ---- the section of the exchange
 
@@ -142,8 +122,14 @@ misplaced : (head : Head) (number : ℕ) (s : Section) (r : Record) (ended ends 
     → option_map (to_line (suc number)) (cond ended (after_section (section_ended (describing (version_of_head head) (kind_of_head head) number s)) (kind_of_head head) r) None) ≡ None
 misplaced head number s r false ends e f none = refl
 misplaced head number s r true true e f none = absurd (true≢false none)
-misplaced Assign number s r true false e f none = ap (λ (b : Bool). option_map (to_line (suc number)) (if_true b (go_to (at_sets Assign (record { value = pos 0; sets = [] })) (section_ended (describing version_1 assign_kind number s))))) f
-misplaced (Regret version) number s r true false e f none =
+misplaced head.Assign number s r true false e f none =
+    ap (λ (b : Bool). option_map (to_line (suc number)) (if_true b (go_to (at_sets Assign (record { value = pos 0; sets = [] })) (section_ended (describing version_1 assign_kind number s)))))
+    (not_assign (is_assign r) (or_parts (is_some (first_value head.Assign r)) false f).0)
+  where
+    not_assign : (b : Bool) → is_some (cond b (Some (pos 0)) None) ≡ false → b ≡ false
+    not_assign false e = refl
+    not_assign true e = absurd (true≢false e)
+misplaced (head.Regret version) number s r true false e f none =
     ap (λ (o : Option ℤ). option_map (to_line (suc number)) (from_head (section_ended (describing (version_of version) regret_kind number s)) Final r o)) (no_value (final_value r) (or_parts (is_some (final_value r)) (is_spent r) f).0)
     ∙ ap (λ (b : Bool). option_map (to_line (suc number)) (if_true b (go_to (at_spent_sets 0) (section_ended (describing (version_of version) regret_kind number s))))) (or_parts (is_some (final_value r)) (is_spent r) f).1
   where
@@ -208,33 +194,25 @@ section_has_all s begun ended = section_is_whole s (there s.settings refl) ended
     there None e = absurd (false≢true (ap may_end (sym (begun e)) ∙ ended))
     there (Some x) e = ap is_some e
 
-pub section_ends : (number : ℕ) (s : Section) → HasSettings s → may_end s ≡ true → TakesOn (describing version_1 assign_kind number s) line.assign (passing (stating (suc number) (exchange_in s) []))
-section_ends number s begun ended =
-    section_leads version_1 assign_kind number s line.assign (at_sets Assign (record { value = pos 0; sets = [] })) ended (section_has_all s begun ended) refl refl refl
+-- the record opens the first group
+pub section_opens : (h : Head) (number : ℕ) (s : Section) (r : Record) (value : ℤ) → HasSettings s → may_end s ≡ true → first_value h r ≡ Some value
+    → TakesOn (describing (version_of_head h) (kind_of_head h) number s) r
+    (passing (standing (version_of_head h) (kind_of_head h) (suc number) (exchange_in s) (at_sets (first_group h) (record { value = value; sets = [] })) not_stated (pos 0) (pos 0)))
+section_opens head.Assign number s line.assign value begun ended e =
+    subst (λ (z : ℤ). TakesOn (describing version_1 assign_kind number s) line.assign (passing (standing version_1 assign_kind (suc number) (exchange_in s) (at_sets Assign (record { value = z; sets = [] })) not_stated (pos 0) (pos 0))))
+    (some_same (Some value) (pos 0) value (sym e) refl)
+    (section_leads version_1 assign_kind number s line.assign (at_sets Assign (record { value = pos 0; sets = [] })) ended (section_has_all s begun ended) refl refl refl)
+section_opens head.Assign number s other value begun ended e = absurd (none-some value e)
+section_opens (head.Regret version) number s (line.final stated) value begun ended e =
+    subst (λ (z : ℤ). TakesOn (describing (version_of version) regret_kind number s) (line.final stated) (passing (standing (version_of version) regret_kind (suc number) (exchange_in s) (at_sets Final (record { value = z; sets = [] })) not_stated (pos 0) (pos 0))))
+    (some_same (Some value) stated value (sym e) refl)
+    (section_leads (version_of version) regret_kind number s (line.final stated) (at_sets Final (record { value = stated; sets = [] })) ended (section_has_all s begun ended) refl refl refl)
+section_opens (head.Regret version) number s other value begun ended e = absurd (none-some value e)
 
--- the head of the final sets
-pub section_opens : (v : Version) (number : ℕ) (s : Section) (value : ℤ) → HasSettings s → may_end s ≡ true
-    → TakesOn (describing v regret_kind number s) (line.final value) (passing (regretting v (suc number) (exchange_in s) (at_sets Final (record { value = value; sets = [] })) (record { value = pos 0; sets = [] }) (pos 0) (pos 0)))
-section_opens v number s value begun ended =
-    section_leads v regret_kind number s (line.final value) (at_sets Final (record { value = value; sets = [] })) ended (section_has_all s begun ended) refl refl refl
-
--- or a stop in its place
-pub section_spent : (v : Version) (number : ℕ) (s : Section) (r : Record) → HasSettings s → may_end s ≡ true → is_spent r ≡ true → TakesOn (describing v regret_kind number s) r (failed (record { line = number; rule = rule.Closed }))
-section_spent v number s (line.spent value bound) begun ended spent =
-    section_stops v regret_kind number s (line.spent value bound) (at_spent_sets 0) ended (section_has_all s begun ended) refl refl refl
-section_spent v number s other begun ended spent = absurd (false≢true spent)
-
-pub assign_only : (r : Record) → is_assign r ≡ true → r ≡ line.assign
-assign_only line.assign e = refl
-assign_only other e = absurd (false≢true e)
-
-pub end_only : (r : Record) → is_end assign_end r ≡ true → r ≡ line.end assign_end
-end_only (line.end assign_end) e = refl
-end_only (line.end exchange_end) e = absurd (false≢true e)
-end_only (line.end prices_end) e = absurd (false≢true e)
-end_only (line.end regret_end) e = absurd (false≢true e)
-end_only (line.end closed_end) e = absurd (false≢true e)
-end_only (line.end open_end) e = absurd (false≢true e)
-end_only (line.end spent_end) e = absurd (false≢true e)
-end_only (line.end limit_end) e = absurd (false≢true e)
-end_only other e = absurd (false≢true e)
+-- or a stop stands in its place
+pub section_spent : (h : Head) (number : ℕ) (s : Section) (r : Record) → HasSettings s → may_end s ≡ true → stops_first h r ≡ true
+    → TakesOn (describing (version_of_head h) (kind_of_head h) number s) r (failed (record { line = number; rule = rule.Closed }))
+section_spent head.Assign number s r begun ended stops = absurd (false≢true stops)
+section_spent (head.Regret version) number s (line.spent value bound) begun ended stops =
+    section_stops (version_of version) regret_kind number s (line.spent value bound) (at_spent_sets 0) ended (section_has_all s begun ended) refl refl refl
+section_spent (head.Regret version) number s other begun ended stops = absurd (false≢true stops)

@@ -12,7 +12,6 @@ use Rattle.ice_defs.specs.SetFault.{set_fault}
 use Rattle.ice_defs.specs.Trade.{Assignment, tree_of, set_of}
 use Rattle.ice_defs.specs.Exchange.{Exchange, trees_of}
 use Rattle.ice_defs.specs.declared.Group.{Group}
-use Rattle.ice_defs.specs.declared.Group.TheVariants.{Assign}
 use Rattle.ice_tree.proofs.Satisfied.{set_fault-none}
 use Rattle.ice_journal.specs.Records.{Record}
 use Rattle.ice_journal.specs.Records as line
@@ -23,9 +22,6 @@ use Rattle.ice_section.specs.declared.faults.SectionFault.TheVariants as fault
 use Rattle.ice_check.specs.declared.rule.Rule.{Rule}
 use Rattle.ice_check.specs.declared.rule.Rule.TheVariants as rule
 use Rattle.ice_check.specs.declared.head.Head.{Head}
-use Rattle.ice_check.specs.declared.next.Next.{Next}
-use Rattle.ice_check.specs.declared.next.Next.TheVariants as coming
-use Rattle.ice_check.specs.declared.groups.Groups.{Groups}
 use Rattle.ice_check.specs.declared.stage.Stage.{Stage}
 use Rattle.ice_check.specs.declared.stage.Stage.TheVariants as stage
 use Rattle.ice_check.specs.Heads.{version_of_head, kind_of_head, ends_section}
@@ -33,29 +29,19 @@ use Rattle.ice_check.specs.State.{Stated, at_sets, State, trees_at}
 use Rattle.ice_check.specs.Next.{go_to}
 use Rattle.ice_check.specs.Tests.{is_refusal, HasLeftOut}
 use Rattle.ice_check.specs.Progress.{passing, failed, other_kind, TakesOn, IsAfter, next_line}
-use Rattle.ice_check.specs.Assigning.{describing, stating, Stating, rule_of, AreStated}
-use Rattle.ice_check.specs.Regretting.{state_at}
-use Rattle.ice_check.specs.Stages.{progress_of, IsWithin, IsBroken, IsClosed, section_rule}
+use Rattle.ice_check.specs.Assigning.{describing, Stating, rule_of, AreStated}
+use Rattle.ice_check.specs.Stages.{progress_of, IsNumber, Halts, IsBroken, section_halt}
 use Rattle.ice_check.proofs.Places.{section_refused, section_misplaced}
-use Rattle.ice_check.proofs.Sets.{set_miscounted, set_unsatisfied, IsFit, set_on, sets_short, sets_complete}
+use Rattle.ice_check.proofs.Sets.{set_miscounted, set_unsatisfied, IsFit}
 
 -- what a section refuses
-pub section_fails : (head : Head) (number : ℕ) (s : Section) (r : Record) (why : SectionFault) (x : Rule) → (may_end s && ends_section head r) ≡ false → IsRefusal (take_record s r) why → section_rule why ≡ Some x
-    → TakesOn (describing (version_of_head head) (kind_of_head head) number s) r (failed (record { line = number; rule = x }))
-section_fails head number s r why x more taken is = by why taken is
-  where
-    Now : State
-    Now = describing (version_of_head head) (kind_of_head head) number s
-
-    same : (y : Rule) → Some y ≡ Some x → y ≡ x
-    same y e = cc
-
-    by : (why : SectionFault) → IsRefusal (take_record s r) why → section_rule why ≡ Some x → TakesOn (describing (version_of_head head) (kind_of_head head) number s) r (failed (record { line = number; rule = x }))
-    by fault.Order taken is = subst (λ (y : Rule). TakesOn Now r (failed (record { line = number; rule = y }))) (same rule.Order is) (section_misplaced head number s r taken more)
-    by fault.Count taken is = subst (λ (y : Rule). TakesOn Now r (failed (record { line = number; rule = y }))) (same rule.Exchange is) (section_refused (version_of_head head) (kind_of_head head) number s r (ap is_refusal taken))
-    by fault.NoGood taken is = subst (λ (y : Rule). TakesOn Now r (failed (record { line = number; rule = y }))) (same rule.Exchange is) (section_refused (version_of_head head) (kind_of_head head) number s r (ap is_refusal taken))
-    by (fault.Maker n) taken is = subst (λ (y : Rule). TakesOn Now r (failed (record { line = number; rule = y }))) (same rule.Exchange is) (section_refused (version_of_head head) (kind_of_head head) number s r (ap is_refusal taken))
-    by fault.NoMemory taken is = absurd (none-some x is)
+pub section_halts : (h : Head) (s : Section) (r : Record) (why : SectionFault) → (may_end s && ends_section h r) ≡ false → IsRefusal (take_record s r) why
+    → Halts (λ n. passing (describing (version_of_head h) (kind_of_head h) n s)) r (section_halt why)
+section_halts h s r fault.Order more taken = λ n. section_misplaced h n s r taken more
+section_halts h s r fault.Count more taken = λ n. section_refused (version_of_head h) (kind_of_head h) n s r (ap is_refusal taken)
+section_halts h s r fault.NoGood more taken = λ n. section_refused (version_of_head h) (kind_of_head h) n s r (ap is_refusal taken)
+section_halts h s r (fault.Maker k) more taken = λ n. section_refused (version_of_head h) (kind_of_head h) n s r (ap is_refusal taken)
+section_halts h s r fault.NoMemory more taken = tt
 
 -- the rule of a set that isn't satisfied
 pub broken_by : (t : Tree) (s : NodeSet) (k : SatRule) → length s ≡ length t → set_fault t s ≡ Some k → IsBroken t s (Some (rule_of k))
@@ -77,30 +63,6 @@ is_fit s g found x taken room is = record {
   counted = record { count = is.same_length; bidder = room; taken = taken };
   faultless = set_fault-none (tree_of (trees_at s) (length found.sets)) x is;
 }
-
--- the sets of an assign journal
-abbrev pub so_far : Assignment → Stated
-so_far sets = record { value = pos 0; sets = sets }
-
-pub broken_takes : (number : ℕ) (ex : Exchange) (sets : Assignment) (x : NodeSet) (y : Rule) → length sets < length (trees_of ex) → IsBroken (tree_of (trees_of ex) (length sets)) x (Some y)
-    → TakesOn (stating number ex sets) (line.set x) (failed (record { line = number; rule = y }))
-broken_takes number ex sets x y room h = broken_fails (stating number ex sets) Assign (so_far sets) x y (λ f. f) room h
-
-pub more_takes : (number : ℕ) (ex : Exchange) (sets : Assignment) (x : NodeSet) → length sets < length (trees_of ex) → IsSatisfied (tree_of (trees_of ex) (length sets)) x → suc (length sets) ≢ length (trees_of ex)
-    → TakesOn (stating number ex sets) (line.set x) (passing (stating (suc number) ex (sets ++ x ∷ [])))
-more_takes number ex sets x room is more = set_on (stating number ex sets) Assign (so_far sets) x (is_fit (stating number ex sets) Assign (so_far sets) x (λ f. f) room is) more
-
-pub closed_takes : (number : ℕ) (ex : Exchange) (sets : Assignment) (x : NodeSet) (result : Stage) → length sets < length (trees_of ex) → IsSatisfied (tree_of (trees_of ex) (length sets)) x
-    → suc (length sets) ≡ length (trees_of ex) → IsClosed number (record { exchange = ex; sets = sets ++ x ∷ [] }) result
-    → TakesOn (stating number ex sets) (line.set x) (progress_of (suc number) result)
-closed_takes number ex sets x (stage.AwaitsEnd after) room sat last (is, balanced) =
-    subst (λ (s : Stating). TakesOn (stating number ex sets) (line.set x) (progress_of (suc number) (stage.AwaitsEnd s))) (sym is)
-    (sets_complete (stating number ex sets) Assign (so_far sets) x (is_fit (stating number ex sets) Assign (so_far sets) x (λ f. f) room sat) last balanced (λ valued. absurd (false≢true valued)))
-closed_takes number ex sets x (stage.Failed n y) room sat last (at, is, short) =
-    subst (λ (m : ℕ). TakesOn (stating number ex sets) (line.set x) (progress_of (suc number) (stage.Failed m y))) (sym at)
-    (subst (λ (z : Rule). TakesOn (stating number ex sets) (line.set x) (progress_of (suc number) (stage.Failed number z))) (sym is)
-    (sets_short (stating number ex sets) Assign (so_far sets) x (is_fit (stating number ex sets) Assign (so_far sets) x (λ f. f) room sat) last short))
-closed_takes number ex sets x other room sat last h = absurd h
 
 -- ---- the sets that are stated
 
@@ -155,16 +117,8 @@ next_set ex sets taken x now h view room is = (
 
 -- ---- the number of the next line
 
-line_is : (n : ℕ) (g : Groups) (now : Next) → (state_at g n now).line ≡ n
-line_is n g (coming.Set group) = refl
-line_is n g (coming.Step group) = refl
-line_is n g coming.Rival = refl
-line_is n g coming.Amount = refl
-line_is n g coming.End = refl
-line_is n g coming.Nothing = refl
-
 -- it matters only where a test may fail
-pub same_progress : (n m : ℕ) (old next : Stage) (r : Record) → IsWithin n old → IsAfter (progress_of n old) r (progress_of (suc n) next) → next_line (progress_of n old) < 2 ^ 63 → (n < 2 ^ 63 → m ≡ suc n)
+pub same_progress : (n m : ℕ) (old next : Stage) (r : Record) → IsNumber n old → IsAfter (progress_of n old) r (progress_of (suc n) next) → next_line (progress_of n old) < 2 ^ 63 → (n < 2 ^ 63 → m ≡ suc n)
     → progress_of m next ≡ progress_of (suc n) next
 same_progress n m stage.Begin next r h a few same = ap (λ (k : ℕ). progress_of k next) (same (omega (arith, h)))
 same_progress n m stage.OtherKind next r h a few same = by next a
@@ -173,10 +127,7 @@ same_progress n m stage.OtherKind next r h a few same = by next a
     by stage.OtherKind e = refl
     by stage.Begin e = refl
     by (stage.Describing head section) e = cc
-    by (stage.Stating x) e = cc
-    by (stage.AwaitsEnd x) e = cc
-    by (stage.Done x) e = cc
-    by (stage.Regret x) e = cc
+    by (stage.Behind x) e = cc
     by (stage.Failed k y) e = refl
     by stage.OutOfMemory e = refl
 same_progress n m (stage.Failed number y) next r h a few same = by next a
@@ -185,15 +136,9 @@ same_progress n m (stage.Failed number y) next r h a few same = by next a
     by stage.OtherKind e = refl
     by stage.Begin e = refl
     by (stage.Describing head section) e = cc
-    by (stage.Stating x) e = cc
-    by (stage.AwaitsEnd x) e = cc
-    by (stage.Done x) e = cc
-    by (stage.Regret x) e = cc
+    by (stage.Behind x) e = cc
     by (stage.Failed k z) e = refl
     by stage.OutOfMemory e = refl
 same_progress n m (stage.Describing head section) next r h a few same = ap (λ (k : ℕ). progress_of k next) (same few)
-same_progress n m (stage.Stating x) next r h a few same = ap (λ (k : ℕ). progress_of k next) (same few)
-same_progress n m (stage.AwaitsEnd x) next r h a few same = ap (λ (k : ℕ). progress_of k next) (same few)
-same_progress n m (stage.Done x) next r h a few same = ap (λ (k : ℕ). progress_of k next) (same few)
-same_progress n m (stage.Regret x) next r h a few same = ap (λ (k : ℕ). progress_of k next) (same (subst (λ (k : ℕ). k < 2 ^ 63) (line_is n x.value x.value.next) few))
+same_progress n m (stage.Behind x) next r h a few same = ap (λ (k : ℕ). progress_of k next) (same few)
 same_progress n m stage.OutOfMemory next r h a few same = absurd a

@@ -5,6 +5,7 @@ use Rattle.std.proofs.lemmas.Option.{none-some}
 use Rattle.std.specs.List.{AllByRecursion}
 use Rattle.std.proofs.lemmas.List.{append-nil}
 use Rattle.std.proofs.lemmas.Grind.{flat_map-append}
+use Rattle.ice_defs.proofs.Lists.{all_push}
 use Rattle.ice_journal.specs.Records.{Record}
 use Rattle.ice_journal.specs.Ranges.{IsRecord}
 use Rattle.ice_journal.specs.Spelling.{text_of, line_of}
@@ -27,10 +28,6 @@ pub record HasRead (bytes rest : List ℕ) (count : ℕ) (p : Progress) : Type 0
 pub nothing_read : (bytes : List ℕ) → HasRead bytes bytes 0 nothing
 nothing_read bytes = record { records = []; lawful = tt; count_is = refl; bytes_are = refl; leads = stays }
 
-all_more : (records : List Record) (r : Record) → AllByRecursion IsRecord records → IsRecord r → AllByRecursion IsRecord (records ++ r ∷ [])
-all_more [] r all is = (is, tt)
-all_more (first ∷ rest) r all is = (all.0, all_more rest r all.1 is)
-
 bytes_more : (records : List Record) (r : Record) → bytes_of (records ++ r ∷ []) ≡ bytes_of records ++ line_of r
 bytes_more records r = flat_map-append line_of records (r ∷ []) ∙ ap (λ (l : List ℕ). bytes_of records ++ l) (append-nil (line_of r))
 
@@ -39,7 +36,7 @@ pub one_read : (bytes rest text after : List ℕ) (count : ℕ) (p q : Progress)
     → HasRead bytes after (count + 1) q
 one_read bytes rest text after count p q r h parts is spelled next = record {
   records = h.records ++ r ∷ [];
-  lawful = all_more h.records r h.lawful is;
+  lawful = all_push IsRecord h.records r h.lawful is;
   count_is = omega (arith, h.count_is, length-append h.records (r ∷ []));
   bytes_are =
       h.bytes_are ∙ ap (λ (l : List ℕ). bytes_of h.records ++ l) (parts ∙ ap (λ (l : List ℕ). l ++ 10 ∷ after) spelled ∙ sym (append_assoc (text_of r) (10 ∷ []) after))

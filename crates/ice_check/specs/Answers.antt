@@ -10,18 +10,25 @@ use Rattle.ice_check.specs.declared.answer.CheckEnd.{CheckEnd}
 use Rattle.ice_check.specs.declared.answer.CheckEnd.TheVariants.{Grammar, Unended, OtherKind, NoMemory}
 use Rattle.ice_check.specs.declared.rule.Rule.TheVariants as rule
 use Rattle.ice_check.specs.State.{done}
-use Rattle.ice_check.specs.Checks.{IsChecked, FirstFailure, Checks}
-use Rattle.ice_check.specs.Theorems.{of_assigned, of_regret, IsYes}
+use Rattle.ice_check.specs.Checks.{Failure, IsChecked, FirstFailure, Checks}
+use Rattle.ice_check.specs.Theorems.{Yes, of_assigned, of_regret, IsYes}
 use Rattle.ice_check.specs.Progress.{Progress, nothing, other_kind, passing, failed, out_of_memory, Leads}
 
 -- these records are those of the bytes, and this holds of them
 abbrev pub OfJournal : List ℕ → (List Record → Type 0) → Type 0
 OfJournal bytes P = (journal : List Record) × IsJournal bytes journal × P journal
 
+-- a journal passes every test, and its yes says this; or this is its first failed test
+abbrev pub HasYes : List Record → Yes → Type 0
+HasYes journal said = Checks journal × IsYes journal said
+
+abbrev pub HasNo : List Record → Failure → Type 0
+HasNo journal failure = IsChecked journal × FirstFailure journal (Some failure)
+
 abbrev pub AnswersJournal : List Record → Answer → Type 0
-AnswersJournal journal (Assign value) = Checks journal × IsYes journal (of_assigned value)
-AnswersJournal journal (Regret amount) = Checks journal × IsYes journal (of_regret amount)
-AnswersJournal journal (No line test) = IsChecked journal × FirstFailure journal (Some (record { line = line; rule = test }))
+AnswersJournal journal (Assign value) = HasYes journal (of_assigned value)
+AnswersJournal journal (Regret amount) = HasYes journal (of_regret amount)
+AnswersJournal journal (No line test) = HasNo journal (record { line = line; rule = test })
 
 -- the least line at fault comes first, then another kind, then the first failed test or the yes; want of memory is free
 abbrev pub AnswersBytes : List ℕ → Result Answer CheckEnd → Type 0
@@ -54,3 +61,8 @@ HoldsJournal bytes p = OfJournal bytes (λ journal. Leads nothing journal p)
 -- but for want of memory, bytes have one answer
 abbrev pub OneAnswer : Type 0
 OneAnswer = (bytes : List ℕ) (one other : Result Answer CheckEnd) → AnswersBytes bytes one → AnswersBytes bytes other → one ≢ Err NoMemory → other ≢ Err NoMemory → one ≡ other
+
+-- bytes are fed: their records lead here, or they have this answer
+abbrev pub IsFed : List ℕ → Result (Unit {0}) CheckEnd → Progress → Type 0
+IsFed bytes (Ok unit) p = HoldsJournal bytes p
+IsFed bytes (Err end) p = AnswersBytes bytes (Err end)

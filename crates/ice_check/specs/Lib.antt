@@ -10,8 +10,9 @@ pub mod Answers
 pub mod Assigning
 pub mod Stages
 pub mod Heads
+pub mod Found
 pub mod Logs
-pub mod Regretting
+pub mod Groups
 pub mod Stops
 pub mod Reordering
 pub mod Carrying

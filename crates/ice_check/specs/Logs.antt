@@ -5,7 +5,10 @@ use Rattle.ice_defs.specs.Tree.{Tree}
 use Rattle.ice_defs.specs.Set.{Weights}
 use Rattle.ice_defs.specs.Bound.{Multipliers}
 use Rattle.ice_defs.specs.Steps.{Step, Side, sides_after}
-use Rattle.ice_defs.specs.Group.{free_side}
+use Rattle.ice_defs.specs.Group.{free_side, group_weights}
+use Rattle.ice_defs.specs.declared.Group.{Group}
+use Rattle.ice_defs.specs.Trade.{Assignment}
+use Rattle.ice_defs.specs.Exchange.{Exchange, opening_bounds}
 use Rattle.ice_bound.specs.Conditions.{AreWeightsOf}
 use Rattle.ice_bound.specs.Multipliers.{IsInRange}
 use Rattle.ice_refute.specs.Waiting.{nodes_of, first_side}
@@ -29,6 +32,10 @@ pub record IsWalkOf (ts : List Tree) (exact : List Bool) (log : LogWalk) : Type 
   pub nodes : log.walk.nodes ≡ nodes_of ts
   pub flags : log.desk.room ≡ exact
   pub goods : length log.before ≡ length exact
+
+-- the weights of a group at the opening bounds
+abbrev pub weights_in : Exchange → Assignment → Group → List Weights
+weights_in ex final group = group_weights ex.settings.weight (opening_bounds ex) final group
 
 -- only the open sides and the multipliers differ
 pub record HasSameWalk (old new : LogWalk) : Type 0 where
@@ -64,6 +71,13 @@ pub record FailsAt (ts : List Tree) (exact : List Bool) (ws : List Weights) (tar
   pub fault : HasFault ts exact ws target side x why
   pub rule_is : y ≡ rule_of_fault why
 
+-- a step passes at the first open side of a log, or has this rule's fault there
+abbrev pub PassesThere : List Tree → ℤ → LogWalk → Step → Type 0
+PassesThere ts target log x = PassesAt ts log.desk.room log.weights target (first_side log.walk.sides) x
+
+abbrev pub FailsThere : List Tree → ℤ → LogWalk → Step → Rule → Type 0
+FailsThere ts target log x y = FailsAt ts log.desk.room log.weights target (first_side log.walk.sides) x y
+
 module _ (ts : List Tree) (exact : List Bool) (ws : List Weights) (target : ℤ) (version : Version) where
   -- a record is a step that passes, with these sides open and these multipliers in the leaf before it
   pub record PassesStep (sides : List Side) (m : Multipliers) (r : Record) (sides_then : List Side) (m_then : Multipliers) : Type 0 where
@@ -79,3 +93,11 @@ module _ (ts : List Tree) (exact : List Bool) (ws : List Weights) (target : ℤ)
     no_step : step_in version (length m) m r ≡ None → FailsStep sides m r rule.Order
     is_misstated : {x : Step} → step_in version (length m) m r ≡ Some x → IsMisstating version m r → FailsStep sides m r rule.Near
     has_fault : {x : Step} (why : LogFault) → step_in version (length m) m r ≡ Some x → ¬ IsMisstating version m r → HasFault ts exact ws target (first_side sides) x why → FailsStep sides m r (rule_of_fault why)
+
+-- a record takes a log on, of a journal of this version and with this target
+abbrev pub GoesOn : List Tree → ℤ → Version → LogWalk → Record → LogWalk → Type 0
+GoesOn ts target version old r new = PassesStep ts old.desk.room old.weights target version old.walk.sides old.before r new.walk.sides new.before
+
+-- or it fails this test first
+abbrev pub BreaksOff : List Tree → ℤ → Version → LogWalk → Record → Rule → Type 0
+BreaksOff ts target version old r y = FailsStep ts old.desk.room old.weights target version old.walk.sides old.before r y

@@ -1,6 +1,5 @@
 //! The check of the bytes of a journal.
-ghost use Rattle.std.specs.Prelude.{MatchResult, Err};
-ghost use Rattle.ice_check.specs.Answers.{AnswersBytes, HoldsJournal};
+ghost use Rattle.ice_check.specs.Answers.{AnswersBytes, IsFed};
 ghost use Rattle.ice_check.specs.Progress.{nothing};
 ghost use Rattle.std.specs.Prelude.{◌≡◌};
 
@@ -13,7 +12,7 @@ use std::alloc::Global;
 /// Feeds the records of the bytes to a checker that has taken none.
 fn feed_all(checker: &mut Checker, bytes: &[u8]) -> Result<(), CheckEnd>
     requires { checker.old ≡ nothing }
-    ensures { MatchResult result (λ _. HoldsJournal bytes.now checker.new) (λ end. AnswersBytes bytes.now (Err end)) }
+    ensures { IsFed bytes.now result checker.new }
 {
     let mut rest = bytes;
     let mut read = 0u64;

@@ -1,41 +1,44 @@
-//! The groups of a regret journal, and what comes after them.
-ghost use Rattle.std.specs.Prelude.{◌≡◌, ◌≢◌, ◌↔◌, ◌-ℤ◌, IsTrue, ℕ, length, pos, [], IfOk, MatchResult, MatchOption};
+//! What stands behind the exchange of a journal: its groups, and what comes after them.
+ghost use Rattle.std.specs.Prelude.{◌≡◌, ◌↔◌, ◌-ℤ◌, IsTrue, length, IfOk};
 ghost use Rattle.ice_defs.specs.Exchange.{trees_of};
-ghost use Rattle.ice_defs.specs.Set.{IsSatisfied};
-ghost use Rattle.ice_defs.specs.Trade.{tree_of};
-ghost use Rattle.ice_defs.specs.declared.Group.TheVariants.{Final};
-ghost use Rattle.ice_journal.specs.Lines.{record_of, version_of};
+ghost use Rattle.ice_journal.specs.Lines.{record_of};
 ghost use Rattle.ice_journal.specs.Ranges.{IsRecord};
 ghost use Rattle.ice_journal.specs.Records as records;
-ghost use Rattle.ice_check.specs.State.{at_sets, done};
-ghost use Rattle.ice_check.specs.Next.{after_log, after_step};
-ghost use Rattle.ice_check.specs.Regretting.{group_of, regretting, at_hand, state_of, weights_for, AreKept, IsReady, IsTaken, FailsBy, HasBegun, FailsAsWhole, HasKeptFinal, HasLeft};
+ghost use Rattle.ice_check.specs.Assigning.{SatisfiesNext};
+ghost use Rattle.ice_check.specs.Heads.{HasLog};
+ghost use Rattle.ice_check.specs.Groups.{state_at, state_of, weights_for, Begins, AreKept, IsReady, Takes, HasOpened, LogFollows, Closes, HasKeptFinal, LeavesGroup, LeavesStep, AnswersHere, IsAnswer};
 
+use crate::answer::Answer;
 use crate::broken::broken_rule;
-use crate::lines::{amount_in, ends_regret, is_spent, rival_in, set_in};
+use crate::head::Head;
+use crate::lines::{amount_in, head_value, is_spent, set_in};
 use crate::log::LogWalk;
 use crate::memory::NoMemory;
-use crate::next::{Group, Next};
+use crate::next::Next;
 use crate::rule::Rule;
 use crate::stated::Stated;
-use ice_journal::{Line, Version};
+use ice_defs::Group;
+use ice_journal::Line;
 use ice_trade::Exchange;
 use ice_tree::{Assignment, NodeSet};
 use std::alloc::Global;
 
-/// A regret journal whose first group has begun.
+/// A journal whose exchange is complete: what comes next in it, and what the tests look back at.
 #[derive(Drop)]
 pub(crate) struct Groups {
-    version: Version,
+    head: Head,
     next: Next,
     /// The exchange, with the sets of the group at hand.
     stated: Stated,
-    /// The value that this group states.
+    /// The value that this group states; the sets of an assignment have none, which counts as 0.
     value: i64,
     /// The final sets and their value, once their group is complete.
     final_sets: Assignment,
     final_value: i64,
-    amount: i64,
+    /// The value of the rival, once its group is complete.
+    rival: i64,
+    /// The regret, once it is stated.
+    regret: i64,
     log: LogWalk,
 }
 
@@ -54,53 +57,106 @@ fn difference(one: i64, other: i64) -> i128
 }
 
 impl Groups {
-    /// The first group of a journal begins, with the memory for all of them: the final sets of the exchange are worth this
-    /// value.
+    /// The first group of a journal begins with this value, with the memory for all its groups.
     pub(crate) fn new(
         alloc: Global,
-        version: Version,
+        head: Head,
         exchange: Exchange,
         value: i64,
     ) -> Result<Groups, NoMemory>
-        ensures kept { IfOk result AreKept }
-        ensures ready { IfOk result (λ g. IsReady g g.next) }
-        ensures state { IfOk result (λ g. (line : ℕ) → state_of line g ≡ regretting (version_of version) line exchange (at_sets Final (record { value = value; sets = [] })) (record { value = pos 0; sets = [] }) (pos 0) (pos 0)) }
+        ensures { IfOk result (Begins head exchange value) }
     {
-        let log = LogWalk::new(alloc, &exchange)?;
+        let group = head.first_group();
         let final_sets = Assignment::empty(alloc, exchange.trees())?;
+        let mut log = LogWalk::new(alloc, &exchange)?;
+        log.weigh(&exchange, group, &final_sets);
         let stated = Stated::new(alloc, exchange)?;
         Ok(Groups {
-            version,
-            next: Next::Set(Group::Final),
+            head,
+            next: Next::Set(group),
             stated,
             value,
             final_sets,
             final_value: 0,
-            amount: 0,
+            rival: 0,
+            regret: 0,
             log,
         })
     }
 
-    /// The regret, where the journal has ended.
-    pub(crate) fn answer(&self) -> Option<i64>
-        ensures { MatchOption result ((n : ℕ) → (state_of n self.now).place ≢ done) (λ amount. (n : ℕ) → ((state_of n self.now).place ≡ done) × (amount ≡ (state_of n self.now).regret)) }
+    /// What the tests find, where the journal has ended.
+    pub(crate) fn answer(&self) -> Option<Answer>
+        requires { AreKept self.now }
+        ensures { IsAnswer (λ n. state_of n self.now) result }
     {
         match self.next {
-            Next::Nothing => Some(self.amount),
+            Next::Nothing => Some(self.found()),
             _ => None,
         }
     }
 
-    /// The sets of the group are all there: its log begins.
-    fn close(&mut self, group: Group) -> Result<(), Rule>
+    /// What the tests find of the journal, which has ended.
+    fn found(&self) -> Answer
+        requires { AreKept self.now }
+        ensures { AnswersHere (λ n. state_at self.now n Next.Nothing) result }
+    {
+        match self.head {
+            Head::Assign => Answer::Assign {
+                value: self.final_sets.lower_value(self.stated.exchange().bounds()),
+            },
+            Head::Regret(_) => Answer::Regret {
+                amount: i128::from(self.regret),
+            },
+        }
+    }
+
+    /// A group begins, whose sets are worth this value.
+    fn begin(&mut self, group: Group, value: i64)
+        requires { AreKept self.old }
+        ensures { HasOpened group value self.old self.new }
+    {
+        self.log
+            .weigh(self.stated.exchange(), group, &self.final_sets);
+        self.value = value;
+        self.next = Next::Set(group);
+    }
+
+    /// A record in the place of a group's head.
+    fn take_head(&mut self, group: Group, line: &Line) -> Result<(), Rule>
+        requires kept { AreKept self.old }
+        requires ready { IsReady self.old (Next.Head group) }
+        ensures { Takes (Next.Head group) self.old (record_of line.now) result self.new }
+    {
+        if is_spent(line) {
+            return Err(Rule::Closed);
+        }
+        match head_value(group, line) {
+            Some(value) => {
+                self.begin(group, value);
+                Ok(())
+            }
+            None => Err(Rule::Order),
+        }
+    }
+
+    /// The sets of the final group are kept, and this is next.
+    fn keep_final(&mut self, next: Next)
+        requires kept { AreKept self.old }
+        requires full { length self.old.stated.sets ≡ length (trees_of self.old.stated.exchange) }
+        ensures { HasKeptFinal next self.old self.new }
+    {
+        self.stated.hand_over(&mut self.final_sets);
+        self.final_value = self.value;
+        self.next = next;
+    }
+
+    /// The sets of a group are all there and balanced: where they have the value that it states, its log begins.
+    fn begin_log(&mut self, group: Group) -> Result<(), Rule>
         requires kept { AreKept self.old }
         requires full { length self.old.stated.sets ≡ length (trees_of self.old.stated.exchange) }
         requires weights { self.old.log.weights ≡ weights_for self.old group }
-        ensures { MatchResult result (λ _. HasBegun group self.old self.new) (FailsAsWhole group self.old) }
+        ensures { LogFollows group self.old result self.new }
     {
-        if !self.stated.are_balanced() {
-            return Err(Rule::Excess);
-        }
         if !is_same(self.stated.value_at(&self.log.weights), self.value) {
             return Err(Rule::Value);
         }
@@ -109,13 +165,32 @@ impl Groups {
         Ok(())
     }
 
+    /// The sets of a group are all there.
+    fn close(&mut self, group: Group) -> Result<(), Rule>
+        requires kept { AreKept self.old }
+        requires full { length self.old.stated.sets ≡ length (trees_of self.old.stated.exchange) }
+        requires weights { self.old.log.weights ≡ weights_for self.old group }
+        ensures { Closes group self.old result self.new }
+    {
+        if !self.stated.are_balanced() {
+            return Err(Rule::Excess);
+        }
+        match group {
+            Group::Assign => {
+                self.keep_final(Next::End);
+                Ok(())
+            }
+            _ => self.begin_log(group),
+        }
+    }
+
     /// A satisfied set of the next bidder.
     fn put(&mut self, group: Group, set: &NodeSet) -> Result<(), Rule>
         requires next { self.old.next ≡ Next.Set group }
         requires kept { AreKept self.old }
         requires ready { IsReady self.old (Next.Set group) }
-        requires satisfied { IsSatisfied (tree_of (trees_of self.old.stated.exchange) (length self.old.stated.sets)) set.now }
-        ensures { MatchResult result (λ _. IsTaken (Next.Set group) self.old (records.set set.now) self.new) (FailsBy (Next.Set group) self.old (records.set set.now)) }
+        requires satisfied { SatisfiesNext self.old.stated set.now }
+        ensures { Takes (Next.Set group) self.old (records.set set.now) result self.new }
     {
         self.stated.put(set);
         if self.stated.is_full() {
@@ -130,7 +205,7 @@ impl Groups {
         requires next { self.old.next ≡ Next.Set group }
         requires kept { AreKept self.old }
         requires ready { IsReady self.old (Next.Set group) }
-        ensures { MatchResult result (λ _. IsTaken (Next.Set group) self.old (records.set set.now) self.new) (FailsBy (Next.Set group) self.old (records.set set.now)) }
+        ensures { Takes (Next.Set group) self.old (records.set set.now) result self.new }
     {
         match broken_rule(self.stated.tree(), set) {
             Some(rule) => Err(rule),
@@ -143,7 +218,7 @@ impl Groups {
         requires next { self.old.next ≡ Next.Set group }
         requires kept { AreKept self.old }
         requires ready { IsReady self.old (Next.Set group) }
-        ensures { MatchResult result (λ _. IsTaken (Next.Set group) self.old (record_of line.now) self.new) (FailsBy (Next.Set group) self.old (record_of line.now)) }
+        ensures { Takes (Next.Set group) self.old (record_of line.now) result self.new }
     {
         match set_in(line) {
             Some(set) => self.put_any(group, set),
@@ -151,37 +226,31 @@ impl Groups {
         }
     }
 
-    /// The log of the final sets is complete.
-    fn keep_final(&mut self)
-        requires kept { AreKept self.old }
-        requires full { length self.old.stated.sets ≡ length (trees_of self.old.stated.exchange) }
-        ensures { HasKeptFinal self.old self.new }
-    {
-        self.stated.hand_over(&mut self.final_sets);
-        self.final_value = self.value;
-        self.log.perturb(self.stated.trees(), self.stated.bounds(), &self.final_sets);
-        self.next = Next::Rival;
-    }
-
     /// The log of a group is complete.
     fn complete(&mut self, group: Group)
+        requires logged { HasLog self.old.head group }
         requires kept { AreKept self.old }
         requires full { length self.old.stated.sets ≡ length (trees_of self.old.stated.exchange) }
-        ensures { HasLeft (λ s. after_log s (group_of group) (at_hand self.old)) group self.old self.new }
+        ensures { LeavesGroup group self.old self.new }
     {
         match group {
-            Group::Final => self.keep_final(),
-            Group::Rival => self.next = Next::Amount,
+            Group::Final => self.keep_final(Next::Head(Group::Rival)),
+            Group::Rival => {
+                self.rival = self.value;
+                self.next = Next::Amount;
+            }
+            Group::Assign | Group::Provisional | Group::Without { .. } => unreachable!(),
         }
     }
 
     /// A step of the log was walked.
     fn leave(&mut self, group: Group)
         requires next { self.old.next ≡ Next.Step group }
+        requires logged { HasLog self.old.head group }
         requires kept { AreKept self.old }
         requires full { length self.old.stated.sets ≡ length (trees_of self.old.stated.exchange) }
         requires weights { self.old.log.weights ≡ weights_for self.old group }
-        ensures { HasLeft (λ s. after_step s (group_of group) (at_hand self.old) self.old.log.walk.sides self.old.log.before) group self.old self.new }
+        ensures { LeavesStep group self.old self.new }
     {
         if self.log.is_closed() {
             self.complete(group);
@@ -194,66 +263,34 @@ impl Groups {
         requires next { self.old.next ≡ Next.Step group }
         requires kept { AreKept self.old }
         requires ready { IsReady self.old (Next.Step group) }
-        ensures { MatchResult result (λ _. IsTaken (Next.Step group) self.old (record_of line.now) self.new) (FailsBy (Next.Step group) self.old (record_of line.now)) }
+        ensures { Takes (Next.Step group) self.old (record_of line.now) result self.new }
     {
         let target = i128::from(self.value);
-        match self
-            .log
-            .take(self.stated.trees(), target, self.version, line)
-        {
-            Ok(()) => {
-                self.leave(group);
-                Ok(())
-            }
-            Err(rule) => Err(rule),
-        }
-    }
-
-    /// The head of the rival.
-    fn begin_rival(&mut self, value: i64)
-        requires kept { AreKept self.old }
-        requires ready { IsReady self.old Next.Rival }
-        ensures { IsTaken Next.Rival self.old (records.rival value) self.new }
-    {
-        self.value = value;
-        self.next = Next::Set(Group::Rival);
-    }
-
-    /// A record in the place of the rival's head.
-    fn take_rival(&mut self, line: &Line) -> Result<(), Rule>
-        requires kept { AreKept self.old }
-        requires ready { IsReady self.old Next.Rival }
-        ensures { MatchResult result (λ _. IsTaken Next.Rival self.old (record_of line.now) self.new) (FailsBy Next.Rival self.old (record_of line.now)) }
-    {
-        if is_spent(line) {
-            return Err(Rule::Closed);
-        }
-        match rival_in(line) {
-            Some(value) => {
-                self.begin_rival(value);
-                Ok(())
-            }
-            None => Err(Rule::Order),
-        }
+        self.log
+            .take(self.stated.trees(), target, self.head.version(), line)?;
+        self.leave(group);
+        Ok(())
     }
 
     /// An amount.
     fn state_amount(&mut self, amount: i64) -> Result<(), Rule>
-        requires { AreKept self.old }
-        ensures { MatchResult result (λ _. IsTaken Next.Amount self.old (records.regret amount) self.new) (FailsBy Next.Amount self.old (records.regret amount)) }
+        requires kept { AreKept self.old }
+        requires ready { IsReady self.old Next.Amount }
+        ensures { Takes Next.Amount self.old (records.regret amount) result self.new }
     {
-        if !is_same(difference(self.value, self.final_value), amount) {
+        if !is_same(difference(self.rival, self.final_value), amount) {
             return Err(Rule::Regret);
         }
-        self.amount = amount;
+        self.regret = amount;
         self.next = Next::End;
         Ok(())
     }
 
     /// A record in the place of the amount.
     fn take_amount(&mut self, line: &Line) -> Result<(), Rule>
-        requires { AreKept self.old }
-        ensures { MatchResult result (λ _. IsTaken Next.Amount self.old (record_of line.now) self.new) (FailsBy Next.Amount self.old (record_of line.now)) }
+        requires kept { AreKept self.old }
+        requires ready { IsReady self.old Next.Amount }
+        ensures { Takes Next.Amount self.old (record_of line.now) result self.new }
     {
         match amount_in(line) {
             Some(amount) => self.state_amount(amount),
@@ -264,14 +301,13 @@ impl Groups {
     /// A record in the place of the end.
     fn take_end(&mut self, line: &Line) -> Result<(), Rule>
         requires { AreKept self.old }
-        ensures { MatchResult result (λ _. IsTaken Next.End self.old (record_of line.now) self.new) (FailsBy Next.End self.old (record_of line.now)) }
+        ensures { Takes Next.End self.old (record_of line.now) result self.new }
     {
-        if ends_regret(line) {
-            self.next = Next::Nothing;
-            Ok(())
-        } else {
-            Err(Rule::Order)
+        if !self.head.ends(line) {
+            return Err(Rule::Order);
         }
+        self.next = Next::Nothing;
+        Ok(())
     }
 
     /// Takes the next record, or tells the first test that it fails; then it is of no more use. Takes no memory.
@@ -279,12 +315,12 @@ impl Groups {
         requires lawful { IsRecord (record_of line.now) }
         requires kept { AreKept self.old }
         requires ready { IsReady self.old self.old.next }
-        ensures { MatchResult result (λ _. IsTaken self.old.next self.old (record_of line.now) self.new) (FailsBy self.old.next self.old (record_of line.now)) }
+        ensures { Takes self.old.next self.old (record_of line.now) result self.new }
     {
         match self.next {
+            Next::Head(group) => self.take_head(group, line),
             Next::Set(group) => self.take_set(group, line),
             Next::Step(group) => self.take_step(group, line),
-            Next::Rival => self.take_rival(line),
             Next::Amount => self.take_amount(line),
             Next::End => self.take_end(line),
             Next::Nothing => Err(Rule::Order),

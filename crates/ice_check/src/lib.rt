@@ -2,26 +2,22 @@
 #![tactic(auto)]
 
 mod answer;
-mod assign;
 mod broken;
 mod bytes;
 mod checker;
 mod describing;
 mod groups;
+mod halt;
 mod head;
 pub mod laws;
 mod lines;
 mod log;
 mod memory;
 mod next;
-mod regret;
 mod rule;
 mod stage;
 mod stated;
 mod steps_in;
-#[cfg(test)]
-mod tests;
-mod value;
 
 pub use answer::{Answer, CheckEnd};
 pub use bytes::check;

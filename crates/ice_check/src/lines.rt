@@ -1,19 +1,18 @@
 //! The records that a journal is made of, apart from those of its exchange and its logs.
-ghost use Rattle.std.specs.Prelude.{◌≡◌, None, MatchBool, MatchOption};
+ghost use Rattle.std.specs.Prelude.{◌≡◌, None, MatchOption};
 ghost use Rattle.ice_journal.specs.Lines.{record_of};
 ghost use Rattle.ice_journal.specs.Records as records;
-ghost use Rattle.ice_check.specs.Fields.{is_assign, is_end, set_in, final_value, rival_value, is_spent, amount_in};
-ghost use Rattle.ice_check.specs.Heads.{version_of_head, kind_of_head};
-ghost use Rattle.ice_check.specs.State.{begun};
-ghost use Rattle.ice_check.specs.Progress.{passing, other_kind, after_head};
+ghost use Rattle.ice_check.specs.Fields.{is_assign, is_end, set_in, final_value, rival_value, provisional_value, without_value, head_value, is_spent, amount_in};
+ghost use Rattle.ice_check.specs.Found.{IsFound, IsHeadIn};
 
 use crate::head::Head;
+use ice_defs::Group;
 use ice_journal::{EndWord, Kind, Line, Version};
 use ice_tree::NodeSet;
 
 /// The head that the record is, of a kind that is checked.
 pub(crate) fn head_in(line: &Line) -> Option<Head>
-    ensures { MatchOption result (after_head (record_of line.now) ≡ other_kind) (λ head. after_head (record_of line.now) ≡ passing (begun (version_of_head head) (kind_of_head head))) }
+    ensures { IsHeadIn (record_of line.now) result }
 {
     match line {
         Line::Head {
@@ -37,7 +36,8 @@ pub(crate) fn is_assign(line: &Line) -> bool
 
 /// The set that the record states.
 pub(crate) fn set_in(line: &Line) -> Option<&NodeSet>
-    ensures { MatchOption result (set_in (record_of line.now) ≡ None) (λ set. record_of line.now ≡ records.set set.now) }
+    ensures { MatchOption result (set_in (record_of line.now) ≡ None)
+        (λ set. record_of line.now ≡ records.set set.now) }
 {
     match line {
         Line::Set(set) => Some(set),
@@ -54,7 +54,7 @@ pub(crate) fn ends_assign(line: &Line) -> bool
 
 /// The value in the head of the final sets.
 pub(crate) fn final_in(line: &Line) -> Option<i64>
-    ensures { MatchOption result (final_value (record_of line.now) ≡ None) (λ value. record_of line.now ≡ records.final value) }
+    ensures { IsFound result (final_value (record_of line.now)) }
 {
     match line {
         Line::Final { value } => Some(*value),
@@ -63,12 +63,48 @@ pub(crate) fn final_in(line: &Line) -> Option<i64>
 }
 
 /// The value in the head of the rival.
-pub(crate) fn rival_in(line: &Line) -> Option<i64>
-    ensures { MatchOption result (rival_value (record_of line.now) ≡ None) (λ value. record_of line.now ≡ records.rival value) }
+fn rival_in(line: &Line) -> Option<i64>
+    ensures { IsFound result (rival_value (record_of line.now)) }
 {
     match line {
         Line::Rival { value } => Some(*value),
         _ => None,
+    }
+}
+
+/// The value in the head of the provisional sets.
+fn provisional_in(line: &Line) -> Option<i64>
+    ensures { IsFound result (provisional_value (record_of line.now)) }
+{
+    match line {
+        Line::Provisional { value } => Some(*value),
+        _ => None,
+    }
+}
+
+/// The value in the head of the sets without this bidder.
+fn without_in(bidder: u8, line: &Line) -> Option<i64>
+    ensures { IsFound result (without_value bidder (record_of line.now)) }
+{
+    match line {
+        Line::Without {
+            bidder: other,
+            value,
+        } => { if *other == bidder { Some(*value) } else { None } }
+        _ => None,
+    }
+}
+
+/// The value in the head of a group.
+pub(crate) fn head_value(group: Group, line: &Line) -> Option<i64>
+    ensures { IsFound result (head_value group (record_of line.now)) }
+{
+    match group {
+        Group::Assign => None,
+        Group::Final => final_in(line),
+        Group::Rival => rival_in(line),
+        Group::Provisional => provisional_in(line),
+        Group::Without { bidder } => without_in(bidder, line),
     }
 }
 
@@ -81,7 +117,8 @@ pub(crate) fn is_spent(line: &Line) -> bool
 
 /// The amount of the regret that the record states.
 pub(crate) fn amount_in(line: &Line) -> Option<i64>
-    ensures { MatchOption result (amount_in (record_of line.now) ≡ None) (λ amount. record_of line.now ≡ records.regret amount) }
+    ensures { MatchOption result (amount_in (record_of line.now) ≡ None)
+        (λ amount. record_of line.now ≡ records.regret amount) }
 {
     match line {
         Line::Regret { amount } => Some(*amount),

@@ -1,27 +1,25 @@
 //! The logs of a journal's groups, walked step by step.
 ghost use Rattle.std.specs.Prelude.{◌≡◌, ◌<◌, ◌≤◌, ◌↔◌, [], ◌∷◌, length, replicate, pos, IsTrue, Some, IfOk, OnOk, IfErr};
-ghost use Rattle.ice_defs.specs.Exchange.{trees_of, exact_of, opening_bounds};
-ghost use Rattle.ice_defs.specs.Weighing.{lower_weights, perturbed_weights};
-ghost use Rattle.ice_tree.specs.Alike.{AreChosen};
-ghost use Rattle.ice_bound.specs.Conditions.{AreBoundsOf};
+ghost use Rattle.ice_defs.specs.Exchange.{trees_of, exact_of};
+ghost use Rattle.ice_tree.specs.Alike.{HasSetPerTree};
 ghost use Rattle.ice_refute.specs.Code.{step_of, CountsGoods};
-ghost use Rattle.ice_refute.specs.Waiting.{first_side, nodes_of};
-ghost use Rattle.ice_refute.specs.Passing.{PassesAt, HasFault};
+ghost use Rattle.ice_refute.specs.Waiting.{nodes_of};
 ghost use Rattle.ice_journal.specs.Lines.{record_of, version_of};
 ghost use Rattle.ice_journal.specs.Ranges.{IsRecord};
 ghost use Rattle.ice_defs.specs.Steps.{sides_after};
 ghost use Rattle.ice_check.specs.Fields.{multipliers_after};
-ghost use Rattle.ice_check.specs.Logs.{IsWalkOf, IsStepOf, HasSameWalk, rule_of_fault, FailsAt, PassesStep, FailsStep};
+ghost use Rattle.ice_check.specs.Logs.{IsWalkOf, weights_in, IsStepOf, HasSameWalk, rule_of_fault, PassesThere, FailsThere, GoesOn, BreaksOff};
 
 use crate::memory::NoMemory;
 use crate::rule::Rule;
 use crate::steps_in::{misstates, step_in};
 use ice_best::Fixings;
 use ice_bound::{Desk, Multipliers};
+use ice_defs::Group;
 use ice_journal::{Line, Version};
 use ice_refute::{LogFault, Step, Walk};
 use ice_trade::Exchange;
-use ice_tree::{AllWeights, Assignment, Bounds, Tree};
+use ice_tree::{AllWeights, Assignment, Tree};
 use std::alloc::Global;
 
 /// What a log is walked with: the weights of its group, the side that it begins with, where the walk has come, and the
@@ -52,8 +50,7 @@ fn rule_of(fault: LogFault) -> Rule
 impl LogWalk {
     /// No log yet, at the lower values of the exchange, with the memory for all its logs.
     pub(crate) fn new(alloc: Global, exchange: &Exchange) -> Result<LogWalk, NoMemory>
-        ensures walk { IfOk result (IsWalkOf (trees_of exchange.now) (exact_of exchange.now)) }
-        ensures weights { IfOk result (λ log. log.weights ≡ lower_weights (opening_bounds exchange.now)) }
+        ensures { IfOk result (IsWalkOf (trees_of exchange.now) (exact_of exchange.now)) }
     {
         let trees = exchange.trees();
         let exact = exchange.exact();
@@ -68,15 +65,23 @@ impl LogWalk {
         })
     }
 
-    /// Changes the weights to those that these sets perturb.
-    pub(crate) fn perturb(&mut self, trees: &[Tree], bounds: &[Bounds], sets: &Assignment)
-        requires walk { IsWalkOf trees.now self.old.desk.room self.old }
-        requires bounds { AreBoundsOf trees.now bounds.now }
-        requires chosen { AreChosen sets.now bounds.now }
-        ensures walk { IsWalkOf trees.now self.old.desk.room self.new }
-        ensures weights { self.new.weights ≡ perturbed_weights sets.now bounds.now }
+    /// Changes the weights to those of a group, where the final sets are these if they matter.
+    pub(crate) fn weigh(&mut self, exchange: &Exchange, group: Group, final_sets: &Assignment)
+        requires walk { IsWalkOf (trees_of exchange.now) (exact_of exchange.now) self.old }
+        requires room { HasSetPerTree (trees_of exchange.now) final_sets.now }
+        ensures walk { IsWalkOf (trees_of exchange.now) (exact_of exchange.now) self.new }
+        ensures weights { self.new.weights ≡ weights_in exchange.now final_sets.now group }
     {
-        self.weights.fill_perturbed(bounds, sets);
+        let bounds = exchange.bounds();
+        match group {
+            Group::Rival => self.weights.fill_perturbed(bounds, final_sets),
+            Group::Provisional => self
+                .weights
+                .fill_weighted(bounds, exchange.settings().weight),
+            Group::Assign | Group::Final | Group::Without { .. } => {
+                self.weights.fill_lower(bounds);
+            }
+        }
     }
 
     /// Begins a log.
@@ -104,10 +109,12 @@ impl LogWalk {
         requires few { length trees.now ≤ 40 }
         requires opened { 0 < length self.old.walk.sides }
         requires goods { CountsGoods (length self.old.before) (step_of step) }
-        ensures passes { OnOk result (PassesAt trees.now self.old.desk.room self.old.weights target (first_side self.old.walk.sides) (step_of step)) }
-        ensures sides { OnOk result (self.new.walk.sides ≡ sides_after self.old.walk.sides (step_of step)) }
-        ensures before { OnOk result (self.new.before ≡ multipliers_after self.old.before (step_of step)) }
-        ensures fault { IfErr result (FailsAt trees.now self.old.desk.room self.old.weights target (first_side self.old.walk.sides) (step_of step)) }
+        ensures passes { OnOk result (PassesThere trees.now target self.old (step_of step)) }
+        ensures sides { OnOk result
+            (self.new.walk.sides ≡ sides_after self.old.walk.sides (step_of step)) }
+        ensures before { OnOk result
+            (self.new.before ≡ multipliers_after self.old.before (step_of step)) }
+        ensures fault { IfErr result (FailsThere trees.now target self.old (step_of step)) }
         ensures same { HasSameWalk self.old self.new }
         ensures goods { length self.new.before ≡ length self.old.before }
     {
@@ -135,9 +142,12 @@ impl LogWalk {
         requires walk { IsWalkOf trees.now self.old.desk.room self.old }
         requires few { length trees.now ≤ 40 }
         requires opened { 0 < length self.old.walk.sides }
-        requires stated { IsStepOf (Some step) (version_of version) self.old.before (record_of line.now) }
-        ensures passes { OnOk result (PassesStep trees.now self.old.desk.room self.old.weights target (version_of version) self.old.walk.sides self.old.before (record_of line.now) self.new.walk.sides self.new.before) }
-        ensures fails { IfErr result (FailsStep trees.now self.old.desk.room self.old.weights target (version_of version) self.old.walk.sides self.old.before (record_of line.now)) }
+        requires stated { IsStepOf (Some step) (version_of version) self.old.before
+            (record_of line.now) }
+        ensures passes { OnOk result
+            (GoesOn trees.now target (version_of version) self.old (record_of line.now) self.new) }
+        ensures fails { IfErr result
+            (BreaksOff trees.now target (version_of version) self.old (record_of line.now)) }
         ensures walk { IsWalkOf trees.now self.old.desk.room self.new }
         ensures weights { self.new.weights ≡ self.old.weights }
     {
@@ -160,8 +170,10 @@ impl LogWalk {
         requires walk { IsWalkOf trees.now self.old.desk.room self.old }
         requires few { length trees.now ≤ 40 }
         requires opened { 0 < length self.old.walk.sides }
-        ensures passes { OnOk result (PassesStep trees.now self.old.desk.room self.old.weights target (version_of version) self.old.walk.sides self.old.before (record_of line.now) self.new.walk.sides self.new.before) }
-        ensures fails { IfErr result (FailsStep trees.now self.old.desk.room self.old.weights target (version_of version) self.old.walk.sides self.old.before (record_of line.now)) }
+        ensures passes { OnOk result
+            (GoesOn trees.now target (version_of version) self.old (record_of line.now) self.new) }
+        ensures fails { IfErr result
+            (BreaksOff trees.now target (version_of version) self.old (record_of line.now)) }
         ensures walk { IsWalkOf trees.now self.old.desk.room self.new }
         ensures weights { self.new.weights ≡ self.old.weights }
     {

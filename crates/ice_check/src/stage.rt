@@ -1,20 +1,18 @@
 //! How far the records of a journal have come.
-ghost use Rattle.std.specs.Prelude.{◌≡◌, suc, IsTrue, IfOk, IsOk, IsErr};
+ghost use Rattle.std.specs.Prelude.{◌≡◌, ◌≢◌, ℕ, suc, Err, IsTrue, IfOk, IsOk, IsErr};
 ghost use Rattle.ice_journal.specs.Lines.{record_of};
 ghost use Rattle.ice_journal.specs.Ranges.{IsRecord};
 ghost use Rattle.ice_check.specs.Progress.{out_of_memory, is_ready, IsAfter};
 ghost use Rattle.ice_check.specs.Answers.{EndsWith};
-ghost use Rattle.ice_check.specs.Stages.{progress_of, IsWithin};
+ghost use Rattle.ice_check.specs.Stages.{progress_of, IsWithin, IsKept, LeadsOn};
 
 use crate::answer::{Answer, CheckEnd};
-use crate::assign::{end, pass_end, state};
 use crate::describing::{begin, describe};
 use crate::groups::Groups;
+use crate::halt::Halt;
 use crate::head::Head;
 use crate::memory::NoMemory;
-use crate::regret;
 use crate::rule::Rule;
-use crate::stated::Stated;
 use ice_journal::Line;
 use ice_section::Section;
 use std::alloc::Global;
@@ -28,62 +26,79 @@ pub(crate) enum Stage {
     OtherKind,
     /// The exchange is being described.
     Describing(Head, Box<Section>),
-    /// The sets of an assign journal are being stated.
-    Stating(Stated),
-    /// All its sets are stated.
-    AwaitsEnd(Stated),
-    /// It has ended.
-    Done(Stated),
-    /// The groups of a regret journal are being stated, or it has ended.
-    Regret(Box<Groups>),
+    /// What stands behind the exchange is being stated, or the journal has ended.
+    Behind(Box<Groups>),
     /// The first failed test.
     Failed { line: u64, rule: Rule },
     /// No memory was left for a record.
     OutOfMemory,
 }
 
+/// A record behind a complete exchange.
+fn take(mut groups: Box<Groups>, line: &Line) -> Result<Stage, Halt>
+    requires kept { IsKept (Stage.Behind groups) }
+    requires lawful { IsRecord (record_of line.now) }
+    ensures leads { LeadsOn (Stage.Behind groups) (record_of line.now) result }
+    ensures ready { result ≢ Err Halt.NoMemory }
+{
+    groups.take(line)?;
+    Ok(Stage::Behind(groups))
+}
+
 impl Stage {
-    /// The stage after a record, which stands in the line with this number.
-    pub(crate) fn after(self, alloc: Global, number: u64, line: &Line) -> Result<Stage, NoMemory>
-        requires within { IsWithin number self }
+    /// The stage after a record.
+    fn step(self, alloc: Global, line: &Line) -> Result<Stage, Halt>
+        requires kept { IsKept self }
         requires lawful { IsRecord (record_of line.now) }
-        ensures after { IfOk result (λ next. IsAfter (progress_of number self) (record_of line.now) (progress_of (suc number) next)) }
-        ensures within { IfOk result (λ next. IsWithin (suc number) next) }
-        ensures ready { IsTrue (is_ready (progress_of number self)) → IsOk result }
-        ensures stopped { progress_of number self ≡ out_of_memory → IsErr result }
+        ensures leads { LeadsOn self (record_of line.now) result }
+        ensures ready { (n : ℕ) → IsTrue (is_ready (progress_of n self))
+            → result ≢ Err Halt.NoMemory }
     {
         match self {
             Stage::Begin => begin(alloc, line),
             Stage::OtherKind => Ok(Stage::OtherKind),
-            Stage::Describing(head, section) => describe(alloc, number, head, section, line),
-            Stage::Stating(stated) => Ok(state(number, stated, line)),
-            Stage::AwaitsEnd(stated) => Ok(end(number, stated, line)),
-            Stage::Done(stated) => Ok(pass_end(number, stated, line)),
-            Stage::Regret(groups) => Ok(regret::take(number, groups, line)),
+            Stage::Describing(head, section) => describe(alloc, head, section, line),
+            Stage::Behind(groups) => take(groups, line),
             Stage::Failed { line, rule } => Ok(Stage::Failed { line, rule }),
-            Stage::OutOfMemory => Err(NoMemory),
+            Stage::OutOfMemory => Err(Halt::NoMemory),
+        }
+    }
+
+    /// The stage after a record, which stands in the line with this number.
+    pub(crate) fn after(self, alloc: Global, number: u64, line: &Line) -> Result<Stage, NoMemory>
+        requires within { IsWithin number self }
+        requires lawful { IsRecord (record_of line.now) }
+        ensures after { IfOk result (λ next. IsAfter (progress_of number self)
+            (record_of line.now) (progress_of (suc number) next)) }
+        ensures within { IfOk result (λ next. IsWithin (suc number) next) }
+        ensures ready { IsTrue (is_ready (progress_of number self)) → IsOk result }
+        ensures stopped { progress_of number self ≡ out_of_memory → IsErr result }
+    {
+        match self.step(alloc, line) {
+            Ok(next) => Ok(next),
+            Err(Halt::Fails(rule)) => Ok(Stage::Failed { line: number, rule }),
+            Err(Halt::NoMemory) => Err(NoMemory),
         }
     }
 
     /// What the tests find, where the records so far are the whole journal and the line with this number would be the next.
     pub(crate) fn answer(&self, number: u64) -> Result<Answer, CheckEnd>
+        requires { IsKept self.now }
         ensures { EndsWith (progress_of number self.now) result }
     {
+        let short = Answer::No {
+            line: number,
+            rule: Rule::Short,
+        };
         match self {
             Stage::Begin | Stage::OtherKind => Err(CheckEnd::OtherKind),
-            Stage::Done(stated) => Ok(Answer::Assign {
-                value: stated.value(),
-            }),
-            Stage::Regret(groups) => Ok(regret::answer(number, groups)),
+            Stage::Describing(_, _) => Ok(short),
+            Stage::Behind(groups) => Ok(groups.answer().unwrap_or(short)),
             Stage::Failed { line, rule } => Ok(Answer::No {
                 line: *line,
                 rule: *rule,
             }),
             Stage::OutOfMemory => Err(CheckEnd::NoMemory),
-            Stage::Describing(_, _) | Stage::Stating(_) | Stage::AwaitsEnd(_) => Ok(Answer::No {
-                line: number,
-                rule: Rule::Short,
-            }),
         }
     }
 

@@ -1,16 +1,14 @@
 //! The sets that a journal states.
-ghost use Rattle.std.specs.Prelude.{◌≡◌, ◌<◌, ◌≤◌, ◌++◌, [], ◌∷◌, length, IfOk, IsTrue, ◌↔◌, MatchBool};
-ghost use Rattle.ice_defs.specs.Exchange.{trees_of, opening_bounds};
-ghost use Rattle.ice_defs.specs.Set.{IsSatisfied};
+ghost use Rattle.std.specs.Prelude.{◌≡◌, ◌<◌, ◌≤◌, [], length, IfOk, IsTrue, ◌↔◌};
+ghost use Rattle.ice_defs.specs.Exchange.{trees_of};
 ghost use Rattle.ice_defs.specs.Lawful.{IsExchange};
 ghost use Rattle.ice_bound.specs.Conditions.{AreWeightsOf};
-ghost use Rattle.ice_check.specs.Assigning.{AreBalanced, AreShort, AreSized};
-ghost use Rattle.ice_defs.specs.Trade.{set_of, tree_of, total_value};
-ghost use Rattle.ice_defs.specs.Weighing.{lower_weights};
+ghost use Rattle.ice_check.specs.Assigning.{next_tree, with_next, SatisfiesNext, IsBalance};
+ghost use Rattle.ice_tree.specs.Alike.{HasSetPerTree};
+ghost use Rattle.ice_defs.specs.Trade.{total_value};
 
-use crate::value::{total_value, total_worth};
 use ice_trade::Exchange;
-use ice_tree::{AllWeights, Assignment, Bounds, NoMemory, NodeSet, Tree};
+use ice_tree::{AllWeights, Assignment, NoMemory, NodeSet, Tree};
 use std::alloc::Global;
 use std::marker::Model;
 use std::mem;
@@ -51,7 +49,7 @@ impl Stated {
     /// The tree of the bidder whose set comes next.
     pub(crate) fn tree(&self) -> &Tree
         requires { length self.now.sets < length (trees_of self.now.exchange) }
-        ensures { result.now ≡ tree_of (trees_of self.now.exchange) (length self.now.sets) }
+        ensures { result.now ≡ next_tree self.now }
     {
         &self.exchange.trees()[self.taken as usize]
     }
@@ -59,8 +57,8 @@ impl Stated {
     /// One more set.
     pub(crate) fn put(&mut self, set: &NodeSet)
         requires room { length self.old.sets < length (trees_of self.old.exchange) }
-        requires satisfied { IsSatisfied (tree_of (trees_of self.old.exchange) (length self.old.sets)) set.now }
-        ensures { self.new ≡ record { exchange = self.old.exchange; sets = self.old.sets ++ set.now ∷ [] } }
+        requires satisfied { SatisfiesNext self.old set.now }
+        ensures { self.new ≡ with_next self.old set.now }
     {
         self.sets.put(self.taken, set);
         self.taken += 1;
@@ -76,16 +74,16 @@ impl Stated {
     /// Whether the sets leave no good short, where each bidder has one.
     pub(crate) fn are_balanced(&self) -> bool
         requires { length self.now.sets ≡ length (trees_of self.now.exchange) }
-        ensures { MatchBool result (AreBalanced self.now.exchange self.now.sets) (AreShort self.now.exchange self.now.sets) }
+        ensures { IsBalance self.now result }
     {
         self.exchange.feasible(&self.sets).is_ok()
     }
 
-    /// The value of the sets at the opening lower values.
-    pub(crate) fn value(&self) -> i128
-        ensures { result ≡ total_value self.now.sets (lower_weights (opening_bounds self.now.exchange)) }
+    /// The exchange.
+    pub(crate) fn exchange(&self) -> &Exchange
+        ensures { result.now ≡ self.now.exchange }
     {
-        total_value(&self.sets, self.exchange.bounds(), self.taken)
+        &self.exchange
     }
 
     /// The trees of the bidders.
@@ -96,30 +94,22 @@ impl Stated {
         self.exchange.trees()
     }
 
-    /// The opening bounds of the bidders.
-    pub(crate) fn bounds(&self) -> &[Bounds]
-        ensures value { result.now ≡ opening_bounds self.now.exchange }
-        ensures lawful { IsExchange self.now.exchange }
-    {
-        self.exchange.bounds()
-    }
-
     /// The value of the sets at weights, where each bidder has one.
     pub(crate) fn value_at(&self, weights: &AllWeights) -> i128
         requires full { length self.now.sets ≡ length (trees_of self.now.exchange) }
         requires weights { AreWeightsOf (trees_of self.now.exchange) weights.now }
         ensures { result ≡ total_value self.now.sets weights.now }
     {
-        total_worth(self.exchange.trees(), &self.sets, weights)
+        self.sets.value(self.exchange.trees(), weights)
     }
 
     /// Hands over the sets, of which each bidder has one, for room for new ones.
     pub(crate) fn hand_over(&mut self, sets: &mut Assignment)
         requires full { length self.old.sets ≡ length (trees_of self.old.exchange) }
-        requires room { AreSized (trees_of self.old.exchange) sets.old }
+        requires room { HasSetPerTree (trees_of self.old.exchange) sets.old }
         ensures left { self.new ≡ record { exchange = self.old.exchange; sets = [] } }
         ensures sets { sets.new ≡ self.old.sets }
-        ensures room { AreSized (trees_of self.old.exchange) sets.new }
+        ensures room { HasSetPerTree (trees_of self.old.exchange) sets.new }
     {
         mem::swap(&mut self.sets, sets);
         self.taken = 0;

@@ -58,7 +58,8 @@ fn is_no_change(before: &Multipliers, change: Change) -> bool
 
 /// Whether one of the changes is none.
 fn has_no_change(before: &Multipliers, changes: &[Change]) -> bool
-    ensures { IsTrue result ↔ Any (λ change. IsNoChange (length before.now) before.now (change_of change)) changes.now }
+    ensures { IsTrue result
+        ↔ Any (λ change. IsNoChange (length before.now) before.now (change_of change)) changes.now }
 {
     changes.iter().any(|change| is_no_change(before, *change))
 }
@@ -91,7 +92,8 @@ fn leaf_in(version: Version, before: &Multipliers, numbers: &[i64]) -> Option<St
 /// A leaf as what it changes, which stands in version 2 alone.
 fn near_in(version: Version, before: &Multipliers, changes: &[Change]) -> Option<Step>
     requires { IsRecord (records.near (map change_of changes.now)) }
-    ensures { IsStepOf result (version_of version) before.now (records.near (map change_of changes.now)) }
+    ensures { IsStepOf result (version_of version) before.now
+        (records.near (map change_of changes.now)) }
 {
     match version {
         Version::One => None,
@@ -120,7 +122,8 @@ pub(crate) fn step_in(version: Version, before: &Multipliers, line: &Line) -> Op
 
 /// Whether a leaf as what it changes states a change that is none.
 fn near_misstates(version: Version, before: &Multipliers, changes: &[Change]) -> bool
-    ensures { IsTrue result ↔ IsMisstating (version_of version) before.now (records.near (map change_of changes.now)) }
+    ensures { IsTrue result ↔ IsMisstating (version_of version) before.now
+        (records.near (map change_of changes.now)) }
 {
     match version {
         Version::One => false,

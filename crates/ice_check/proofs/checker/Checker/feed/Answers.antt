@@ -19,4 +19,4 @@ returns-clause-after c =
     let same = λ (l : n < 2 ^ 63). (let e : m ≡ suc n = omega (arith, l, c.saturating_add-self-inside.ensures) in e) in
     subst (λ (st : Stage). IsAfter c.args.self.now r (progress_of m st)) (sym c.replace.ensures.after)
     (subst (λ (p : Progress). IsAfter p r (progress_of m next)) view
-    (subst (λ (q : Progress). IsAfter (progress_of n old) r q) (sym (same_progress n m old next r within c.in_ok-next.ensures.after few same)) c.in_ok-next.ensures.after))
+    (subst (λ (q : Progress). IsAfter (progress_of n old) r q) (sym (same_progress n m old next r within.0 c.in_ok-next.ensures.after few same)) c.in_ok-next.ensures.after))

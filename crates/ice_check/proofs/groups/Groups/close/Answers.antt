@@ -1,35 +1,15 @@
-use Rattle.std.proofs.Common.{rules, ◌≡◌, List, length, replicate, sym, ◌∙◌, ap, arith}
-use Rattle.std.proofs.lemmas.Bool.{true≢false}
-use Rattle.std.proofs.lemmas.List.{length-map}
-use Rattle.std.proofs.lemmas.Int.{to_z-of_z}
-use mir.Syntax.{w64, w128}
-use mir.Val.{SFits, to_z, of_z}
-use Rattle.ice_defs.specs.declared.Mark.TheVariants.{Free}
-use Rattle.ice_defs.specs.Tree.{Tree}
-use Rattle.ice_defs.specs.Set.{Weights}
-use Rattle.ice_defs.specs.Trade.{total_value}
-use Rattle.ice_defs.specs.Exchange.{trees_of}
-use Rattle.ice_refute.specs.Waiting.{nodes_of}
-use Rattle.ice_refute.proofs.Copying.{nodes_of-free}
-use Rattle.ice_check.specs.Regretting.{weights_for, are_short, are_misvalued}
-use Rattle.ice_check.proofs.Walks.{few_trees}
+use Rattle.std.proofs.Common.{sym, subst}
+use Rattle.std.specs.Prelude.{Ok}
+use Rattle.ice_defs.specs.declared.Group.{Group}
+use Rattle.ice_check.specs.Groups.{are_short, Closes}
+use Rattle.ice_check.proofs.Grouped.{log_follows}
 use Rattle.ice_check.proofs.groups.Groups.close.Goals as goal
 
 pub returns-then-not-are_balanced : goal.returns-then-not-are_balanced
 returns-then-not-are_balanced c = are_short c.if-not-are_balanced.ensures
 
-pub returns-then-not-is_same : goal.returns-then-not-is_same
-returns-then-not-is_same c =
-    let g = c.args.self.now in
-    let value_fits : SFits w64 g.value = search rules in
-    let total_fits : SFits w128 c.value_at.result = search rules in
-    let total_is : to_z w128 (of_z w128 c.value_at.result) ≡ total_value g.stated.sets (weights_for g c.args.group) = to_z-of_z w128 c.value_at.result total_fits ∙ c.value_at.ensures ∙ ap (λ (ws : List Weights). total_value g.stated.sets ws) c.requires.weights in
-    are_misvalued c.if-not-are_balanced.ensures (λ e. true≢false (sym (c.is_same.ensures.1 (total_is ∙ e ∙ sym (to_z-of_z w64 g.value value_fits))) ∙ c.if-not-is_same.true))
+pub returns-in-Assign : goal.returns-in-Assign
+returns-in-Assign c = subst (λ (group : Group). Closes group c.args.self.now (Ok tt) c.keep_final.new.self) (sym c.in-Assign.is) (c.if-not-are_balanced.ensures, c.keep_final.ensures)
 
-pub begin-requires-clause-few : goal.begin-requires-clause-few
-begin-requires-clause-few c =
-    let ts = trees_of c.args.self.now.stated.exchange in
-    omega (arith, ap length c.requires.kept.walk.start, length-map ts (λ (t : Tree). replicate (length t) Free), (few_trees c.args.self.now.stated.exchange c.requires.kept.lawful).1)
-
-pub begin-requires-clause-nodes : goal.begin-requires-clause-nodes
-begin-requires-clause-nodes c = ap nodes_of c.requires.kept.walk.start ∙ nodes_of-free (trees_of c.args.self.now.stated.exchange) ∙ sym c.requires.kept.walk.nodes
+pub returns-in_default : goal.returns-in_default
+returns-in_default c = log_follows c.args.group c.args.self.now c.begin_log.result c.begin_log.new.self c.in_default.not-Assign c.if-not-are_balanced.ensures c.begin_log.ensures

@@ -8,4 +8,4 @@ returns-then-is_closed c = log_closes c.args.group c.args.self.now c.complete.ne
 
 pub returns-else-is_closed : goal.returns-else-is_closed
 returns-else-is_closed c =
-    log_goes_on c.args.group c.args.self.now c.requires.next c.requires.kept c.requires.full c.requires.weights (λ e. true≢false (sym (c.is_closed.ensures.1 e) ∙ c.if-is_closed.false))
+    log_goes_on c.args.group c.args.self.now c.requires.next c.requires.logged c.requires.kept c.requires.full c.requires.weights (λ e. true≢false (sym (c.is_closed.ensures.1 e) ∙ c.if-is_closed.false))

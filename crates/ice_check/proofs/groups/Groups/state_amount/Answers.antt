@@ -3,11 +3,12 @@ use Rattle.std.proofs.lemmas.Bool.{true≢false}
 use Rattle.std.proofs.lemmas.Int.{to_z-of_z}
 use mir.Syntax.{w64, w128}
 use mir.Val.{SFits, to_z, of_z}
-use Rattle.ice_journal.specs.Lines.{version_of}
 use Rattle.ice_journal.specs.Records as records
 use Rattle.ice_check.specs.declared.next.Next.TheVariants as coming
-use Rattle.ice_check.specs.Regretting.{final_stated, IsTaken}
-use Rattle.ice_check.proofs.Ending.{amount_wrong, amount_right}
+use Rattle.ice_check.specs.Heads.{version_of_head, kind_of_head}
+use Rattle.ice_check.specs.Groups.{final_stated, IsTaken}
+use Rattle.ice_check.proofs.Ending.{amount_wrong}
+use Rattle.ice_check.proofs.Grouped.{amount_taken}
 use Rattle.ice_check.proofs.groups.Groups.state_amount.Goals as goal
 
 pub returns-then-not-is_same : goal.returns-then-not-is_same
@@ -15,26 +16,22 @@ returns-then-not-is_same c =
     let g = c.args.self.now in
     let amount = c.args.amount in
     let same : to_z w64 (of_z w64 amount) ≡ amount = to_z-of_z w64 amount c.ranges.amount in
-    let value_fits : SFits w64 g.value = search rules in
+    let rival_fits : SFits w64 g.rival = search rules in
     let final_fits : SFits w64 g.final_value = search rules in
     let total_fits : SFits w128 c.difference.result = search rules in
-    let is : to_z w128 (of_z w128 c.difference.result) ≡ (g.value -ℤ g.final_value) = to_z-of_z w128 c.difference.result total_fits ∙ c.difference.ensures
-    ∙ ap (λ z. z -ℤ to_z w64 (of_z w64 g.final_value)) (to_z-of_z w64 g.value value_fits) ∙ ap (λ z. g.value -ℤ z) (to_z-of_z w64 g.final_value final_fits) in
-    λ n. amount_wrong (version_of g.version) n g.stated.exchange (final_stated g) g.value amount (λ e. true≢false (sym (c.is_same.ensures.1 (is ∙ sym e ∙ sym same)) ∙ c.if-not-is_same.true))
+    let is : to_z w128 (of_z w128 c.difference.result) ≡ (g.rival -ℤ g.final_value) = to_z-of_z w128 c.difference.result total_fits ∙ c.difference.ensures
+    ∙ ap (λ z. z -ℤ to_z w64 (of_z w64 g.final_value)) (to_z-of_z w64 g.rival rival_fits) ∙ ap (λ z. g.rival -ℤ z) (to_z-of_z w64 g.final_value final_fits) in
+    λ n. amount_wrong (version_of_head g.head) (kind_of_head g.head) n g.stated.exchange (final_stated g) g.rival g.regret amount (λ e. true≢false (sym (c.is_same.ensures.1 (is ∙ sym e ∙ sym same)) ∙ c.if-not-is_same.true))
 
 pub returns : goal.returns
 returns c =
     let g = c.args.self.now in
     let amount = c.args.amount in
     let same : to_z w64 (of_z w64 amount) ≡ amount = to_z-of_z w64 amount c.ranges.amount in
-    let value_fits : SFits w64 g.value = search rules in
+    let rival_fits : SFits w64 g.rival = search rules in
     let final_fits : SFits w64 g.final_value = search rules in
     let total_fits : SFits w128 c.difference.result = search rules in
-    let is : to_z w128 (of_z w128 c.difference.result) ≡ (g.value -ℤ g.final_value) = to_z-of_z w128 c.difference.result total_fits ∙ c.difference.ensures
-    ∙ ap (λ z. z -ℤ to_z w64 (of_z w64 g.final_value)) (to_z-of_z w64 g.value value_fits) ∙ ap (λ z. g.value -ℤ z) (to_z-of_z w64 g.final_value final_fits) in
-    subst (λ (z : ℤ). IsTaken coming.Amount g (records.regret amount) (record g { amount = z; next = coming.End })) (sym same)
-    (record {
-      passes = λ n. amount_right (version_of g.version) n g.stated.exchange (final_stated g) g.value amount (sym same ∙ sym (c.is_same.ensures.0 c.if-not-is_same.false) ∙ is);
-      kept = record { lawful = c.requires.lawful; walk = c.requires.walk; room = c.requires.room };
-      ready = tt;
-    })
+    let is : to_z w128 (of_z w128 c.difference.result) ≡ (g.rival -ℤ g.final_value) = to_z-of_z w128 c.difference.result total_fits ∙ c.difference.ensures
+    ∙ ap (λ z. z -ℤ to_z w64 (of_z w64 g.final_value)) (to_z-of_z w64 g.rival rival_fits) ∙ ap (λ z. g.rival -ℤ z) (to_z-of_z w64 g.final_value final_fits) in
+    subst (λ (z : ℤ). IsTaken coming.Amount g (records.regret amount) (record g { regret = z; next = coming.End })) (sym same)
+    (amount_taken g amount c.requires.kept c.requires.ready (sym same ∙ sym (c.is_same.ensures.0 c.if-not-is_same.false) ∙ is))

@@ -19,8 +19,8 @@ fill_lower-requires c =
     (subst (λ (ws : List Weights). AreAlike ws (opening_bounds ex)) (sym (c.in_ok-weights.ensures ∙ ap (λ (ts : List Tree). map (λ (t : Tree). replicate (length t) (pos 0)) ts) c.trees-trees.ensures.value))
     (zeros_alike (trees_of ex) (opening_bounds ex) (opening_are_bounds ex c.bounds.ensures.lawful)))
 
-pub returns-clause-walk : goal.returns-clause-walk
-returns-clause-walk c =
+pub returns : goal.returns
+returns c =
     let ex = c.args.exchange.now in
     record {
       weights = subst (AreWeightsOf (trees_of ex)) (sym (c.fill_lower.ensures.value ∙ ap (λ (bs : List Bounds). map (λ (b : Bounds). b.lo) bs) c.bounds.ensures.value)) (lower_modest (trees_of ex) (opening_bounds ex) (opening_are_bounds ex c.bounds.ensures.lawful));

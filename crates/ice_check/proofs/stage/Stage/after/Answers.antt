@@ -1,0 +1,4 @@
+use Rattle.ice_check.proofs.stage.Stage.after.Goals as goal
+
+pub returns-in-Ok-clause-within : goal.returns-in-Ok-clause-within
+returns-in-Ok-clause-within c = (c.in-Ok.ensures.leads.number c.args.number, c.in-Ok.ensures.leads.kept)
