@@ -119,6 +119,8 @@ fn want_of_memory(rt: HostRuntime) -> Result<(), Fail> {
         ice_best::NoMemory.to_string(alloc)?,
         ice_trade::NoMemory.to_string(alloc)?,
         ice_refute::NoMemory.to_string(alloc)?,
+        ice_read::NoMemory.to_string(alloc)?,
+        ice_section::NoMemory.to_string(alloc)?,
     ] {
         assert_eq!(rt; text.as_str(), "no memory is left");
     }
