@@ -2,7 +2,6 @@
 ghost use Rattle.std.specs.Prelude.{◌≡◌, ◌<◌, length, All, IfOk};
 ghost use Rattle.ice_lp.specs.Limits.{IsNumber};
 
-use ice_lp::NoMemory;
 use std::alloc::{AllocError, Global};
 
 /// A linear congruential generator, of which the high bits are taken.
@@ -43,15 +42,14 @@ impl Draws {
         numbers: usize,
         low: i32,
         count: u32,
-    ) -> Result<Vec<i128>, NoMemory>
+    ) -> Result<Vec<i128>, AllocError>
         requires { 0 < count }
         ensures same_length { IfOk result (λ made. length made.items ≡ numbers) }
         ensures sized { IfOk result (λ made. All IsNumber made.items) }
     {
         let mut made = Vec::with_capacity(alloc, numbers)?;
         for _place in 0..numbers {
-            made.push(number(self.one_of(low, count)))
-                .map_err(AllocError::from)?;
+            made.push(number(self.one_of(low, count)))?;
         }
         Ok(made)
     }

@@ -8,7 +8,7 @@ ghost use Rattle.ice_lp.specs.Limits.{IsNumber};
 
 use crate::draws::{Draws, number};
 use ice_frac::Frac;
-use ice_lp::{LpAnswer, LpEnd, NoMemory, Program, solve};
+use ice_lp::{LpAnswer, LpEnd, Program, solve};
 use std::alloc::{AllocError, Global};
 
 /// How many goods have a price.
@@ -21,16 +21,16 @@ const SETS: usize = 200;
 const CAP: i128 = -100_000;
 
 /// The costs: 0 for each price, and 1 for the last column.
-fn costs(alloc: Global) -> Result<Vec<i128>, NoMemory>
+fn costs(alloc: Global) -> Result<Vec<i128>, AllocError>
     ensures same_length { IfOk result (λ made. length made.items ≡ 33) }
     ensures sized { IfOk result (λ made. All IsNumber made.items) }
     ensures low { IfOk result (λ made. All (λ c. pos 0 ≤ℤ c) made.items) }
 {
     let mut made = Vec::with_capacity(alloc, GOODS + 1)?;
     for _good in 0..GOODS {
-        made.push(0i128).map_err(AllocError::from)?;
+        made.push(0i128)?;
     }
-    made.push(1i128).map_err(AllocError::from)?;
+    made.push(1i128)?;
     Ok(made)
 }
 
@@ -42,14 +42,13 @@ fn cap_coefficient(column: usize, good: usize) -> i128
 }
 
 /// The coefficients of a good's row.
-fn cap_row(alloc: Global, good: usize) -> Result<Vec<i128>, NoMemory>
+fn cap_row(alloc: Global, good: usize) -> Result<Vec<i128>, AllocError>
     ensures same_length { IfOk result (λ made. length made.items ≡ 33) }
     ensures sized { IfOk result (λ made. All IsNumber made.items) }
 {
     let mut made = Vec::with_capacity(alloc, GOODS + 1)?;
     for column in 0..GOODS + 1 {
-        made.push(cap_coefficient(column, good))
-            .map_err(AllocError::from)?;
+        made.push(cap_coefficient(column, good))?;
     }
     Ok(made)
 }
@@ -65,7 +64,7 @@ fn units(draws: &mut Draws) -> i64 {
 
 /// A row's coefficients and its least: what the other set gains at drawn prices, up to a number that is mostly
 /// below 0.
-fn set_row(alloc: Global, prices: &[i64], draws: &mut Draws) -> Result<(Vec<i128>, i64), NoMemory>
+fn set_row(alloc: Global, prices: &[i64], draws: &mut Draws) -> Result<(Vec<i128>, i64), AllocError>
     ensures same_length { IfOk result (λ made. length made.0.items ≡ length prices.now + 1) }
     ensures sized { IfOk result (λ made. All IsNumber made.0.items) }
 {
@@ -74,9 +73,9 @@ fn set_row(alloc: Global, prices: &[i64], draws: &mut Draws) -> Result<(Vec<i128
     for price in prices {
         let units = units(draws);
         least = least.wrapping_add(units.wrapping_mul(*price));
-        made.push(number(units)).map_err(AllocError::from)?;
+        made.push(number(units))?;
     }
-    made.push(1i128).map_err(AllocError::from)?;
+    made.push(1i128)?;
     Ok((made, least))
 }
 
@@ -90,7 +89,7 @@ fn drawn_prices(draws: &mut Draws) -> [i64; GOODS] {
 }
 
 /// A program of 33 columns and 232 rows.
-fn drawn(alloc: Global, draws: &mut Draws) -> Result<Program, NoMemory> {
+fn drawn(alloc: Global, draws: &mut Draws) -> Result<Program, AllocError> {
     let mut program = Program::new(alloc, &costs(alloc)?)?;
     for good in 0..GOODS {
         let coeffs = cap_row(alloc, good)?;

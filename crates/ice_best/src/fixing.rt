@@ -7,14 +7,8 @@ ghost use Rattle.ice_defs.specs.Trade.{fixing_of};
 use arrayvec::ArrayVec;
 use ice_defs::Mark;
 use ice_tree::Tree;
-use std::alloc::Global;
+use std::alloc::{AllocError, Global};
 use std::marker::Model;
-use thiserror::Error;
-
-/// There is no memory left.
-#[derive(Clone, Copy, Debug, Error, PartialEq, Eq)]
-#[error("no memory is left")]
-pub struct NoMemory;
 
 /// A fixing of one tree, seen as one mark per node. A set meets it where it has each Must node and no Never node.
 /// It takes no memory.
@@ -87,17 +81,14 @@ impl Model for Fixings {
 
 impl Fixings {
     /// Leaves each node of each bidder's tree free. Takes all the memory that the fixings need.
-    pub fn free(alloc: Global, trees: &[Tree]) -> Result<Fixings, NoMemory>
+    pub fn free(alloc: Global, trees: &[Tree]) -> Result<Fixings, AllocError>
         ensures { IfOk result (λ fixings. fixings ≡ map (λ t. replicate (length t) Mark.Free) trees.now) }
     {
         let fixings = trees
             .iter()
             .map(|tree| Fixing::free(tree.nodes()))
-            .collect(alloc);
-        match fixings {
-            Ok(fixings) => Ok(Fixings { fixings }),
-            Err(_) => Err(NoMemory),
-        }
+            .collect(alloc)?;
+        Ok(Fixings { fixings })
     }
 
     /// The number of bidders.

@@ -13,7 +13,7 @@ mod tests;
 
 pub use best_set::best;
 pub use fill::Scratch;
-pub use fixing::{Fixing, Fixings, NoMemory};
+pub use fixing::{Fixing, Fixings};
 pub use ice_defs::Mark;
 pub use nets::fill_net_weights;
 pub use sale::greatest_sale;

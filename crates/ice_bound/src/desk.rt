@@ -6,13 +6,7 @@ ghost use Rattle.ice_defs.specs.Trade.{is_exact};
 use crate::room::Room;
 use ice_best::Fixings;
 use ice_tree::Tree;
-use std::alloc::Global;
-use thiserror::Error;
-
-/// There is no memory left.
-#[derive(Clone, Copy, Debug, Error, PartialEq, Eq)]
-#[error("no memory is left")]
-pub struct NoMemory;
+use std::alloc::{AllocError, Global};
 
 /// The working memory of bounds and logs. `marks` is the side that `bound_here` looks at; `sides` has pairs of a bidder
 /// and a node, and room for 2,000 of them. What they hold between other calls does not matter. `room` knows which goods
@@ -28,21 +22,15 @@ pub struct Desk {
 impl Desk {
     /// A desk for these trees, with one truth value for each good, at most 32: whether it is exact. Takes all the memory
     /// that bounds and logs of these trees need.
-    pub fn new(alloc: Global, trees: &[Tree], exact: &[bool]) -> Result<Desk, NoMemory>
+    pub fn new(alloc: Global, trees: &[Tree], exact: &[bool]) -> Result<Desk, AllocError>
         requires { length exact.now ≤ 32 }
         ensures exact { IfOk result (λ desk. desk.room ≡ exact.now) }
         ensures marks { IfOk result (λ desk. desk.marks ≡ map (λ t. replicate (length t) Free) trees.now) }
         ensures sides { IfOk result (λ desk. desk.sides.items ≡ []) }
     {
-        let Ok(marks) = Fixings::free(alloc, trees) else {
-            return Err(NoMemory);
-        };
-        let Ok(sides) = Vec::with_capacity(alloc, 2000) else {
-            return Err(NoMemory);
-        };
         Ok(Desk {
-            marks,
-            sides,
+            marks: Fixings::free(alloc, trees)?,
+            sides: Vec::with_capacity(alloc, 2000)?,
             room: Room::new(exact),
         })
     }

@@ -11,14 +11,13 @@ ghost use Rattle.ice_bound.specs.Kept.{IsNetAnswer, IsSumOfNets, AreRelaxedSets,
 use crate::answer::{Bound, NetSum};
 use crate::bounds::floor_64th;
 use crate::copy::copy_fixings;
-use crate::desk::NoMemory;
 use crate::found::Found;
 use crate::goods::all_goods;
 use crate::multipliers::Multipliers;
 use crate::total_units::TotalUnits;
 use ice_best::{Fixings, Mark};
 use ice_tree::{AllWeights, Assignment, Tree, Weights};
-use std::alloc::Global;
+use std::alloc::{AllocError, Global};
 use std::marker::Model;
 
 /// The bound of one list of trees at weights that stay, kept at hand while marks and multipliers change. For each bidder
@@ -72,7 +71,7 @@ fn copy_weights(tree: &Tree, weights: &Weights) -> Weights
 }
 
 /// The weights of all trees once more.
-fn copy_all(alloc: Global, trees: &[Tree], weights: &AllWeights) -> Result<Vec<Weights>, NoMemory>
+fn copy_all(alloc: Global, trees: &[Tree], weights: &AllWeights) -> Result<Vec<Weights>, AllocError>
     requires few { length trees.now ≤ 40 }
     requires weights { AreWeightsOf trees.now weights.now }
     ensures { IfOk result (λ copies. copies.items ≡ weights.now) }
@@ -80,9 +79,7 @@ fn copy_all(alloc: Global, trees: &[Tree], weights: &AllWeights) -> Result<Vec<W
     let mut copies = Vec::new(alloc);
     for bidder in 0..trees.len() as u8 {
         let copy = copy_weights(&trees[bidder as usize], weights.of(bidder));
-        if copies.push(copy).is_err() {
-            return Err(NoMemory);
-        }
+        copies.push(copy)?;
     }
     Ok(copies)
 }
@@ -131,7 +128,7 @@ impl<'a> Kept<'a> {
         trees: &'a [Tree],
         weights: &AllWeights,
         exact: &[bool],
-    ) -> Result<Kept<'a>, NoMemory>
+    ) -> Result<Kept<'a>, AllocError>
         requires few { length trees.now ≤ 40 }
         requires goods { length exact.now ≤ 32 }
         requires weights { AreWeightsOf trees.now weights.now }
@@ -145,9 +142,7 @@ impl<'a> Kept<'a> {
     {
         let weights = copy_all(alloc, trees, weights)?;
         let goods = all_goods(alloc, trees)?;
-        let Ok(marks) = Fixings::free(alloc, trees) else {
-            return Err(NoMemory);
-        };
+        let marks = Fixings::free(alloc, trees)?;
         let m = Multipliers::zero(exact.len() as u8);
         let mut found = Found::new(alloc, trees, exact)?;
         found.renew_all(trees, &weights, &m, &marks);

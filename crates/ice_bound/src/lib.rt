@@ -19,7 +19,7 @@ mod total_units;
 pub use answer::{Bound, NetSum};
 pub use bounds::{bound, bound_here, floor_64th};
 pub use copy::copy_fixings;
-pub use desk::{Desk, NoMemory};
+pub use desk::Desk;
 pub use kept::Kept;
 pub use laws::{bounds_are_sound, dead_sides_have_none};
 pub use multipliers::Multipliers;

@@ -6,10 +6,9 @@ ghost use Rattle.ice_check.specs.Progress.{nothing, out_of_memory, is_ready, nex
 ghost use Rattle.ice_check.specs.Answers.{EndsWith};
 
 use crate::answer::{Answer, CheckEnd};
-use crate::memory::NoMemory;
 use crate::stage::Stage;
 use ice_journal::Line;
-use std::alloc::Global;
+use std::alloc::{AllocError, Global};
 use std::marker::Model;
 use std::mem;
 
@@ -35,7 +34,7 @@ impl Model for Checker {
 
 impl Checker {
     /// A checker that has taken no record.
-    pub fn new(alloc: Global) -> Result<Checker, NoMemory>
+    pub fn new(alloc: Global) -> Result<Checker, AllocError>
         ensures made { result ≡ Ok nothing }
     {
         Ok(Checker {
@@ -48,7 +47,7 @@ impl Checker {
     /// Takes the next record.
     ///
     /// Fewer than 2^63 records came before it. After `NoMemory` it takes no more records, and each later call answers `NoMemory`. Where `ready` is true, no memory is wanted.
-    pub fn feed(&mut self, line: &Line) -> Result<(), NoMemory>
+    pub fn feed(&mut self, line: &Line) -> Result<(), AllocError>
         requires lawful { IsRecord (record_of line.now) }
         requires few { next_line self.old < 2 ^ 63 }
         ensures after { OnOk result (IsAfter self.old (record_of line.now) self.new) }

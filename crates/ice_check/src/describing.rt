@@ -11,22 +11,18 @@ use crate::groups::Groups;
 use crate::halt::Halt;
 use crate::head::Head;
 use crate::lines::head_in;
-use crate::memory::NoMemory;
 use crate::rule::Rule;
 use crate::stage::Stage;
 use ice_journal::Line;
 use ice_section::{Section, SectionFault};
 use ice_trade::Exchange;
-use std::alloc::Global;
+use std::alloc::{AllocError, Global};
 
 /// The section of a journal, with no record yet.
-fn no_section(alloc: Global) -> Result<Box<Section>, NoMemory>
+fn no_section(alloc: Global) -> Result<Box<Section>, AllocError>
     ensures { IfOk result (λ section. section.value ≡ no_section) }
 {
-    match Box::new(alloc, Section::new(alloc)?) {
-        Ok(section) => Ok(section),
-        Err(_) => Err(NoMemory),
-    }
+    Ok(Box::new(alloc, Section::new(alloc)?)?)
 }
 
 /// The first record is read.
@@ -66,11 +62,11 @@ fn describe_more(head: Head, mut section: Box<Section>, line: &Line) -> Result<S
 }
 
 /// The exchange that a complete section describes.
-fn exchange_in(section: Box<Section>) -> Result<Exchange, NoMemory>
+fn exchange_in(section: Box<Section>) -> Result<Exchange, AllocError>
     requires { IsTrue (may_end section.value) }
     ensures { IfOk result (λ exchange. exchange ≡ exchange_in section.value) }
 {
-    Ok(Box::into_inner(section).finish()?)
+    Box::into_inner(section).finish()
 }
 
 /// The exchange is complete, and the record opens the first group with this value.

@@ -13,7 +13,6 @@ use crate::broken::broken_rule;
 use crate::head::Head;
 use crate::lines::{amount_in, head_value, is_spent, set_in};
 use crate::log::LogWalk;
-use crate::memory::NoMemory;
 use crate::next::Next;
 use crate::rule::Rule;
 use crate::stated::Stated;
@@ -21,7 +20,7 @@ use ice_defs::Group;
 use ice_journal::Line;
 use ice_trade::Exchange;
 use ice_tree::{Assignment, NodeSet};
-use std::alloc::Global;
+use std::alloc::{AllocError, Global};
 
 /// A journal whose exchange is complete: what comes next in it, and what the tests look back at.
 #[derive(Drop)]
@@ -63,7 +62,7 @@ impl Groups {
         head: Head,
         exchange: Exchange,
         value: i64,
-    ) -> Result<Groups, NoMemory>
+    ) -> Result<Groups, AllocError>
         ensures { IfOk result (Begins head exchange value) }
     {
         let group = head.first_group();

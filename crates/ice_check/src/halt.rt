@@ -1,6 +1,6 @@
 //! Why the tests of a journal don't go on.
-use crate::memory::NoMemory;
 use crate::rule::Rule;
+use std::alloc::AllocError;
 
 /// Why the tests don't go on with a record: it fails this test first, or there is no memory for it.
 #[derive(Clone, Copy, PartialEq, Eq, Debug)]
@@ -20,13 +20,13 @@ impl From<Rule> for Halt {
     }
 }
 
-impl From<NoMemory> for Halt {
+impl From<AllocError> for Halt {
     ghost use Rattle.std.specs.Prelude.{◌≡◌};
     ghost use Rattle.ice_check.specs.declared.halt.Halt.TheVariants.{NoMemory};
 
     ghost from_gives = { λ _ halt. halt ≡ NoMemory };
 
-    fn from(_: NoMemory) -> Halt {
+    fn from(_: AllocError) -> Halt {
         Halt::NoMemory
     }
 }

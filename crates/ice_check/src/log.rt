@@ -10,7 +10,6 @@ ghost use Rattle.ice_defs.specs.Steps.{sides_after};
 ghost use Rattle.ice_check.specs.Fields.{multipliers_after};
 ghost use Rattle.ice_check.specs.Logs.{IsWalkOf, weights_in, IsStepOf, HasSameWalk, rule_of_fault, PassesThere, FailsThere, GoesOn, BreaksOff};
 
-use crate::memory::NoMemory;
 use crate::rule::Rule;
 use crate::steps_in::{misstates, step_in};
 use ice_best::Fixings;
@@ -20,7 +19,7 @@ use ice_journal::{Line, Version};
 use ice_refute::{LogFault, Step, Walk};
 use ice_trade::Exchange;
 use ice_tree::{AllWeights, Assignment, Tree};
-use std::alloc::Global;
+use std::alloc::{AllocError, Global};
 
 /// What a log is walked with: the weights of its group, the side that it begins with, where the walk has come, and the
 /// multipliers of the leaf before.
@@ -49,7 +48,7 @@ fn rule_of(fault: LogFault) -> Rule
 
 impl LogWalk {
     /// No log yet, at the lower values of the exchange, with the memory for all its logs.
-    pub(crate) fn new(alloc: Global, exchange: &Exchange) -> Result<LogWalk, NoMemory>
+    pub(crate) fn new(alloc: Global, exchange: &Exchange) -> Result<LogWalk, AllocError>
         ensures { IfOk result (IsWalkOf (trees_of exchange.now) (exact_of exchange.now)) }
     {
         let trees = exchange.trees();

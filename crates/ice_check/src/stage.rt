@@ -11,11 +11,10 @@ use crate::describing::{begin, describe};
 use crate::groups::Groups;
 use crate::halt::Halt;
 use crate::head::Head;
-use crate::memory::NoMemory;
 use crate::rule::Rule;
 use ice_journal::Line;
 use ice_section::Section;
-use std::alloc::Global;
+use std::alloc::{AllocError, Global};
 
 /// How far the records of a journal have come.
 #[derive(Drop)]
@@ -65,7 +64,7 @@ impl Stage {
     }
 
     /// The stage after a record, which stands in the line with this number.
-    pub(crate) fn after(self, alloc: Global, number: u64, line: &Line) -> Result<Stage, NoMemory>
+    pub(crate) fn after(self, alloc: Global, number: u64, line: &Line) -> Result<Stage, AllocError>
         requires within { IsWithin number self }
         requires lawful { IsRecord (record_of line.now) }
         ensures after { IfOk result (λ next. IsAfter (progress_of number self)
@@ -77,7 +76,7 @@ impl Stage {
         match self.step(alloc, line) {
             Ok(next) => Ok(next),
             Err(Halt::Fails(rule)) => Ok(Stage::Failed { line: number, rule }),
-            Err(Halt::NoMemory) => Err(NoMemory),
+            Err(Halt::NoMemory) => Err(AllocError),
         }
     }
 

@@ -8,8 +8,8 @@ ghost use Rattle.ice_tree.specs.Alike.{HasSetPerTree};
 ghost use Rattle.ice_defs.specs.Trade.{total_value};
 
 use ice_trade::Exchange;
-use ice_tree::{AllWeights, Assignment, NoMemory, NodeSet, Tree};
-use std::alloc::Global;
+use ice_tree::{AllWeights, Assignment, NodeSet, Tree};
+use std::alloc::{AllocError, Global};
 use std::marker::Model;
 use std::mem;
 
@@ -34,7 +34,7 @@ impl Model for Stated {
 
 impl Stated {
     /// No set yet, with the memory for all.
-    pub(crate) fn new(alloc: Global, exchange: Exchange) -> Result<Stated, NoMemory>
+    pub(crate) fn new(alloc: Global, exchange: Exchange) -> Result<Stated, AllocError>
         ensures made { IfOk result (λ s. s ≡ record { exchange = exchange; sets = [] }) }
         ensures few { IfOk result (λ _. length (trees_of exchange) ≤ 40) }
     {

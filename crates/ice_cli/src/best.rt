@@ -16,8 +16,8 @@ use ice_edge::{Shelf, Sink, Status};
 use ice_net::{Scratch, best_at_prices};
 use ice_terms::Prices;
 use ice_trade::Exchange;
-use ice_tree::{AllWeights, NoMemory};
-use std::alloc::Global;
+use ice_tree::AllWeights;
+use std::alloc::{AllocError, Global};
 
 /// The best set of a bidder. Weighted values are in hundredths, so units cost 100 times their price.
 fn best_set(
@@ -45,7 +45,7 @@ fn best_set(
 }
 
 /// The best sets of all bidders, in order.
-fn best_sets(alloc: Global, exchange: &Exchange, prices: &Prices) -> Result<Vec<BestSet>, NoMemory>
+fn best_sets(alloc: Global, exchange: &Exchange, prices: &Prices) -> Result<Vec<BestSet>, AllocError>
     ensures { IfOk result (λ sets.
         AreBestSets exchange.now prices.now 0 (names_of exchange.now) sets.items) }
 {
@@ -54,9 +54,7 @@ fn best_sets(alloc: Global, exchange: &Exchange, prices: &Prices) -> Result<Vec<
     let mut sets = Vec::new(alloc);
     for bidder in 0..exchange.bidders() {
         let best = best_set(exchange, prices, &weights, bidder, &mut scratch);
-        let Ok(()) = sets.push(best) else {
-            return Err(NoMemory);
-        };
+        sets.push(best)?;
     }
     Ok(sets)
 }
@@ -77,7 +75,7 @@ fn best_of_files<H: Shelf>(
     let prices = read_prices(alloc, 2, prices, exchange.goods(), shelf)?;
     match best_sets(alloc, &exchange, &prices) {
         Ok(sets) => Ok(sets),
-        Err(NoMemory) => Err(Refusal::NoMemory),
+        Err(AllocError) => Err(Refusal::NoMemory),
     }
 }
 

@@ -3,7 +3,7 @@
 #![tactic(auto)]
 
 use ice_gen::{Generated, generate};
-use ice_read::{NoMemory, write_exchange};
+use ice_read::write_exchange;
 use ice_trade::Exchange;
 use ice_tree::Bounds;
 use serde_json::{Value, json};
@@ -51,7 +51,7 @@ fn truths(alloc: Global, exchange: &Exchange, truth: &[Bounds]) -> Result<Vec<u8
 }
 
 // The two files.
-fn files(alloc: Global, number: u32) -> Result<(Vec<u8>, Vec<u8>), NoMemory> {
+fn files(alloc: Global, number: u32) -> Result<(Vec<u8>, Vec<u8>), AllocError> {
     let Generated { exchange, truth } = generate(alloc, number)?;
     let truths = truths(alloc, &exchange, &truth)?;
     Ok((write_exchange(alloc, &exchange)?, truths))

@@ -3,17 +3,6 @@ use ice_frac::Wide;
 use std::alloc::AllocError;
 use thiserror::Error;
 
-/// There is no memory left.
-#[derive(Clone, Copy, Debug, Error, PartialEq, Eq)]
-#[error("no memory is left")]
-pub struct NoMemory;
-
-impl From<AllocError> for NoMemory {
-    fn from(_: AllocError) -> NoMemory {
-        NoMemory
-    }
-}
-
 /// Why a program has no answer.
 #[derive(Clone, Copy, Debug, Error, PartialEq, Eq)]
 pub enum LpEnd {
@@ -39,13 +28,13 @@ impl From<Wide> for LpEnd {
     }
 }
 
-impl From<NoMemory> for LpEnd {
+impl From<AllocError> for LpEnd {
     ghost use Rattle.std.specs.Prelude.{◌≡◌};
     ghost use Rattle.ice_lp.specs.declared.ends.LpEnd.{LpEnd};
 
     ghost from_gives = { λ _ e. e ≡ LpEnd.NoMemory };
 
-    fn from(_: NoMemory) -> LpEnd {
+    fn from(_: AllocError) -> LpEnd {
         LpEnd::NoMemory
     }
 }

@@ -6,7 +6,6 @@ ghost use Rattle.ice_defs.specs.Dictionary.{first_left, first_dictionary};
 ghost use Rattle.ice_lp.specs.Limits.{IsNumber, IsConstraint};
 
 use crate::dictionary::{Dictionary, LeftRow};
-use crate::ends::NoMemory;
 use crate::program::{Program, Row};
 use ice_frac::Frac;
 use std::alloc::{AllocError, Global};
@@ -23,24 +22,24 @@ pub(crate) fn whole(number: i128) -> Frac
 }
 
 /// The numbers below a number.
-fn numbers(alloc: Global, count: usize) -> Result<Vec<usize>, NoMemory>
+fn numbers(alloc: Global, count: usize) -> Result<Vec<usize>, AllocError>
     ensures { IfOk result (λ made. made.items ≡ numbers_below count) }
 {
     let mut made = Vec::with_capacity(alloc, count)?;
     for number in 0..count {
-        made.push(number).map_err(AllocError::from)?;
+        made.push(number)?;
     }
     Ok(made)
 }
 
 /// The least of each row.
-fn leasts(alloc: Global, rows: &[Row], columns: usize) -> Result<Vec<Frac>, NoMemory>
+fn leasts(alloc: Global, rows: &[Row], columns: usize) -> Result<Vec<Frac>, AllocError>
     requires { All (IsConstraint columns) rows.now }
     ensures { IfOk result (λ made. made.items ≡ map (λ row. whole row.least) rows.now) }
 {
     let mut made = Vec::with_capacity(alloc, rows.len())?;
     for row in rows {
-        made.push(whole(row.least)).map_err(AllocError::from)?;
+        made.push(whole(row.least))?;
     }
     Ok(made)
 }
@@ -60,7 +59,7 @@ fn minus_all(
     rows: &[Row],
     column: usize,
     columns: usize,
-) -> Result<Vec<Frac>, NoMemory>
+) -> Result<Vec<Frac>, AllocError>
     requires within { column < columns }
     requires proper { All (IsConstraint columns) rows.now }
     ensures { IfOk result (λ made. made.items
@@ -68,13 +67,13 @@ fn minus_all(
 {
     let mut made = Vec::with_capacity(alloc, rows.len())?;
     for row in rows {
-        made.push(minus(row, column)).map_err(AllocError::from)?;
+        made.push(minus(row, column))?;
     }
     Ok(made)
 }
 
 /// The row of a column's slack.
-fn first_row(alloc: Global, program: &Program, column: usize) -> Result<LeftRow, NoMemory>
+fn first_row(alloc: Global, program: &Program, column: usize) -> Result<LeftRow, AllocError>
     requires { column < length program.now.costs }
     ensures { IfOk result (λ row. row ≡ first_left program.now column) }
 {
@@ -88,21 +87,20 @@ fn first_row(alloc: Global, program: &Program, column: usize) -> Result<LeftRow,
 }
 
 /// The rows of the slacks.
-fn first_rows(alloc: Global, program: &Program) -> Result<Vec<LeftRow>, NoMemory>
+fn first_rows(alloc: Global, program: &Program) -> Result<Vec<LeftRow>, AllocError>
     ensures { let columns = numbers_below (length program.now.costs) in
         IfOk result (λ made. made.items ≡ map (first_left program.now) columns) }
 {
     let columns = program.costs().len();
     let mut made = Vec::with_capacity(alloc, columns)?;
     for column in 0..columns {
-        made.push(first_row(alloc, program, column)?)
-            .map_err(AllocError::from)?;
+        made.push(first_row(alloc, program, column)?)?;
     }
     Ok(made)
 }
 
 /// The first dictionary of a program.
-pub(crate) fn first(alloc: Global, program: &Program) -> Result<Dictionary, NoMemory>
+pub(crate) fn first(alloc: Global, program: &Program) -> Result<Dictionary, AllocError>
     ensures { IfOk result (λ d. d ≡ first_dictionary program.now) }
 {
     let rows = program.rows();

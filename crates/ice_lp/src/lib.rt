@@ -10,7 +10,7 @@ mod reading;
 mod spot;
 mod trace;
 
-pub use ends::{LpEnd, NoMemory};
+pub use ends::LpEnd;
 pub use program::Program;
 pub use reading::LpAnswer;
 pub use trace::solve;

@@ -2,7 +2,6 @@
 ghost use Rattle.std.specs.Prelude.{◌≡◌, ◌<◌, ◌≤◌, [], length, pos, ◌≤ℤ◌, All, IfOk, OnOk, OnErr};
 ghost use Rattle.ice_lp.specs.Limits.{IsNumber, IsProgram, with_row};
 
-use crate::ends::NoMemory;
 use std::alloc::{AllocError, Global};
 use std::marker::Model;
 
@@ -45,7 +44,7 @@ impl Model for Program {
 }
 
 /// The same numbers.
-fn copied(alloc: Global, numbers: &[i128]) -> Result<Vec<i128>, NoMemory>
+fn copied(alloc: Global, numbers: &[i128]) -> Result<Vec<i128>, AllocError>
     ensures { IfOk result (λ made. made.items ≡ numbers.now) }
 {
     Ok(numbers.to_vec(alloc)?)
@@ -53,7 +52,7 @@ fn copied(alloc: Global, numbers: &[i128]) -> Result<Vec<i128>, NoMemory>
 
 impl Program {
     /// A program with these costs, one a column, and no row yet: 1 to 64 whole numbers from 0 to 2^90.
-    pub fn new(alloc: Global, costs: &[i128]) -> Result<Program, NoMemory>
+    pub fn new(alloc: Global, costs: &[i128]) -> Result<Program, AllocError>
         requires some { 0 < length costs.now }
         requires few { length costs.now ≤ 64 }
         requires sized { All IsNumber costs.now }
@@ -69,7 +68,7 @@ impl Program {
 
     /// Adds a row to fewer than 400, with one coefficient a column, all within 2^90 in size. Where there is no
     /// memory the program stays as it was.
-    pub fn row(&mut self, coeffs: &[i128], least: i128) -> Result<(), NoMemory>
+    pub fn row(&mut self, coeffs: &[i128], least: i128) -> Result<(), AllocError>
         requires few { length self.old.rows < 400 }
         requires same_length { length coeffs.now ≡ length self.old.costs }
         requires coeffs_sized { All IsNumber coeffs.now }
@@ -81,7 +80,7 @@ impl Program {
             coeffs: copied(self.alloc, coeffs)?,
             least,
         };
-        self.rows.push(row).map_err(AllocError::from)?;
+        self.rows.push(row)?;
         Ok(())
     }
 

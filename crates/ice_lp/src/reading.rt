@@ -6,7 +6,6 @@ ghost use Rattle.ice_defs.specs.Trace.{constant_of, duals_of, objective_of, poin
 ghost use Rattle.ice_lp.specs.Answers.{IsRead};
 
 use crate::dictionary::{Dictionary, LeftRow};
-use crate::ends::NoMemory;
 use crate::first::whole;
 use crate::program::Program;
 use crate::spot::Spot;
@@ -114,13 +113,12 @@ impl Dictionary {
 }
 
 /// The duals of a dictionary that ends with the least, for so many rows.
-fn duals(alloc: Global, dictionary: &Dictionary, rows: usize) -> Result<Vec<Frac>, NoMemory>
+fn duals(alloc: Global, dictionary: &Dictionary, rows: usize) -> Result<Vec<Frac>, AllocError>
     ensures { IfOk result (λ made. made.items ≡ map (constant_of dictionary.now) (numbers_below rows)) }
 {
     let mut made = Vec::with_capacity(alloc, rows)?;
     for row in 0..rows {
-        made.push(dictionary.constant_of(row))
-            .map_err(AllocError::from)?;
+        made.push(dictionary.constant_of(row))?;
     }
     Ok(made)
 }
@@ -131,15 +129,14 @@ fn point(
     dictionary: &Dictionary,
     rows: usize,
     columns: usize,
-) -> Result<Vec<Frac>, NoMemory>
+) -> Result<Vec<Frac>, AllocError>
     requires { rows + columns ≤ 1000 }
     ensures { IfOk result (λ made. made.items
         ≡ map (λ j. negated (objective_of dictionary.now (rows + j))) (numbers_below columns)) }
 {
     let mut made = Vec::with_capacity(alloc, columns)?;
     for column in 0..columns {
-        made.push(dictionary.objective_of(rows + column).negated())
-            .map_err(AllocError::from)?;
+        made.push(dictionary.objective_of(rows + column).negated())?;
     }
     Ok(made)
 }
@@ -150,14 +147,13 @@ fn mix(
     dictionary: &Dictionary,
     entering: Spot,
     rows: usize,
-) -> Result<Vec<Frac>, NoMemory>
+) -> Result<Vec<Frac>, AllocError>
     ensures { let multiplier = mix_entry dictionary.now entering in
         IfOk result (λ made. made.items ≡ map multiplier (numbers_below rows)) }
 {
     let mut made = Vec::with_capacity(alloc, rows)?;
     for row in 0..rows {
-        made.push(dictionary.mix_entry(entering, row))
-            .map_err(AllocError::from)?;
+        made.push(dictionary.mix_entry(entering, row))?;
     }
     Ok(made)
 }
@@ -168,7 +164,7 @@ pub(crate) fn read(
     program: &Program,
     dictionary: &Dictionary,
     entering: Option<Spot>,
-) -> Result<LpAnswer, NoMemory>
+) -> Result<LpAnswer, AllocError>
     ensures { IfOk result (IsRead program.now dictionary.now entering) }
 {
     let rows = program.rows().len();

@@ -7,7 +7,6 @@ ghost use Rattle.ice_read.specs.Written.{items_of, settings_data, good_data, lea
 ghost use Rattle.ice_read.specs.ExchangeFile.{exchange_of};
 ghost use Rattle.ice_read.specs.Parts.{with_tree, bidder_of, choose_data, named_data, file_data};
 
-use crate::memory::NoMemory;
 use ice_terms::{Name, Settings};
 use ice_trade::Exchange;
 use ice_tree::{Bounds, NodeKind, Tree};
@@ -179,7 +178,7 @@ fn exchange_value(alloc: Global, ex: &Exchange) -> Result<Value, AllocError>
 }
 
 /// The exchange as a file in JSON: without spaces, the members of each object in the order of their names' bytes, and of what a bidder owns only the amounts that aren't 0. What is written is read again as the same exchange. Only for want of memory can it fail.
-pub fn write_exchange(alloc: Global, ex: &Exchange) -> Result<Vec<u8>, NoMemory>
+pub fn write_exchange(alloc: Global, ex: &Exchange) -> Result<Vec<u8>, AllocError>
     ensures text { IfOk result (λ text. text.items ≡ exchange_text ex.now) }
     ensures read_again { IfOk result (λ text. exchange_of text.items ≡ Ok ex.now) }
 {

@@ -4,11 +4,6 @@ ghost use Rattle.ice_refute.specs.Faults.{with_number};
 
 use thiserror::Error;
 
-/// There is no memory left.
-#[derive(Clone, Copy, Debug, Error, PartialEq, Eq)]
-#[error("no memory is left")]
-pub struct NoMemory;
-
 /// The first fault of a log, with the number of its step, counted from 0.
 #[derive(Clone, Copy, Debug, Error, PartialEq, Eq)]
 pub enum LogFault {

@@ -13,7 +13,7 @@ mod tests;
 mod walk;
 
 pub use check::check_log;
-pub use fault::{LogFault, NoMemory};
+pub use fault::LogFault;
 pub use laws::{logs_are_short, logs_close, logs_refute};
 pub use step::{Log, Step};
 pub use walk::Walk;

@@ -2,9 +2,8 @@
 ghost use Rattle.std.specs.Prelude.{◌≡◌, ◌++◌, ◌∷◌, [], OnOk, OnErr};
 ghost use Rattle.ice_refute.specs.Code.{step_of, steps_of};
 
-use crate::fault::NoMemory;
 use ice_bound::Multipliers;
-use std::alloc::Global;
+use std::alloc::{AllocError, Global};
 use std::marker::Model;
 
 /// A step of a log.
@@ -46,14 +45,12 @@ impl Log {
     }
 
     /// Appends a step.
-    pub fn push(&mut self, step: Step) -> Result<(), NoMemory>
+    pub fn push(&mut self, step: Step) -> Result<(), AllocError>
         ensures ok { OnOk result (self.new ≡ self.old ++ step_of step ∷ []) }
         ensures err { OnErr result (self.new ≡ self.old) }
     {
-        match self.steps.push(step) {
-            Ok(()) => Ok(()),
-            Err(_) => Err(NoMemory),
-        }
+        self.steps.push(step)?;
+        Ok(())
     }
 
     /// The steps in order.

@@ -6,11 +6,11 @@ ghost use Rattle.ice_bound.specs.Conditions.{AreWeightsOf, AreBoundsOf};
 ghost use Rattle.ice_refute.specs.Code.{CountsGoods, step_of};
 ghost use Rattle.ice_refute.specs.Waiting.{nodes_of};
 
-use crate::{Log, LogFault, NoMemory, Step, Walk, check_log};
+use crate::{Log, LogFault, Step, Walk, check_log};
 use ice_best::Fixings;
 use ice_bound::{Desk, Multipliers};
 use ice_tree::{AllWeights, Bounds, NodeKind, Tree, TreeFault, TreeMaker};
-use std::alloc::Global;
+use std::alloc::{AllocError, Global};
 use std::process::Abort;
 use std::test::Fail;
 
@@ -43,36 +43,28 @@ fn buys(value: i64) -> Result<(Tree, Bounds), TreeFault>
 }
 
 /// The lower values as weights.
-fn lower(alloc: Global, trees: &[Tree], bounds: &[Bounds]) -> Result<AllWeights, NoMemory>
+fn lower(alloc: Global, trees: &[Tree], bounds: &[Bounds]) -> Result<AllWeights, AllocError>
     requires { AreBoundsOf trees.now bounds.now }
     ensures { IfOk result (AreWeightsOf trees.now) }
 {
-    let Ok(mut weights) = AllWeights::new(alloc, trees) else {
-        return Err(NoMemory);
-    };
+    let mut weights = AllWeights::new(alloc, trees)?;
     weights.fill_lower(bounds);
     Ok(weights)
 }
 
 /// A desk for the trees, with one good that isn't exact.
-fn desk(alloc: Global, trees: &[Tree]) -> Result<Desk, NoMemory>
+fn desk(alloc: Global, trees: &[Tree]) -> Result<Desk, AllocError>
     ensures marks { IfOk result (λ desk. nodes_of desk.marks ≡ nodes_of trees.now) }
     ensures exact { IfOk result (λ desk. desk.room ≡ false ∷ []) }
 {
-    match Desk::new(alloc, trees, &[false]) {
-        Ok(desk) => Ok(desk),
-        Err(_) => Err(NoMemory),
-    }
+    Desk::new(alloc, trees, &[false])
 }
 
 /// Every node free.
-fn free(alloc: Global, trees: &[Tree]) -> Result<Fixings, NoMemory>
+fn free(alloc: Global, trees: &[Tree]) -> Result<Fixings, AllocError>
     ensures { IfOk result (λ fixings. nodes_of fixings ≡ nodes_of trees.now) }
 {
-    match Fixings::free(alloc, trees) {
-        Ok(fixings) => Ok(fixings),
-        Err(_) => Err(NoMemory),
-    }
+    Fixings::free(alloc, trees)
 }
 
 fn step(plain: Plain) -> Step
@@ -89,7 +81,7 @@ fn step(plain: Plain) -> Step
     }
 }
 
-fn log(alloc: Global, steps: &[Plain]) -> Result<Log, NoMemory>
+fn log(alloc: Global, steps: &[Plain]) -> Result<Log, AllocError>
     ensures { IfOk result (AllByRecursion (CountsGoods 1)) }
 {
     let mut log = Log::new(alloc);
@@ -107,7 +99,7 @@ fn outcome(
     start: &Fixings,
     desk: &mut Desk,
     steps: &[Plain],
-) -> Result<Result<(), LogFault>, NoMemory>
+) -> Result<Result<(), LogFault>, AllocError>
     requires few { length trees.now ≤ 40 }
     requires nodes { sum (nodes_of trees.now) ≤ 2000 }
     requires weights { AreWeightsOf trees.now weights.now }
@@ -130,7 +122,7 @@ fn judge_all(
     start: &Fixings,
     desk: &mut Desk,
     cases: &[(&[Plain], Result<(), LogFault>)],
-) -> Result<(), NoMemory>
+) -> Result<(), AllocError>
     requires few { length trees.now ≤ 40 }
     requires nodes { sum (nodes_of trees.now) ≤ 2000 }
     requires weights { AreWeightsOf trees.now weights.now }

@@ -7,14 +7,14 @@ ghost use Rattle.ice_refute.specs.Passing.{PassesAt, HasFault};
 ghost use Rattle.ice_refute.specs.Waiting.{nodes_of, first_side};
 
 use crate::copy::copy_fixings;
-use crate::fault::{LogFault, NoMemory};
+use crate::fault::LogFault;
 use crate::judge::judge;
 use crate::sides::advance;
 use crate::step::Step;
 use ice_best::Fixings;
 use ice_bound::Desk;
 use ice_tree::{AllWeights, Tree};
-use std::alloc::Global;
+use std::alloc::{AllocError, Global};
 use std::marker::Model;
 
 /// A walk through the steps of a log, which need not lie in memory. It is seen as the list of its open sides, the next
@@ -40,20 +40,14 @@ impl Model for Walk {
 impl Walk {
     /// A walk for these trees, with no open side. The trees have at most 2,000 nodes together. Takes all the memory that
     /// the walk needs.
-    pub fn new(alloc: Global, trees: &[Tree]) -> Result<Walk, NoMemory>
+    pub fn new(alloc: Global, trees: &[Tree]) -> Result<Walk, AllocError>
         requires { sum (nodes_of trees.now) ≤ 2000 }
         ensures closed { IfOk result (λ walk. walk.sides ≡ []) }
         ensures nodes { IfOk result (λ walk. walk.nodes ≡ nodes_of trees.now) }
     {
-        let Ok(marks) = Fixings::free(alloc, trees) else {
-            return Err(NoMemory);
-        };
-        let Ok(branches) = Vec::with_capacity(alloc, 2000) else {
-            return Err(NoMemory);
-        };
         Ok(Walk {
-            marks,
-            branches,
+            marks: Fixings::free(alloc, trees)?,
+            branches: Vec::with_capacity(alloc, 2000)?,
             is_open: false,
         })
     }

@@ -7,12 +7,12 @@ ghost use Rattle.ice_section.specs.LineFile.{is_exchange_end, IsExchangeOfLines}
 ghost use Rattle.ice_section.specs.FileSteps.{is_exchange_head, IsBegun, exchange_after};
 ghost use Rattle.ice_section.specs.FileStates.{so_far, IsNumberOf, IsFaultOf, IsFaultFrom};
 
-use crate::faults::{LineFileFault, NoMemory, SectionFault};
+use crate::faults::{LineFileFault, SectionFault};
 use crate::record_lines::next_record;
 use crate::section::Section;
 use ice_journal::{EndWord, Kind, Line, Version};
 use ice_trade::Exchange;
-use std::alloc::Global;
+use std::alloc::{AllocError, Global};
 
 /// What of an exchange file was read.
 #[derive(Clone, Copy)]
@@ -62,7 +62,7 @@ fn fault_number(fault: SectionFault) -> Option<u8>
 
 impl ExchangeFile {
     // Takes the next record, after so many lines. Want of memory alone ends it: a fault is kept, since a later line at fault comes before it.
-    fn take(&mut self, lines: u64, next: &Line) -> Result<(), NoMemory>
+    fn take(&mut self, lines: u64, next: &Line) -> Result<(), AllocError>
         requires few { lines < 2 ^ 63 }
         requires lawful { IsRecord (record_of next.now) }
         requires begun { IsBegun lines (so_far self.old) self.old.section }
@@ -86,7 +86,7 @@ impl ExchangeFile {
                     self.stage = Stage::End;
                 } else if let Err(fault) = self.section.take(next) {
                     let Some(number) = fault_number(fault) else {
-                        return Err(NoMemory);
+                        return Err(AllocError);
                     };
                     self.stage = Stage::Failed { number, line };
                 }
@@ -125,7 +125,7 @@ impl ExchangeFile {
                 }
                 match section.finish() {
                     Ok(exchange) => Ok(exchange),
-                    Err(NoMemory) => Err(LineFileFault::NoMemory),
+                    Err(AllocError) => Err(LineFileFault::NoMemory),
                 }
             }
             Stage::Failed { number, line } => Err(LineFileFault::Fault { number, line }),

@@ -1,11 +1,6 @@
 //! Why a record is refused.
 use thiserror::Error;
 
-/// There is no memory left.
-#[derive(Clone, Copy, Debug, Error, PartialEq, Eq)]
-#[error("no memory is left")]
-pub struct NoMemory;
-
 /// Why a section does not take a record.
 #[derive(Clone, Copy, Debug, Error, PartialEq, Eq)]
 pub enum SectionFault {

@@ -10,7 +10,7 @@ mod record_lines;
 mod section;
 
 pub use exchange_file::read_exchange_lines;
-pub use faults::{LineFileFault, NoMemory, SectionFault};
+pub use faults::{LineFileFault, SectionFault};
 pub use prices_file::read_prices_lines;
 pub use section::Section;
 

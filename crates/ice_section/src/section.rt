@@ -13,13 +13,13 @@ ghost use Rattle.ice_section.specs.Section.{no_section, may_end, exchange_in, na
 ghost use Rattle.ice_section.specs.Refusal.{IsRefusal, IsMakerRefusal};
 
 use crate::draft::Draft;
-use crate::faults::{NoMemory, SectionFault};
+use crate::faults::SectionFault;
 use arrayvec::ArrayVec;
 use ice_defs::NodeKind;
 use ice_journal::Line;
 use ice_terms::{Name, Settings};
 use ice_trade::{Exchange, ExchangeMaker, MakeFault};
-use std::alloc::Global;
+use std::alloc::{AllocError, Global};
 use std::marker::Model;
 
 /// The section of a journal or file that describes its exchange, as far as its records were taken. After a refusal it takes no more: what it then answers is not said.
@@ -106,7 +106,7 @@ fn names_no_good(kind: NodeKind, goods: u8) -> bool
 
 impl Section {
     /// No record yet. It takes its memory with the record of the settings.
-    pub fn new(alloc: Global) -> Result<Section, NoMemory>
+    pub fn new(alloc: Global) -> Result<Section, AllocError>
         ensures { IfOk result (λ section. section ≡ no_section) }
     {
         Ok(Section {
@@ -259,7 +259,7 @@ impl Section {
     }
 
     /// The exchange that the records describe.
-    pub fn finish(self) -> Result<Exchange, NoMemory>
+    pub fn finish(self) -> Result<Exchange, AllocError>
         requires { IsTrue (may_end self) }
         ensures exchange { IfOk result (λ exchange. exchange ≡ exchange_in self) }
         ensures lawful { IfOk result IsExchange }
@@ -274,7 +274,7 @@ impl Section {
         };
         match maker.finish() {
             Ok(exchange) => Ok(exchange),
-            Err(_) => Err(NoMemory),
+            Err(_) => Err(AllocError),
         }
     }
 }

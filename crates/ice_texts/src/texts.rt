@@ -110,19 +110,3 @@ fn logs(rt: HostRuntime) -> Result<(), Fail> {
     }
     Ok(())
 }
-
-#[test]
-fn want_of_memory(rt: HostRuntime) -> Result<(), Fail> {
-    let alloc = rt.alloc();
-    for text in [
-        ice_tree::NoMemory.to_string(alloc)?,
-        ice_best::NoMemory.to_string(alloc)?,
-        ice_trade::NoMemory.to_string(alloc)?,
-        ice_refute::NoMemory.to_string(alloc)?,
-        ice_read::NoMemory.to_string(alloc)?,
-        ice_section::NoMemory.to_string(alloc)?,
-    ] {
-        assert_eq!(rt; text.as_str(), "no memory is left");
-    }
-    Ok(())
-}

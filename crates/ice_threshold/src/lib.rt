@@ -7,4 +7,4 @@ mod payments;
 mod ratio;
 
 pub use laws::{cut_down_is_threshold, cut_is_threshold, least_passes, passing_is_least};
-pub use payments::{NoMemory, Payments, threshold};
+pub use payments::{Payments, threshold};

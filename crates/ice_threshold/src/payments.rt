@@ -13,16 +13,6 @@ use crate::ratio::{Ratio, fraction, scaled};
 use ice_frac::Frac;
 use std::alloc::{AllocError, Global};
 
-/// No memory was left.
-#[derive(Clone, Copy, Debug, PartialEq, Eq)]
-pub struct NoMemory;
-
-impl From<AllocError> for NoMemory {
-    fn from(_: AllocError) -> NoMemory {
-        NoMemory
-    }
-}
-
 /// What the bidders of a settlement pay, as exact fractions in the order of the bidders.
 #[derive(Drop)]
 pub struct Payments {
@@ -101,16 +91,14 @@ fn surplus_at(vickrey: &[i128], total: i128, cut: Ratio) -> Frac
 }
 
 /// The discounts that the cut leaves.
-fn discounts_at(alloc: Global, vickrey: &[i128], cut: Ratio) -> Result<Vec<Frac>, NoMemory>
+fn discounts_at(alloc: Global, vickrey: &[i128], cut: Ratio) -> Result<Vec<Frac>, AllocError>
     requires limited { All IsVickreyLimit vickrey.now }
     ensures cut_down { IfOk result (λ discounts. AreCutDown cut discounts.items vickrey.now) }
     ensures small { IfOk result (λ discounts. All IsSmall discounts.items) }
 {
     let mut discounts = Vec::with_capacity(alloc, vickrey.len())?;
     for discount in vickrey {
-        discounts
-            .push(discount_at(*discount, cut))
-            .map_err(AllocError::from)?;
+        discounts.push(discount_at(*discount, cut))?;
     }
     Ok(discounts)
 }
@@ -121,7 +109,7 @@ fn payments_at(
     values: &[i128],
     vickrey: &[i128],
     cut: Ratio,
-) -> Result<Vec<Frac>, NoMemory>
+) -> Result<Vec<Frac>, AllocError>
     requires same_length { length vickrey.now ≡ length values.now }
     requires valued { All IsValueLimit values.now }
     requires limited { All IsVickreyLimit vickrey.now }
@@ -130,9 +118,7 @@ fn payments_at(
 {
     let mut payments = Vec::with_capacity(alloc, values.len())?;
     for i in 0..values.len() {
-        payments
-            .push(payment_at(values[i], vickrey[i], cut))
-            .map_err(AllocError::from)?;
+        payments.push(payment_at(values[i], vickrey[i], cut))?;
     }
     Ok(payments)
 }
@@ -147,7 +133,7 @@ pub fn threshold(
     values: &[i128],
     vickrey: &[i128],
     total: i128,
-) -> Result<Payments, NoMemory>
+) -> Result<Payments, AllocError>
     requires some { 0 < length values.now }
     requires few { length values.now ≤ 40 }
     requires same_length { length vickrey.now ≡ length values.now }

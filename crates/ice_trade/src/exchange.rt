@@ -15,8 +15,8 @@ use crate::faults::TradeFault;
 use crate::feasible::{first_excess, total_units};
 use crate::maker::ExchangeMaker;
 use ice_terms::{Name, Settings};
-use ice_tree::{AllWeights, Assignment, Bounds, NoMemory, Tree};
-use std::alloc::Global;
+use ice_tree::{AllWeights, Assignment, Bounds, Tree};
+use std::alloc::{AllocError, Global};
 use std::marker::Model;
 
 /// An exchange: its settings, 1 to 32 goods, and 1 to 40 bidders with their owned amounts, trees and opening bounds. No
@@ -127,7 +127,7 @@ impl Exchange {
 
     /// The weighted values of all nodes at the opening bounds, in hundredths: the settings' weight times the lower value,
     /// and the rest of 100 times the upper one.
-    pub fn weighted_values(&self, alloc: Global) -> Result<AllWeights, NoMemory>
+    pub fn weighted_values(&self, alloc: Global) -> Result<AllWeights, AllocError>
         ensures value { IfOk result (λ w. w ≡ weighted_weights self.now.settings.weight
             (opening_bounds self.now)) }
         ensures nodes { IfOk result (HasWeightPerNode (trees_of self.now)) }

@@ -2,19 +2,7 @@
 ghost use Rattle.std.specs.Prelude.{◌≡◌};
 ghost use Rattle.ice_trade.specs.Fault.{make_fault_number};
 
-use std::alloc::AllocError;
 use thiserror::Error;
-
-/// There is no memory left.
-#[derive(Clone, Copy, Debug, Error, PartialEq, Eq)]
-#[error("no memory is left")]
-pub struct NoMemory;
-
-impl From<AllocError> for NoMemory {
-    fn from(_: AllocError) -> NoMemory {
-        NoMemory
-    }
-}
 
 /// Why an exchange's maker refuses a call.
 #[derive(Clone, Copy, Debug, Error, PartialEq, Eq)]

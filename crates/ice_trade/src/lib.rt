@@ -12,7 +12,7 @@ mod owned;
 mod sale;
 
 pub use exchange::Exchange;
-pub use faults::{MakeFault, NoMemory, TradeFault};
+pub use faults::{MakeFault, TradeFault};
 pub use ice_terms::{Name, Prices, Settings};
 pub use maker::ExchangeMaker;
 

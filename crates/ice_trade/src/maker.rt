@@ -12,12 +12,12 @@ ghost use Rattle.ice_trade.specs.Parts.{no_exchange, with_good, with_bidder};
 
 use crate::bidders::Bidders;
 use crate::exchange::Exchange;
-use crate::faults::{MakeFault, NoMemory};
+use crate::faults::MakeFault;
 use crate::goods::Goods;
 use crate::sale::{OverSold, over_sale};
 use ice_terms::{Name, Settings};
 use ice_tree::{Bounds, Tree};
-use std::alloc::Global;
+use std::alloc::{AllocError, Global};
 use std::marker::Model;
 
 /// An exchange that is being made: first its goods, and then its bidders. All memory is taken when it is made.
@@ -41,7 +41,7 @@ impl Model for ExchangeMaker {
 
 impl ExchangeMaker {
     /// A maker of an exchange with these settings, with no good and no bidder yet.
-    pub fn new(alloc: Global, settings: Settings) -> Result<ExchangeMaker, NoMemory>
+    pub fn new(alloc: Global, settings: Settings) -> Result<ExchangeMaker, AllocError>
         ensures { IfOk result (λ m. m ≡ no_exchange settings) }
     {
         let _weight = settings.weight;

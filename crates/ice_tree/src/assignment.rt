@@ -6,11 +6,10 @@ ghost use Rattle.ice_defs.specs.Weighing.{lower_weights};
 ghost use Rattle.ice_tree.specs.Alike.{AreChosen, HasSetPerTree, HasWeightPerNode};
 
 use crate::bounds::Bounds;
-use crate::faults::NoMemory;
 use crate::tree::Tree;
 use crate::weights::AllWeights;
 use ice_set::NodeSet;
-use std::alloc::Global;
+use std::alloc::{AllocError, Global};
 use std::marker::Model;
 
 /// One set for each bidder, of the nodes of the bidder's tree.
@@ -29,17 +28,14 @@ impl Model for Assignment {
 
 impl Assignment {
     /// The empty sets of these trees, one of each bidder.
-    pub fn empty(alloc: Global, trees: &[Tree]) -> Result<Assignment, NoMemory>
+    pub fn empty(alloc: Global, trees: &[Tree]) -> Result<Assignment, AllocError>
         ensures { IfOk result (λ a. a ≡ map (λ t. replicate (length t) false) trees.now) }
     {
         let sets = trees
             .iter()
             .map(|tree| NodeSet::empty(tree.nodes()))
-            .collect(alloc);
-        match sets {
-            Ok(sets) => Ok(Assignment { sets }),
-            Err(_) => Err(NoMemory),
-        }
+            .collect(alloc)?;
+        Ok(Assignment { sets })
     }
 
     /// The number of bidders.

@@ -5,11 +5,6 @@ ghost use Rattle.ice_tree.specs.Fault.{tree_fault_number, bounds_fault_number};
 use ice_defs::SatRule;
 use thiserror::Error;
 
-/// There is no memory left.
-#[derive(Clone, Copy, Debug, Error, PartialEq, Eq)]
-#[error("no memory is left")]
-pub struct NoMemory;
-
 /// Why a tree's maker refuses a call.
 #[derive(Clone, Copy, Debug, Error, PartialEq, Eq)]
 pub enum TreeFault {

@@ -14,7 +14,7 @@ mod weights;
 
 pub use assignment::Assignment;
 pub use bounds::Bounds;
-pub use faults::{BoundsFault, NoMemory, SatFault, TreeFault};
+pub use faults::{BoundsFault, SatFault, TreeFault};
 pub use ice_defs::{Node, NodeKind, SatRule};
 pub use ice_set::NodeSet;
 pub use maker::TreeMaker;

@@ -3,10 +3,10 @@ ghost use Rattle.std.specs.Prelude.{◌≡◌, length, IfOk};
 ghost use Rattle.ice_defs.specs.Lawful.{AreBounds};
 
 use crate::{
-    AllWeights, Assignment, Bounds, BoundsFault, NoMemory, NodeKind, NodeSet, SatFault, SatRule,
+    AllWeights, Assignment, Bounds, BoundsFault, NodeKind, NodeSet, SatFault, SatRule,
     Tree, TreeFault, TreeMaker,
 };
-use std::alloc::Global;
+use std::alloc::{AllocError, Global};
 
 fn buyer() -> Result<(Tree, Bounds), TreeFault>
     ensures { IfOk result (λ r. AreBounds (length r.0) r.1) }
@@ -107,7 +107,7 @@ fn values(
     bounds: Bounds,
     set: &NodeSet,
     chosen: &NodeSet,
-) -> Result<[i128; 5], NoMemory>
+) -> Result<[i128; 5], AllocError>
     requires bounds { AreBounds (length tree) bounds }
     requires set { length set.now ≡ length tree }
     requires chosen { length chosen.now ≡ length tree }

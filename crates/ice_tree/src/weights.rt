@@ -7,11 +7,10 @@ ghost use Rattle.ice_tree.specs.Alike.{AreAlike, AreChosen};
 
 use crate::assignment::Assignment;
 use crate::bounds::{Bounds, list_of};
-use crate::faults::NoMemory;
 use crate::tree::Tree;
 use arrayvec::ArrayVec;
 use ice_set::NodeSet;
-use std::alloc::Global;
+use std::alloc::{AllocError, Global};
 use std::marker::Model;
 
 /// One weight for each node of a tree, each at most 2^90 in size.
@@ -155,27 +154,22 @@ impl Model for AllWeights {
 
 impl AllWeights {
     /// Weights of 0 for these trees, one of each bidder.
-    pub fn new(alloc: Global, trees: &[Tree]) -> Result<AllWeights, NoMemory>
+    pub fn new(alloc: Global, trees: &[Tree]) -> Result<AllWeights, AllocError>
         ensures { IfOk result (λ w. w ≡ map (λ t. replicate (length t) (pos 0)) trees.now) }
     {
         let weights = trees
             .iter()
             .map(|tree| Weights::zero(tree.nodes()))
-            .collect(alloc);
-        match weights {
-            Ok(weights) => Ok(AllWeights { weights }),
-            Err(_) => Err(NoMemory),
-        }
+            .collect(alloc)?;
+        Ok(AllWeights { weights })
     }
 
     /// The same weights once more.
-    pub fn copy(&self, alloc: Global) -> Result<AllWeights, NoMemory>
+    pub fn copy(&self, alloc: Global) -> Result<AllWeights, AllocError>
         ensures { IfOk result (λ w. w ≡ self.now) }
     {
-        match self.weights.iter().map(|w| w.copy()).collect(alloc) {
-            Ok(weights) => Ok(AllWeights { weights }),
-            Err(_) => Err(NoMemory),
-        }
+        let weights = self.weights.iter().map(|w| w.copy()).collect(alloc)?;
+        Ok(AllWeights { weights })
     }
 
     /// The number of bidders.
