@@ -45,9 +45,11 @@ impl Walk {
         ensures closed { IfOk result (λ walk. walk.sides ≡ []) }
         ensures nodes { IfOk result (λ walk. walk.nodes ≡ nodes_of trees.now) }
     {
+        let marks = Fixings::free(alloc, trees)?;
+        let branches = Vec::with_capacity(alloc, 2000)?;
         Ok(Walk {
-            marks: Fixings::free(alloc, trees)?,
-            branches: Vec::with_capacity(alloc, 2000)?,
+            marks,
+            branches,
             is_open: false,
         })
     }
