@@ -1,0 +1,1 @@
+"""A journal of an iterative combinatorial exchange as one page to look at."""
