@@ -1,0 +1,106 @@
+"""The checker's answer on a journal: who gave it, and whether it is the one the journal asks for."""
+from __future__ import annotations
+
+import subprocess
+from dataclasses import dataclass
+from pathlib import Path
+from typing import BinaryIO
+
+from .journal import Journal
+
+PROGRAM = Path(__file__).resolve().parents[2] / 'ice'
+NO_VERDICT = ('refused ', 'unread ', 'words refused')
+
+
+@dataclass
+class Answer:
+    """What the checker said of a journal.
+
+    `asked` is whether it was asked for this page, on the bytes that the page shows; otherwise
+    whoever made the page told it. No text is no answer.
+    """
+
+    text: str = ''
+    asked: bool = False
+    status: int = 0
+
+    def fits(self, journal: Journal) -> bool:
+        """Whether it is the answer that this journal asks for."""
+        return bool(self.text) and self.text == due(journal) and self.status in (0, 3)
+
+    def says_yes(self, journal: Journal) -> bool:
+        """Whether it is a yes that fits this journal."""
+        return self.fits(journal) and self.text.startswith('yes ')
+
+    def is_verdict(self) -> bool:
+        """Whether it judges the journal at all."""
+        return bool(self.text) and not self.text.startswith(NO_VERDICT)
+
+
+def due(journal: Journal) -> str:
+    """The answer that the checker gives on this journal where every test passes."""
+    stop = journal.stop
+    assert stop is not None
+    if stop.word == 'closed':
+        surplus = journal.surplus
+        return f'yes {journal.last.regret} {surplus.numerator}/{surplus.denominator}'
+    if stop.word == 'regret':
+        return f'yes {journal.last.regret}'
+    if stop.word == 'assign':
+        return f'yes {total(journal)}'
+    return f'no {stop.line} closed'
+
+
+def worths(journal: Journal) -> list[int]:
+    """The lower value of each bidder's set in the trade that the journal shows."""
+    sets = journal.shown.sets
+    return [sum(value for value, bit in zip(low, bits) if bit == '1')
+            for (low, _), bits in zip(journal.last.bounds, sets)]
+
+
+def total(journal: Journal) -> int:
+    """The value of the trade that the journal shows: the stated one where there is one."""
+    stated = journal.shown.value
+    return sum(worths(journal)) if stated is None else stated
+
+
+class Checker:
+    """The program `ice check`, which is fed the bytes of a journal while they are read."""
+
+    def __init__(self, program: str | Path = PROGRAM) -> None:
+        self.process = subprocess.Popen([str(program), 'check', '/dev/stdin'],
+                                        stdin=subprocess.PIPE, stdout=subprocess.PIPE)
+        assert self.process.stdin is not None and self.process.stdout is not None
+        self.input: BinaryIO = self.process.stdin
+        self.output: BinaryIO = self.process.stdout
+        self.closed = False
+
+    def feed(self, block: bytes) -> None:
+        """Hands bytes on; a program that reads no further has its answer all the same."""
+        if self.closed:
+            return
+        try:
+            self.input.write(block)
+        except BrokenPipeError:
+            self.closed = True
+
+    def answer(self) -> Answer:
+        """The program's answer, when all bytes are fed."""
+        self.close_input()
+        said = self.output.read(4096).decode('utf-8', 'replace').strip()
+        self.output.close()
+        return Answer(said, True, self.process.wait())
+
+    def stop(self) -> None:
+        """Ends the program without its answer."""
+        self.process.terminate()
+        self.close_input()
+        self.output.close()
+        self.process.wait()
+
+    def close_input(self) -> None:
+        """Tells the program that no more bytes come."""
+        try:
+            self.input.close()
+        except BrokenPipeError:
+            pass

@@ -1,0 +1,63 @@
+"""What a page is to show: a journal, the checker's answer, and for whom."""
+from __future__ import annotations
+
+from dataclasses import dataclass
+from functools import cached_property
+
+from .checker import Answer, total, worths
+from .journal import Journal
+from .markup import text
+
+
+@dataclass
+class View:
+    """A journal as it is to be shown to all, or to one bidder alone.
+
+    A page for one bidder shows what is published (settings, goods, regret, prices, cut and
+    surplus) and what is the bidder's own; it stays the same whatever else the others bid.
+    """
+
+    journal: Journal
+    answer: Answer
+    title: str
+    source: str
+    unit: str = ''
+    bidder: int | None = None
+
+    @property
+    def alone(self) -> bool:
+        """Whether the page is for one bidder."""
+        return self.bidder is not None
+
+    @cached_property
+    def bidders(self) -> list[int]:
+        """The numbers of the bidders that are shown."""
+        every = range(len(self.journal.bidders))
+        return list(every) if self.bidder is None else [self.bidder]
+
+    @cached_property
+    def units(self) -> list[list[int]]:
+        """The units that each bidder buys of each good, less what it sells."""
+        goods = len(self.journal.goods)
+        pairs = zip(self.journal.bidders, self.journal.shown.sets)
+        return [bidder.units(bits, goods) for bidder, bits in pairs]
+
+    @cached_property
+    def worths(self) -> list[int]:
+        """The lower value of each bidder's set."""
+        return worths(self.journal)
+
+    @cached_property
+    def total(self) -> int:
+        """The value of the trade."""
+        return total(self.journal)
+
+    @property
+    def with_unit(self) -> str:
+        """The unit of values as markup, with a space before it."""
+        return f' {text(self.unit)}' if self.unit else ''
+
+    @property
+    def is_proven(self) -> bool:
+        """Whether the trade is proven to be a best one: the checker said so of its proof."""
+        return self.answer.says_yes(self.journal) and self.journal.last.group('rival') is not None
