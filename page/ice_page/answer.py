@@ -37,8 +37,8 @@ def outcome(view: View) -> tuple[str, str]:
             why = f'the regret is {numbers.whole(regret)}, and this session closes at ' \
                   f'{numbers.whole(settings.close_regret)} or less'
         else:
-            why = f'all {numbers.plural(settings.rounds, "round")} were held' if settings.rounds \
-                else 'this session has no rounds'
+            why = {0: 'this session has no rounds', 1: 'its one round was held'}.get(
+                settings.rounds, f'all {settings.rounds} rounds were held')
         return 'Closed', why
     if stop.word == 'spent':
         return 'Search spent', spent_words(view)
@@ -151,7 +151,7 @@ def share_bar(view: View) -> str:
     sure = Fraction(width * view.total, view.total + regret)
     body = box(0, 0, sure, 9, 'ink') + box(sure, 0, width - sure, 9, 'gap')
     title = f'{numbers.whole(view.total)} is sure, {numbers.whole(regret)} at most is missed'
-    bar = drawing(width, 9, body, title).replace('<svg ', '<svg preserveAspectRatio="none" ', 1)
+    bar = drawing(width, 9, body, title, stretches=True)
     note = f'no other trade can be worth over {numbers.whole(regret)} more'
     return tag('div', bar, class_='share') + tag('p', note, class_='end')
 
@@ -179,37 +179,52 @@ class Matrix:
         most = max([Fraction(1), *(Fraction(each.vickrey) for each in self.payments),
                     self.journal.cut if self.payments else Fraction(0)])
         self.scale = BAR / most
+        self.is_dense = len(self.journal.goods) > MANY_GOODS
 
     def whole(self) -> str:
-        """The table and its legend."""
-        journal = self.journal
-        names = max(len(good.name) for good in journal.goods)
-        look = 'matrix' + ' dense' * (len(journal.goods) > MANY_GOODS) + ' flat' * (names < NARROW_NAMES)
-        rows = map(self.bidder, self.view.bidders)
+        """The table and its legend; many goods leave the payments no room, which then follow."""
+        names = max(len(good.name) for good in self.journal.goods)
+        look = 'matrix' + ' dense' * self.is_dense + ' flat' * (names < NARROW_NAMES)
+        if self.is_dense and self.payments:
+            return self.table('Who trades what', look, True, False) + self.table(
+                'What each pays', 'matrix', False, True) + self.legend()
         caption = 'Who trades what' + ', and what each pays' * bool(self.payments)
-        foot = '' if self.view.alone else self.traded() + self.left_over()
-        return table(caption, self.head(), rows, foot, look) + self.legend()
+        return self.table(caption, look, True, bool(self.payments)) + self.legend()
 
-    def head(self) -> str:
+    def table(self, caption: str, look: str, goods: bool, payments: bool) -> str:
+        """A table of all bidders, with the goods and the payments or one of them."""
+        rows = [self.bidder(number, goods, payments) for number in self.view.bidders]
+        foot = '' if self.view.alone else self.traded(goods, payments) + (self.left_over() if goods else '')
+        return table(caption, self.head(goods, payments), rows, foot, look)
+
+    def has_values(self, payments: bool) -> bool:
+        """Whether a table has the column of values: where payments are, or where there are none."""
+        return payments or not self.payments
+
+    def head(self, goods: bool, payments: bool) -> str:
         """The heads of the columns."""
-        goods = [column_head(tag('span', text(good.name) + ' =' * good.exact), 'turned')
-                 for good in self.journal.goods]
-        heads = [column_head('', 'name'), *goods, column_head('value', 'right')]
-        if self.payments:
+        heads = [column_head('', 'name')]
+        if goods:
+            heads += [column_head(tag('span', text(good.name) + ' =' * good.exact), 'turned')
+                      for good in self.journal.goods]
+        if self.has_values(payments):
+            heads.append(column_head('value', 'right'))
+        if payments:
             cut = f'Vickrey discount, cut at {exact(self.journal.cut)}'
             heads += [column_head('− discount', 'right'), column_head(''), column_head('= pays', 'right'),
                       column_head(''), column_head(cut, 'bars')]
         return row(*heads)
 
-    def bidder(self, number: int) -> str:
+    def bidder(self, number: int, goods: bool, payments: bool) -> str:
         """The row of a bidder."""
         bidder, units = self.journal.bidders[number], self.view.units[number]
         cells = [row_head(text(bidder.name), 'name')]
-        for count, owned in zip(units, bidder.owned):
+        for count, owned in zip(units, bidder.owned) if goods else ():
             look = 'buy' if count > 0 else 'sell' if count < 0 else 'soft'
             cells.append(cell(numbers.signed(count) or '·' * (owned > 0), f'unit {look}'))
-        cells.append(cell(numbers.whole(self.view.worths[number]), 'right'))
-        if self.payments:
+        if self.has_values(payments):
+            cells.append(cell(numbers.whole(self.view.worths[number]), 'right'))
+        if payments:
             payment = self.journal.payments[number]
             cells += self.amounts(payment.discount, payment.payment, not payment.discount)
             cells.append(cell(self.bar(payment.vickrey), 'bars'))
@@ -234,13 +249,15 @@ class Matrix:
         width = BAR + 12 + 7 * max(len(numbers.whole(each.vickrey)) for each in self.payments)
         return drawing(width, 21, body, f'Vickrey discount {numbers.whole(vickrey)}')
 
-    def traded(self) -> str:
+    def traded(self, goods: bool, payments: bool) -> str:
         """The sums of the columns."""
-        bought = [sum(max(units[good], 0) for units in self.view.units)
-                  for good in range(len(self.journal.goods))]
-        cells = [row_head('traded', 'name'), *(cell(numbers.unless_zero(count), 'unit') for count in bought),
-                 cell(numbers.whole(sum(self.view.worths)), 'right')]
-        if self.payments:
+        cells = [row_head('traded', 'name')]
+        for good in range(len(self.journal.goods)) if goods else ():
+            bought = sum(max(units[good], 0) for units in self.view.units)
+            cells.append(cell(numbers.unless_zero(bought), 'unit'))
+        if self.has_values(payments):
+            cells.append(cell(numbers.whole(sum(self.view.worths)), 'right'))
+        if payments:
             discounts = sum((each.discount for each in self.payments), Fraction(0))
             paid = sum((each.payment for each in self.payments), Fraction(0))
             cells += [*self.amounts(discounts, paid), cell('the surplus', 'bars soft')]

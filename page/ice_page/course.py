@@ -5,7 +5,7 @@ from collections import Counter
 from fractions import Fraction
 
 from . import numbers
-from .journal import Judged, Settlement
+from .journal import MOST_BIDDERS, Judged, Settlement
 from .markup import (box, cell, column_head, dot, drawing, exact, key, label, line, row, row_head, table,
                      tag, text)
 from .view import View
@@ -48,7 +48,7 @@ def regret_table(view: View) -> str:
     close = f'closes at a regret of {numbers.whole(settings.close_regret)} or less, or after ' \
         f'{numbers.plural(settings.rounds, "round")}'
     caption = 'What could be missed' if view.alone else 'What was sure, and what could be missed'
-    return tag('h3', caption) + table(caption, head, rows) + key(
+    return tag('h3', caption) + table(caption, head, rows, class_='steps') + key(
         '' if view.alone else '■ the best trade was sure of this',
         '<b class="miss">■</b> another could be worth so much more', close)
 
@@ -73,7 +73,7 @@ def regret_row(view: View, settlement: Settlement, scale: Fraction) -> str:
     cells.append(cell(numbers.whole(regret), 'right strong'))
     if not view.alone:
         cells.append(cell(text(numbers.percent(regret, value)), 'right soft'))
-    return row(*cells, cell(drawing(WIDE, 20, body, title), 'bars'))
+    return row(*cells, cell(drawing(WIDE, 20, body, title, stretches=True), 'bars'))
 
 
 # Prices
@@ -110,6 +110,11 @@ def price_chart(name: str, prices: list[Fraction], top: Fraction) -> str:
 
 
 # Bids
+
+def rank(bid: Judged) -> tuple[int, str, int]:
+    """The order in which bids are named: that of the bidders, with unknown names at the end."""
+    return (MOST_BIDDERS if bid.bidder is None else bid.bidder, bid.who, bid.node or 0)
+
 
 class Rounds:
     """Each bidder's uncertainty at each settlement, its bids between, and why bids were refused."""
@@ -197,7 +202,16 @@ class Rounds:
             long = long.format(numbers.whole(self.journal.settings.improve))
             body += tag('dt', f'<b class="bad">×</b> {numbers.whole(count)} <b>{short}</b>: {long}')
             for when, bids in rounds:
-                who = ', '.join(tag('span', text(bid.who) + f' ×{n}' * (n > 1))
-                                for bid, n in bids.items() if bid.verdict == verdict)
+                who = self.names(bids, verdict)
                 body += tag('dd', when + who) if who else ''
         return body
+
+    def names(self, bids: Counter[Judged], verdict: str) -> str:
+        """Who got this verdict, and how often; at which node too, where not all rounds are summed."""
+        found: Counter[str] = Counter()
+        for bid, times in sorted(bids.items(), key=lambda item: rank(item[0])):
+            if bid.verdict == verdict:
+                at = bid.node is not None and self.refused <= MANY_REFUSALS
+                found[bid.who + (f' at node {bid.node}' if at else '')] += times
+        return ', '.join(tag('span', text(who) + f' ×{numbers.whole(times)}' * (times > 1))
+                         for who, times in found.items())

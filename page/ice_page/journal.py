@@ -85,11 +85,12 @@ class Group:
 
 
 class Judged(NamedTuple):
-    """A bid's bidder, where there is one of its name, its verdict, and who bid at which node."""
+    """A bid's bidder, where there is one of its name, its verdict, the name, and the node at fault."""
 
     bidder: int | None
     verdict: str
     who: str
+    node: int | None = None
 
 
 @dataclass
@@ -375,8 +376,8 @@ class Reader:
             if bidder is None:
                 unknown.add(name if len(unknown) < MOST_UNKNOWN else 'others')
                 name = name if name in unknown else 'others'
-            at = f' at node {verdict.fields[0]}' if verdict.fields else ''
-            settlement.bids[Judged(bidder, verdict.head.partition(' ')[2], name + at)] += 1
+            number = verdict.head.partition(' ')[2]
+            settlement.bids[Judged(bidder, number, name, *verdict.fields)] += 1
         return bounds
 
 

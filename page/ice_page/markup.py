@@ -76,10 +76,15 @@ def table(caption: str, head: str, rows: Iterable[str], foot: str = '', class_: 
 
 # Drawings
 
-def drawing(width: float, height: float, body: str, title: str, readable: bool = False) -> str:
-    """A drawing with its title; in a readable one the words are read out, in others the title is."""
+def drawing(width: float, height: float, body: str, title: str, readable: bool = False,
+            stretches: bool = False) -> str:
+    """A drawing with its title; in a readable one the words are read out, in others the title is.
+
+    One that stretches may be shown in any width, whatever its height.
+    """
     return tag('svg', tag('title', text(title)) + body, viewBox=f'0 0 {width:g} {height:g}',
-               width=width, height=height, role='group' if readable else 'img', aria_label=title)
+               width=width, height=height, role='group' if readable else 'img', aria_label=title,
+               preserveAspectRatio='none' if stretches else None)
 
 
 def line(x1: Attribute, y1: Attribute, x2: Attribute, y2: Attribute, class_: str = 'rule') -> str:
