@@ -149,7 +149,7 @@ class Rounds:
                      f'●&nbsp;{numbers.whole(self.accepted)} accepted',
                      f'<b class="bad">×</b>&nbsp;{numbers.whole(self.refused)} refused')
         foot = '' if self.view.alone else self.sums()
-        bars = tag('div', table(caption, head, rows, foot, 'rounds') + legend)
+        bars = tag('div', table(caption, head, rows, foot) + legend)
         why = tag('dl', self.reasons(), class_='why') if self.refused else ''
         return tag('h3', caption) + tag('div', bars + why, class_='pair')
 
