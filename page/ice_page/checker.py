@@ -1,15 +1,15 @@
-"""The checker's answer on a journal: who gave it, and whether it is the one the journal asks for."""
+"""The checker's answer on a journal: who gave it, and whether it fits the journal."""
 from __future__ import annotations
 
 import subprocess
 from dataclasses import dataclass
 from pathlib import Path
-from typing import BinaryIO
+from typing import IO
 
 from .journal import Journal
 
-PROGRAM = Path(__file__).resolve().parents[2] / 'ice'
-NO_VERDICT = ('refused ', 'unread ', 'words refused')
+PROGRAM = Path(__file__).resolve().parents[2] / "ice"
+NO_VERDICT = ("refused ", "unread ", "words refused")
 
 
 @dataclass
@@ -20,7 +20,7 @@ class Answer:
     whoever made the page told it. No text is no answer.
     """
 
-    text: str = ''
+    text: str = ""
     asked: bool = False
     status: int = 0
 
@@ -30,7 +30,7 @@ class Answer:
 
     def says_yes(self, journal: Journal) -> bool:
         """Whether it is a yes that fits this journal."""
-        return self.fits(journal) and self.text.startswith('yes ')
+        return self.fits(journal) and self.text.startswith("yes ")
 
     def is_verdict(self) -> bool:
         """Whether it judges the journal at all."""
@@ -41,21 +41,23 @@ def due(journal: Journal) -> str:
     """The answer that the checker gives on this journal where every test passes."""
     stop = journal.stop
     assert stop is not None
-    if stop.word == 'closed':
+    if stop.word == "closed":
         surplus = journal.surplus
-        return f'yes {journal.last.regret} {surplus.numerator}/{surplus.denominator}'
-    if stop.word == 'regret':
-        return f'yes {journal.last.regret}'
-    if stop.word == 'assign':
-        return f'yes {total(journal)}'
-    return f'no {stop.line} closed'
+        return f"yes {journal.last.regret} {surplus.numerator}/{surplus.denominator}"
+    if stop.word == "regret":
+        return f"yes {journal.last.regret}"
+    if stop.word == "assign":
+        return f"yes {total(journal)}"
+    return f"no {stop.line} closed"
 
 
 def worths(journal: Journal) -> list[int]:
     """The lower value of each bidder's set in the trade that the journal shows."""
     sets = journal.shown.sets
-    return [sum(value for value, bit in zip(low, bits) if bit == '1')
-            for (low, _), bits in zip(journal.last.bounds, sets)]
+    return [
+        sum(value for value, bit in zip(low, bits) if bit == "1")
+        for (low, _), bits in zip(journal.last.bounds, sets)
+    ]
 
 
 def total(journal: Journal) -> int:
@@ -68,11 +70,12 @@ class Checker:
     """The program `ice check`, which is fed the bytes of a journal while they are read."""
 
     def __init__(self, program: str | Path = PROGRAM) -> None:
-        self.process = subprocess.Popen([str(program), 'check', '/dev/stdin'],
-                                        stdin=subprocess.PIPE, stdout=subprocess.PIPE)
+        self.process = subprocess.Popen(
+            [str(program), "check", "/dev/stdin"], stdin=subprocess.PIPE, stdout=subprocess.PIPE
+        )
         assert self.process.stdin is not None and self.process.stdout is not None
-        self.input: BinaryIO = self.process.stdin
-        self.output: BinaryIO = self.process.stdout
+        self.input: IO[bytes] = self.process.stdin
+        self.output: IO[bytes] = self.process.stdout
         self.closed = False
 
     def feed(self, block: bytes) -> None:
@@ -87,7 +90,7 @@ class Checker:
     def answer(self) -> Answer:
         """The program's answer, when all bytes are fed."""
         self.close_input()
-        said = self.output.read(4096).decode('utf-8', 'replace').strip()
+        said = self.output.read(4096).decode("utf-8", "replace").strip()
         self.output.close()
         return Answer(said, True, self.process.wait())
 

@@ -13,43 +13,67 @@ from .page import whole_page
 from .view import View
 
 WRITTEN, BAD_WORDS, NO_JOURNAL, UNREAD, UNWRITTEN = 0, 1, 2, 6, 7
-STATUSES = 'status: 0 the page is written, 1 the words are wrong, 2 the file is no journal ' \
-    '(standard error names the line), 6 it could not be read, 7 the page could not be written'
+STATUSES = (
+    "status: 0 the page is written, 1 the words are wrong, 2 the file is no journal "
+    "(standard error names the line), 6 it could not be read, 7 the page could not be written"
+)
 
 
 class Words(argparse.ArgumentParser):
-    """The words of the command; wrong ones end with status 1, since 2 says something of the file."""
+    """The words of the command; wrong ones end with status 1, since 2 is about the file."""
 
     def error(self, message: str) -> NoReturn:
-        self.exit(BAD_WORDS, f'{self.format_usage()}{self.prog}: {message}\n')
+        self.exit(BAD_WORDS, f"{self.format_usage()}{self.prog}: {message}\n")
 
 
 def words() -> Words:
     """The words that are understood."""
-    parser = Words(prog='ice-page', epilog=STATUSES, allow_abbrev=False,
-                   description='Writes a journal as one page of HTML to look at.')
-    parser.add_argument('journal', metavar='JOURNAL',
-                        help='a journal of kind assign, regret or session; - is standard input')
-    parser.add_argument('-o', dest='page', metavar='PAGE', help='where the page goes, if not to standard output')
-    parser.add_argument('--checked', metavar='ANSWER', help='what ice check printed, such as "yes 0 0/1"')
-    parser.add_argument('--check', action='store_true', help='run ice check on the same bytes and show its answer')
-    parser.add_argument('--program', metavar='FILE', help='with --check: the program to ask instead of ./ice')
-    parser.add_argument('--title', metavar='T', help='the title, if not the name of the file')
-    parser.add_argument('--unit', metavar='U', default='', help='the unit of the values, such as "k€"')
-    parser.add_argument('--bidder', metavar='NAME', help='a page for this bidder alone')
+    parser = Words(
+        prog="ice-page",
+        epilog=STATUSES,
+        allow_abbrev=False,
+        description="Writes a journal as one page of HTML to look at.",
+    )
+    parser.add_argument(
+        "journal",
+        metavar="JOURNAL",
+        help="a journal of kind assign, regret or session; - is standard input",
+    )
+    parser.add_argument(
+        "-o", dest="page", metavar="PAGE", help="where the page goes, if not to standard output"
+    )
+    parser.add_argument(
+        "--checked", metavar="ANSWER", help='what ice check printed, such as "yes 0 0/1"'
+    )
+    parser.add_argument(
+        "--check", action="store_true", help="run ice check on the same bytes and show its answer"
+    )
+    parser.add_argument(
+        "--program", metavar="FILE", help="with --check: the program to ask instead of ./ice"
+    )
+    parser.add_argument("--title", metavar="T", help="the title, if not the name of the file")
+    parser.add_argument(
+        "--unit", metavar="U", default="", help='the unit of the values, such as "k€"'
+    )
+    parser.add_argument("--bidder", metavar="NAME", help="a page for this bidder alone")
     return parser
 
 
 def is_same(one: str, other: str) -> bool:
     """Whether two names are of one file."""
-    return one != '-' and os.path.exists(one) and os.path.exists(other) and os.path.samefile(one, other)
+    return (
+        one != "-"
+        and os.path.exists(one)
+        and os.path.exists(other)
+        and os.path.samefile(one, other)
+    )
 
 
 def read(options: argparse.Namespace) -> tuple[Journal, Answer]:
     """The journal, and what the checker says of the same bytes where it is asked."""
-    with open(0 if options.journal == '-' else options.journal, 'rb', buffering=0) as stream:
+    with open(0 if options.journal == "-" else options.journal, "rb", buffering=0) as stream:
         if not options.check:
-            return read_journal(Lines(stream)), Answer((options.checked or '').strip())
+            return read_journal(Lines(stream)), Answer((options.checked or "").strip())
         checker = Checker(options.program or PROGRAM)
         try:
             journal = read_journal(Lines(stream, checker.feed))
@@ -65,7 +89,7 @@ def number_of(journal: Journal, name: str | None) -> int | None:
         return None
     names = [bidder.name for bidder in journal.bidders]
     if name not in names:
-        raise BadJournal(f'no bidder is named {name}')
+        raise BadJournal(f"no bidder is named {name}")
     return names.index(name)
 
 
@@ -83,20 +107,20 @@ def main(arguments: list[str] | None = None) -> int:
     parser = words()
     options = parser.parse_args(arguments)
     if options.check and options.checked is not None:
-        parser.error('--check asks the checker, and --checked tells its answer: give one of them')
+        parser.error("--check asks the checker, and --checked tells its answer: give one of them")
     if options.program and not options.check:
-        parser.error('--program goes with --check')
+        parser.error("--program goes with --check")
     if options.page and is_same(options.journal, options.page):
-        parser.error('the page would overwrite the journal')
-    source = 'standard input' if options.journal == '-' else os.path.basename(options.journal)
+        parser.error("the page would overwrite the journal")
+    source = "standard input" if options.journal == "-" else os.path.basename(options.journal)
     try:
         journal, answer = read(options)
         bidder = number_of(journal, options.bidder)
     except BadJournal as fault:
-        print(f'ice-page: {options.journal}: {fault}', file=sys.stderr)
+        print(f"ice-page: {options.journal}: {fault}", file=sys.stderr)
         return NO_JOURNAL
     except OSError as fault:
-        print(f'ice-page: {fault.filename or options.journal}: {fault.strerror}', file=sys.stderr)
+        print(f"ice-page: {fault.filename or options.journal}: {fault.strerror}", file=sys.stderr)
         return UNREAD
     title = options.title or source
     page = whole_page(View(journal, answer, title, source, options.unit, bidder))

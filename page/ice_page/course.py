@@ -6,20 +6,42 @@ from fractions import Fraction
 
 from . import numbers
 from .journal import MOST_BIDDERS, Judged, Settlement
-from .markup import (box, cell, column_head, dot, drawing, exact, key, label, line, row, row_head, table,
-                     tag, text)
+from .markup import (
+    box,
+    cell,
+    column_head,
+    dot,
+    drawing,
+    exact,
+    key,
+    label,
+    line,
+    row,
+    row_head,
+    table,
+    tag,
+    text,
+)
 from .view import View
 
 REASONS = {
-    '40': ('loosened a bound', 'a lower value fell or an upper one rose, and bounds may only tighten'),
-    '41': ('crossed bounds', 'a lower value stood above the upper one'),
-    '42': ('left the best set open',
-           'by its bounds it isn’t sure yet which set is best at the prices (first rule)'),
-    '43': ('tightened too little',
-           'what its provisional set may lack must fall by {} or vanish (second rule)'),
-    '44': ('came again', 'a bid of this bidder was accepted in this round before'),
-    '45': ('unknown name', 'no bidder of the exchange has it'),
-    '46': ('wrong count', 'the lists don’t have one value for each node')}
+    "40": (
+        "loosened a bound",
+        "a lower value fell or an upper one rose, and bounds may only tighten",
+    ),
+    "41": ("crossed bounds", "a lower value stood above the upper one"),
+    "42": (
+        "left the best set open",
+        "by its bounds it isn’t sure yet which set is best at the prices (first rule)",
+    ),
+    "43": (
+        "tightened too little",
+        "what its provisional set may lack must fall by {} or vanish (second rule)",
+    ),
+    "44": ("came again", "a bid of this bidder was accepted in this round before"),
+    "45": ("unknown name", "no bidder of the exchange has it"),
+    "46": ("wrong count", "the lists don’t have one value for each node"),
+}
 WIDE = 440
 MANY_REFUSALS = 60
 FEW_SETTLEMENTS = 10
@@ -30,66 +52,88 @@ def course_section(view: View) -> str:
     parts = regret_table(view) + price_charts(view)
     if len(view.journal.settlements) > 1 or view.journal.last.bids:
         parts += Rounds(view).whole()
-    return tag('h2', 'How it went') + parts if parts else ''
+    return tag("h2", "How it went") + parts if parts else ""
 
 
 # Regret
+
 
 def regret_table(view: View) -> str:
     """What was sure and what could be missed, settlement by settlement."""
     done = [each for each in view.journal.settlements if each.regret is not None]
     if len(done) < 2:
-        return ''
+        return ""
     most = max(sure(each, view) + (each.regret or 0) for each in done) or 1
-    heads = ['settlement', 'regret'] if view.alone else ['settlement', 'sure', 'regret', 'of the total']
-    head = row(*(column_head(name, 'right') for name in heads), column_head(''))
+    heads = (
+        ["settlement", "regret"] if view.alone else ["settlement", "sure", "regret", "of the total"]
+    )
+    head = row(*(column_head(name, "right") for name in heads), column_head(""))
     rows = [regret_row(view, each, Fraction(WIDE, most)) for each in done]
     settings = view.journal.settings
-    close = f'closes at a regret of {numbers.whole(settings.close_regret)} or less, or after ' \
+    close = (
+        f"closes at a regret of {numbers.whole(settings.close_regret)} or less, or after "
         f'{numbers.plural(settings.rounds, "round")}'
-    caption = 'What could be missed' if view.alone else 'What was sure, and what could be missed'
-    return tag('h3', caption) + table(caption, head, rows, class_='steps') + key(
-        '' if view.alone else '■ the best trade was sure of this',
-        '<b class="miss">■</b> another could be worth so much more', close)
+    )
+    caption = "What could be missed" if view.alone else "What was sure, and what could be missed"
+    return (
+        tag("h3", caption)
+        + table(caption, head, rows, class_="steps")
+        + key(
+            "" if view.alone else "■ the best trade was sure of this",
+            '<b class="miss">■</b> another could be worth so much more',
+            close,
+        )
+    )
 
 
 def sure(settlement: Settlement, view: View) -> int:
     """The value that the best trade of a settlement was sure of, where it is shown."""
-    final = settlement.group('final')
+    final = settlement.group("final")
     return 0 if view.alone or final is None else max(0, final.value or 0)
 
 
 def regret_row(view: View, settlement: Settlement, scale: Fraction) -> str:
     """The row of a settlement."""
-    final, regret = settlement.group('final'), settlement.regret or 0
+    final, regret = settlement.group("final"), settlement.regret or 0
     start = sure(settlement, view) * scale
-    body = box(0, 5, start, 10, 'ink') + box(start, 5, regret * scale, 10, 'gap')
+    body = box(0, 5, start, 10, "ink") + box(start, 5, regret * scale, 10, "gap")
     value = final.value or 0 if final else 0
-    title = f'{numbers.whole(regret)} at most missed'
-    cells = [row_head(str(settlement.number), 'right')]
+    title = f"{numbers.whole(regret)} at most missed"
+    cells = [row_head(str(settlement.number), "right")]
     if not view.alone:
-        title = f'{numbers.whole(value)} sure, {title}'
-        cells.append(cell(numbers.whole(value), 'right'))
-    cells.append(cell(numbers.whole(regret), 'right strong'))
+        title = f"{numbers.whole(value)} sure, {title}"
+        cells.append(cell(numbers.whole(value), "right"))
+    cells.append(cell(numbers.whole(regret), "right strong"))
     if not view.alone:
-        cells.append(cell(text(numbers.percent(regret, value)), 'right soft'))
-    return row(*cells, cell(drawing(WIDE, 20, body, title, stretches=True), 'bars'))
+        cells.append(cell(text(numbers.percent(regret, value)), "right soft"))
+    return row(*cells, cell(drawing(WIDE, 20, body, title, stretches=True), "bars"))
 
 
 # Prices
+
 
 def price_charts(view: View) -> str:
     """The prices of each good over the settlements, as small drawings on one scale."""
     priced = [each.prices for each in view.journal.settlements if each.prices]
     if not priced:
-        return ''
-    top = max(map(max, priced)) or Fraction(1)
-    charts = ''.join(price_chart(good.name, [prices[number] for prices in priced], top)
-                     for number, good in enumerate(view.journal.goods))
-    when = f'settlements 0 to {len(priced) - 1}' if len(priced) > 1 else 'of settlement 0'
-    unit = f'in{view.with_unit}' if view.unit else ''
-    return tag('h3', 'Prices of one unit') + tag('div', charts, class_='goods') + key(
-        when, f'all on one scale from 0 to {numbers.decimal(top)}', 'the number is the last price', unit)
+        return ""
+    top = max(price for prices in priced for price in prices) or Fraction(1)
+    charts = "".join(
+        price_chart(good.name, [prices[number] for prices in priced], top)
+        for number, good in enumerate(view.journal.goods)
+    )
+    when = f"settlements 0 to {len(priced) - 1}" if len(priced) > 1 else "of settlement 0"
+    unit = f"in{view.with_unit}" if view.unit else ""
+    return (
+        tag("h3", "Prices of one unit")
+        + tag("div", charts, class_="goods")
+        + key(
+            when,
+            f"all on one scale from 0 to {numbers.decimal(top)}",
+            "the number is the last price",
+            unit,
+        )
+    )
 
 
 def price_chart(name: str, prices: list[Fraction], top: Fraction) -> str:
@@ -98,18 +142,24 @@ def price_chart(name: str, prices: list[Fraction], top: Fraction) -> str:
     points = [(4 + step * place, 34 - 28 * price / top) for place, price in enumerate(prices)]
     if len(points) == 1:
         points = [(Fraction(4), points[0][1]), (Fraction(104), points[0][1])]
-    path = ' '.join(f'{float(x):.1f},{float(y):.1f}' for x, y in points)
-    body = line(4, 34, 104, 34) + tag('polyline', points=path, class_='low') + dot(*points[-1])
-    title = f'price of {name}: ' + ', '.join(numbers.decimal(price) for price in prices)
-    began = ''
+    path = " ".join(f"{float(x):.1f},{float(y):.1f}" for x, y in points)
+    body = line(4, 34, 104, 34) + tag("polyline", points=path, class_="low") + dot(*points[-1])
+    title = f"price of {name}: " + ", ".join(numbers.decimal(price) for price in prices)
+    began = ""
     if prices[0] != prices[-1]:
         few = min(1, numbers.places(prices[:1]))
-        began = tag('span', f' from {numbers.decimal(prices[0], few)}', class_='soft')
-    return tag('figure', tag('figcaption', text(name)) + drawing(110, 38, body, title)
-               + tag('b', exact(prices[-1])) + began)
+        began = tag("span", f" from {numbers.decimal(prices[0], few)}", class_="soft")
+    return tag(
+        "figure",
+        tag("figcaption", text(name))
+        + drawing(110, 38, body, title)
+        + tag("b", exact(prices[-1]))
+        + began,
+    )
 
 
 # Bids
+
 
 def rank(bid: Judged) -> tuple[int, str, int]:
     """The order in which bids are named: that of the bidders, with unknown names at the end."""
@@ -124,10 +174,12 @@ class Rounds:
         self.count = len(self.journal.settlements)
         self.step, self.thick = (46, 14) if self.count < FEW_SETTLEMENTS else (30, 8)
         self.width = (self.count - 1) * self.step + self.thick
-        self.loose = [[sum(high) - sum(low) for low, high in each.bounds] for each in self.journal.settlements]
+        self.loose = [
+            [sum(high) - sum(low) for low, high in each.bounds] for each in self.journal.settlements
+        ]
         self.bids = [self.seen(each.bids) for each in self.journal.settlements]
-        self.all_bids = sum(self.bids, Counter())
-        self.accepted = sum(n for bid, n in self.all_bids.items() if bid.verdict == 'accepted')
+        self.all_bids: Counter[Judged] = sum(self.bids, Counter())
+        self.accepted = sum(n for bid, n in self.all_bids.items() if bid.verdict == "accepted")
         self.refused = self.all_bids.total() - self.accepted
 
     def seen(self, bids: Counter[Judged]) -> Counter[Judged]:
@@ -138,20 +190,29 @@ class Rounds:
 
     def whole(self) -> str:
         """The heading, the table and the reasons."""
-        caption = 'Bids, and how the uncertainty shrank'
-        marks = ''.join(label(number * self.step + Fraction(self.thick, 2), 12, str(number), 'soft', 'middle')
-                        for number in range(self.count))
-        axis = drawing(self.width, 16, marks, f'settlements 0 to {self.count - 1}')
-        head = row(column_head('', 'name'), column_head('opening', 'right'), column_head(axis),
-                   column_head('now', 'right'), column_head('left', 'right'))
+        caption = "Bids, and how the uncertainty shrank"
+        marks = "".join(
+            label(number * self.step + Fraction(self.thick, 2), 12, str(number), "soft", "middle")
+            for number in range(self.count)
+        )
+        axis = drawing(self.width, 16, marks, f"settlements 0 to {self.count - 1}")
+        head = row(
+            column_head("", "name"),
+            column_head("opening", "right"),
+            column_head(axis),
+            column_head("now", "right"),
+            column_head("left", "right"),
+        )
         rows = map(self.bidder, self.view.bidders)
-        legend = key('bars: upper less lower values at each settlement, as a share of the opening',
-                     f'●&nbsp;{numbers.whole(self.accepted)} accepted',
-                     f'<b class="bad">×</b>&nbsp;{numbers.whole(self.refused)} refused')
-        foot = '' if self.view.alone else self.sums()
-        bars = tag('div', table(caption, head, rows, foot) + legend)
-        why = tag('dl', self.reasons(), class_='why') if self.refused else ''
-        return tag('h3', caption) + tag('div', bars + why, class_='pair')
+        legend = key(
+            "bars: upper less lower values at each settlement, as a share of the opening",
+            f"●&nbsp;{numbers.whole(self.accepted)} accepted",
+            f'<b class="bad">×</b>&nbsp;{numbers.whole(self.refused)} refused',
+        )
+        foot = "" if self.view.alone else self.sums()
+        bars = tag("div", table(caption, head, rows, foot) + legend)
+        why = tag("dl", self.reasons(), class_="why") if self.refused else ""
+        return tag("h3", caption) + tag("div", bars + why, class_="pair")
 
     def bidder(self, number: int) -> str:
         """The row of a bidder."""
@@ -160,58 +221,72 @@ class Rounds:
         told = []
         for place in range(self.count):
             tall = Fraction(19 * self.loose[place][number], first or 1)
-            body += box(place * self.step, 21 - tall, self.thick, tall, 'bar')
+            body += box(place * self.step, 21 - tall, self.thick, tall, "bar")
             good, bad = self.verdicts(place, number)
             body += self.signs(place, good, bad)
-            told.append(numbers.percent(self.loose[place][number], first) or '0 %')
+            told.append(numbers.percent(self.loose[place][number], first) or "0 %")
             if good or bad:
-                told[-1] += f' ({numbers.whole(good)} accepted, {numbers.whole(bad)} refused after it)'
-        title = 'uncertainty left at each settlement: ' + ', '.join(told)
-        return row(row_head(text(self.journal.bidders[number].name), 'name'),
-                   cell(numbers.whole(first), 'right'), cell(drawing(self.width, 22, body, title)),
-                   cell(numbers.whole(now), 'right'), cell(text(numbers.percent(now, first)), 'right soft'))
+                told[
+                    -1
+                ] += f" ({numbers.whole(good)} accepted, {numbers.whole(bad)} refused after it)"
+        title = "uncertainty left at each settlement: " + ", ".join(told)
+        return row(
+            row_head(text(self.journal.bidders[number].name), "name"),
+            cell(numbers.whole(first), "right"),
+            cell(drawing(self.width, 22, body, title)),
+            cell(numbers.whole(now), "right"),
+            cell(text(numbers.percent(now, first)), "right soft"),
+        )
 
     def verdicts(self, place: int, number: int) -> tuple[int, int]:
         """How many bids of a bidder were accepted and refused after a settlement."""
         verdicts = [(bid.verdict, n) for bid, n in self.bids[place].items() if bid.bidder == number]
-        good = sum(n for verdict, n in verdicts if verdict == 'accepted')
+        good = sum(n for verdict, n in verdicts if verdict == "accepted")
         return good, sum(n for _, n in verdicts) - good
 
     def signs(self, place: int, good: int, bad: int) -> str:
         """The signs of the bids between two settlements."""
         middle = place * self.step + Fraction(self.thick + self.step, 2)
-        body = dot(middle + 7 * bool(bad), 10.5, 3) if good else ''
-        times = '×' + numbers.whole(bad) * (bad > 1)
-        return body + (label(middle - 5 * bool(good), 14, times, 'bad', 'middle') if bad else '')
+        body = dot(middle + 7 * bool(bad), 10.5, 3) if good else ""
+        times = "×" + numbers.whole(bad) * (bad > 1)
+        return body + (label(middle - 5 * bool(good), 14, times, "bad", "middle") if bad else "")
 
     def sums(self) -> str:
         """The row of all bidders."""
         first, now = sum(self.loose[0]), sum(self.loose[-1])
-        return row(row_head('all', 'name'), cell(numbers.whole(first), 'right'), cell(''),
-                   cell(numbers.whole(now), 'right'), cell(text(numbers.percent(now, first)), 'right soft'))
+        return row(
+            row_head("all", "name"),
+            cell(numbers.whole(first), "right"),
+            cell(""),
+            cell(numbers.whole(now), "right"),
+            cell(text(numbers.percent(now, first)), "right soft"),
+        )
 
     def reasons(self) -> str:
         """Why bids were refused, round by round, or over all rounds where they are many."""
-        rounds = [(f'round {number + 1}: ', bids) for number, bids in enumerate(self.bids)]
+        rounds = [(f"round {number + 1}: ", bids) for number, bids in enumerate(self.bids)]
         if self.refused > MANY_REFUSALS:
-            rounds = [('', self.all_bids)]
-        body = ''
-        for verdict in sorted({bid.verdict for bid in self.all_bids} - {'accepted'}):
+            rounds = [("", self.all_bids)]
+        body = ""
+        for verdict in sorted({bid.verdict for bid in self.all_bids} - {"accepted"}):
             count = sum(n for bid, n in self.all_bids.items() if bid.verdict == verdict)
             short, long = REASONS[verdict]
             long = long.format(numbers.whole(self.journal.settings.improve))
-            body += tag('dt', f'<b class="bad">×</b> {numbers.whole(count)} <b>{short}</b>: {long}')
+            mark = '<b class="bad">×</b>'
+            body += tag("dt", f"{mark} {numbers.whole(count)} <b>{short}</b>: {long}")
             for when, bids in rounds:
                 who = self.names(bids, verdict)
-                body += tag('dd', when + who) if who else ''
+                body += tag("dd", when + who) if who else ""
         return body
 
     def names(self, bids: Counter[Judged], verdict: str) -> str:
-        """Who got this verdict, and how often; at which node too, where not all rounds are summed."""
+        """Who got this verdict, how often, and at which node where rounds aren't summed."""
         found: Counter[str] = Counter()
         for bid, times in sorted(bids.items(), key=lambda item: rank(item[0])):
             if bid.verdict == verdict:
                 at = bid.node is not None and self.refused <= MANY_REFUSALS
-                found[bid.who + (f' at node {bid.node}' if at else '')] += times
-        return ', '.join(tag('span', text(who) + f' ×{numbers.whole(times)}' * (times > 1))
-                         for who, times in found.items())
+                found[bid.who + (f" at node {bid.node}" if at else "")] += times
+        return ", ".join(
+            tag("span", text(who) + f" ×{numbers.whole(times)}" * (times > 1))
+            for who, times in found.items()
+        )

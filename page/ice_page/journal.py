@@ -4,12 +4,12 @@ from __future__ import annotations
 from collections import Counter
 from dataclasses import dataclass, field
 from fractions import Fraction
-from typing import NamedTuple
+from typing import Any, NamedTuple
 
 from .lines import BadJournal, Lines, Log
 from .records import Record
 
-KINDS = ('1 assign', '1 regret', '1 session', '2 regret', '2 session')
+KINDS = ("1 assign", "1 regret", "1 session", "2 regret", "2 session")
 MOST_GOODS, MOST_BIDDERS, MOST_NODES = 32, 40, 2000
 MOST_TREE, MOST_DEPTH = 200, 16
 MOST_UNKNOWN = 20
@@ -64,8 +64,8 @@ class Bidder:
         """The units that a set buys of each good, less what it sells."""
         units = [0] * goods
         for node, bit in zip(self.nodes, bits):
-            if bit == '1' and node.kind != 'choose':
-                units[node.first] += node.second if node.kind == 'buy' else -node.second
+            if bit == "1" and node.kind != "choose":
+                units[node.first] += node.second if node.kind == "buy" else -node.second
         return units
 
 
@@ -85,7 +85,7 @@ class Group:
 
 
 class Judged(NamedTuple):
-    """A bid's bidder, where there is one of its name, its verdict, the name, and the node at fault."""
+    """A bid: its bidder where there is one of its name, verdict, name, and the node at fault."""
 
     bidder: int | None
     verdict: str
@@ -132,7 +132,7 @@ class Stop(NamedTuple):
 
     word: str
     line: int
-    fields: list
+    fields: list[Any]
 
 
 @dataclass
@@ -152,7 +152,7 @@ class Journal:
     stop: Stop | None = None
     size: int = 0
     lines: int = 0
-    digest: str = ''
+    digest: str = ""
 
     @property
     def last(self) -> Settlement:
@@ -162,7 +162,7 @@ class Journal:
     @property
     def shown(self) -> Group:
         """The search whose trade is the journal's: the last final one, or the one spent for it."""
-        shown = self.last.group('final') or self.last.spent
+        shown = self.last.group("final") or self.last.spent
         assert shown is not None
         return shown
 
@@ -172,22 +172,24 @@ class Reader:
 
     def __init__(self, lines: Lines) -> None:
         self.lines = lines
-        head, (kind,) = lines.take('ice')
-        spelled = f'{head[4:]} {kind}'
-        lines.require(spelled in KINDS,
-                      f'`ice {spelled}` heads no journal of kind assign, regret or session')
-        settings = Settings(*lines.take('settings').fields)
+        head, (kind,) = lines.take("ice")
+        spelled = f"{head[4:]} {kind}"
+        lines.require(
+            spelled in KINDS, f"`ice {spelled}` heads no journal of kind assign, regret or session"
+        )
+        settings = Settings(*lines.take("settings").fields)
         self.journal = Journal(int(head[4:]), kind, settings)
-        self.leaf = 'leaf' if self.journal.version == 1 else 'near'
+        self.leaf = "leaf" if self.journal.version == 1 else "near"
 
     def read(self) -> Journal:
         """The whole journal; BadJournal where the file is none."""
         journal, lines = self.journal, self.lines
         self.read_exchange()
-        {'assign': self.read_assign, 'regret': self.read_regret, 'session': self.read_session}[
-            journal.kind]()
+        {"assign": self.read_assign, "regret": self.read_regret, "session": self.read_session}[
+            journal.kind
+        ]()
         if not lines.ended:
-            lines.bad(f'`{lines.line[:60]}` stands after the end')
+            lines.bad(f"`{lines.line[:60]}` stands after the end")
         journal.lines, journal.size = lines.number - 1, lines.size
         journal.digest = lines.hash.hexdigest()
         return journal
@@ -197,31 +199,32 @@ class Reader:
     def read_exchange(self) -> None:
         """Goods, and bidders with their trees."""
         journal, lines = self.journal, self.lines
-        while lines.word in ('good', 'exact') or not journal.goods:
-            record = lines.take('good', 'exact')
-            journal.goods.append(Good(record.fields[0], record.head == 'exact'))
-            lines.require(len(journal.goods) <= MOST_GOODS, f'more than {MOST_GOODS} goods')
-        while lines.word == 'bidder' or not journal.bidders:
-            name, owned = lines.take('bidder').fields
+        while lines.word in ("good", "exact") or not journal.goods:
+            record = lines.take("good", "exact")
+            journal.goods.append(Good(record.fields[0], record.head == "exact"))
+            lines.require(len(journal.goods) <= MOST_GOODS, f"more than {MOST_GOODS} goods")
+        while lines.word == "bidder" or not journal.bidders:
+            name, owned = lines.take("bidder").fields
             count = len(journal.goods)
-            lines.require(len(owned) == count, f'{len(owned)} owned amounts for {count} goods')
-            bidder, bounds = Bidder(name, owned, []), ([], [])
+            lines.require(len(owned) == count, f"{len(owned)} owned amounts for {count} goods")
+            bidder = Bidder(name, owned, [])
+            bounds: Bounds = ([], [])
             self.read_node(bidder.nodes, bounds, None, 1)
             journal.bidders.append(bidder)
             journal.opening.append(bounds)
-            lines.require(len(journal.bidders) <= MOST_BIDDERS, f'more than {MOST_BIDDERS} bidders')
+            lines.require(len(journal.bidders) <= MOST_BIDDERS, f"more than {MOST_BIDDERS} bidders")
             nodes = sum(len(each.nodes) for each in journal.bidders)
-            lines.require(nodes <= MOST_NODES, f'more than {MOST_NODES:,} nodes in all')
+            lines.require(nodes <= MOST_NODES, f"more than {MOST_NODES:,} nodes in all")
 
     def read_node(self, nodes: list[Node], bounds: Bounds, up: int | None, depth: int) -> None:
         """A node with all below it."""
         lines = self.lines
-        record = lines.take('node')
+        record = lines.take("node")
         first, second, *children, low, high = record.fields
-        kind = record.head.partition(' ')[2]
-        lines.require(kind == 'choose' or first < len(self.journal.goods), f'no good {first}')
-        lines.require(len(nodes) < MOST_TREE, f'a tree of more than {MOST_TREE} nodes')
-        lines.require(depth <= MOST_DEPTH, f'a tree deeper than {MOST_DEPTH} nodes')
+        kind = record.head.partition(" ")[2]
+        lines.require(kind == "choose" or first < len(self.journal.goods), f"no good {first}")
+        lines.require(len(nodes) < MOST_TREE, f"a tree of more than {MOST_TREE} nodes")
+        lines.require(depth <= MOST_DEPTH, f"a tree deeper than {MOST_DEPTH} nodes")
         node = Node(len(nodes), kind, first, second, up, depth)
         nodes.append(node)
         bounds[0].append(low)
@@ -235,24 +238,24 @@ class Reader:
     def read_assign(self) -> None:
         """Sets alone."""
         settlement = self.new_settlement(self.journal.opening)
-        self.lines.take('assign')
-        settlement.groups.append(Group('final', None, self.read_sets(), None))
-        self.end('assign')
+        self.lines.take("assign")
+        settlement.groups.append(Group("final", None, self.read_sets(), None))
+        self.end("assign")
 
     def read_regret(self) -> None:
         """The final sets and the rival's."""
         settlement = self.new_settlement(self.journal.opening)
-        if self.read_group(settlement, 'final') and self.read_group(settlement, 'rival'):
-            settlement.regret = self.lines.take('regret').fields[0]
-            self.end('regret')
+        if self.read_group(settlement, "final") and self.read_group(settlement, "rival"):
+            settlement.regret = self.lines.take("regret").fields[0]
+            self.end("regret")
 
     def read_session(self) -> None:
         """Settlements, and the rounds of bids between them."""
         bounds = self.journal.opening
         while not self.journal.stop:
             settlement = self.new_settlement(bounds)
-            number, = self.lines.take('settle').fields
-            due = f'`settle {settlement.number}` is due here'
+            (number,) = self.lines.take("settle").fields
+            due = f"`settle {settlement.number}` is due here"
             self.lines.require(number == settlement.number, due)
             if self.read_settlement(settlement):
                 bounds = self.read_bids(settlement)
@@ -267,78 +270,84 @@ class Reader:
 
     def read_settlement(self, settlement: Settlement) -> bool:
         """A settlement up to its bids; False where the journal ends in it."""
-        if not (self.read_group(settlement, 'final') and self.read_group(settlement, 'rival')):
+        if not (self.read_group(settlement, "final") and self.read_group(settlement, "rival")):
             return False
-        settlement.regret = regret = self.lines.take('regret').fields[0]
+        settlement.regret = regret = self.lines.take("regret").fields[0]
         settings = self.journal.settings
         if regret <= settings.close_regret or settlement.number == settings.rounds:
             self.read_closing(settlement)
             return False
-        return self.read_group(settlement, 'provisional') and self.read_pricing(settlement)
+        return self.read_group(settlement, "provisional") and self.read_pricing(settlement)
 
     def read_sets(self) -> list[str]:
         """One set a bidder, as bits."""
         sets = []
         for bidder in self.journal.bidders:
-            sets.append(self.lines.take('set').fields[0])
+            sets.append(self.lines.take("set").fields[0])
             count, nodes = len(sets[-1]), len(bidder.nodes)
-            self.lines.require(count == nodes, f'{count} bits for the {nodes} nodes of {bidder.name}')
+            self.lines.require(
+                count == nodes, f"{count} bits for the {nodes} nodes of {bidder.name}"
+            )
         return sets
 
     def read_group(self, settlement: Settlement, head: str, bidder: int | None = None) -> bool:
         """A search; False where it was spent, which ends the journal."""
         lines, line, fits = self.lines, self.lines.number, True
-        record = lines.take(head, 'spent')
+        record = lines.take(head, "spent")
         *numbers, value = record.fields
-        spent, bound = record.head == 'spent', None
+        spent, bound = record.head == "spent", None
         if spent:
             (value,), bound = numbers, value
         elif numbers:
             fits = numbers == [bidder]
-        lines.require(fits, f'`without {bidder}` is due here')
-        seeks = head if bidder is None else f'without {self.journal.bidders[bidder].name}'
+        lines.require(fits, f"`without {bidder}` is due here")
+        seeks = head if bidder is None else f"without {self.journal.bidders[bidder].name}"
         group = Group(seeks, value, self.read_sets(), lines.log(self.leaf), bound)
         settlement.groups.append(group)
         if spent:
-            self.end('spent', line, record)
+            self.end("spent", line, record)
         return not spent
 
     def read_closing(self, settlement: Settlement) -> None:
         """The best values without each bidder, and the payments."""
         journal, lines = self.journal, self.lines
-        if not all(self.read_group(settlement, 'without', each) for each in range(len(journal.bidders))):
+        if not all(
+            self.read_group(settlement, "without", each) for each in range(len(journal.bidders))
+        ):
             return
-        journal.cut, journal.surplus = lines.take('threshold').fields
+        journal.cut, journal.surplus = lines.take("threshold").fields
         for bidder in journal.bidders:
-            name, *numbers = lines.take('payment').fields
-            lines.require(name == bidder.name, f'the payment of {bidder.name} is due here')
+            name, *numbers = lines.take("payment").fields
+            lines.require(name == bidder.name, f"the payment of {bidder.name} is due here")
             journal.payments.append(Payment(*numbers))
-        self.end('closed')
+        self.end("closed")
 
     def read_pricing(self, settlement: Settlement) -> bool:
         """Prices with their certificates; False where the journal ends here."""
         lines, line = self.lines, self.lines.number
-        record = lines.take('prices', 'limit')
-        if record.head == 'limit':
-            self.pass_all('pool')
-            self.end('limit', line, record)
+        record = lines.take("prices", "limit")
+        if record.head == "limit":
+            self.pass_all("pool")
+            self.end("limit", line, record)
             return False
         denominator, numerators = record.fields
         count, goods = len(numerators), len(self.journal.goods)
-        lines.require(count == goods, f'{count} prices of {goods} goods')
+        lines.require(count == goods, f"{count} prices of {goods} goods")
         settlement.prices = [Fraction(number, denominator) for number in numerators]
-        lines.take('accuracy')
-        accuracy = self.pass_all('row')
-        lines.take('balance')
-        settlement.rows = accuracy, self.pass_all('row')
+        lines.take("accuracy")
+        accuracy = self.pass_all("row")
+        lines.take("balance")
+        settlement.rows = accuracy, self.pass_all("row")
         line = lines.number
-        if lines.word in ('refused', 'unread'):
-            record = lines.take('refused', 'unread')
-            lines.require(record.fields[0] == settlement.number + 2,
-                          f'`{record.head} {settlement.number + 2}` is due here')
+        if lines.word in ("refused", "unread"):
+            record = lines.take("refused", "unread")
+            lines.require(
+                record.fields[0] == settlement.number + 2,
+                f"`{record.head} {settlement.number + 2}` is due here",
+            )
             self.journal.stop = Stop(record.head, line, record.fields)
-        elif lines.word == 'end':
-            self.end('open')
+        elif lines.word == "end":
+            self.end("open")
         return self.journal.stop is None
 
     def pass_all(self, head: str) -> int:
@@ -352,8 +361,8 @@ class Reader:
     def end(self, word: str, line: int | None = None, record: Record | None = None) -> None:
         """The end of the journal, which stops at an earlier line where one is given."""
         at = self.lines.number
-        fits = self.lines.take('end').fields == [word]
-        self.lines.require(fits, f'`end {word}` is due here')
+        fits = self.lines.take("end").fields == [word]
+        self.lines.require(fits, f"`end {word}` is due here")
         self.journal.stop = Stop(word, line or at, record.fields if record else [])
 
     # Bids
@@ -363,20 +372,20 @@ class Reader:
         lines, bounds = self.lines, list(settlement.bounds)
         numbers = {bidder.name: number for number, bidder in enumerate(self.journal.bidders)}
         unknown: set[str] = set()
-        while lines.word == 'submit':
-            name, low, high = lines.take('submit').fields
+        while lines.word == "submit":
+            name, low, high = lines.take("submit").fields
             bidder = numbers.get(name)
-            verdict = lines.take('verdict')
-            accepted = verdict.head == 'verdict accepted'
+            verdict = lines.take("verdict")
+            accepted = verdict.head == "verdict accepted"
             if accepted and bidder is not None:
                 nodes = len(self.journal.bidders[bidder].nodes)
-                lines.require(len(low) == len(high) == nodes, f'accepted without {nodes} values')
+                lines.require(len(low) == len(high) == nodes, f"accepted without {nodes} values")
                 bounds[bidder] = low, high
-            lines.require(bidder is not None or not accepted, f'accepted of nobody named {name}')
+            lines.require(bidder is not None or not accepted, f"accepted of nobody named {name}")
             if bidder is None:
-                unknown.add(name if len(unknown) < MOST_UNKNOWN else 'others')
-                name = name if name in unknown else 'others'
-            number = verdict.head.partition(' ')[2]
+                unknown.add(name if len(unknown) < MOST_UNKNOWN else "others")
+                name = name if name in unknown else "others"
+            number = verdict.head.partition(" ")[2]
             settlement.bids[Judged(bidder, number, name, *verdict.fields)] += 1
         return bounds
 
@@ -386,5 +395,20 @@ def read_journal(lines: Lines) -> Journal:
     return Reader(lines).read()
 
 
-__all__ = ['BadJournal', 'Bidder', 'Bounds', 'Good', 'Group', 'Journal', 'Judged', 'Lines', 'Log',
-           'Node', 'Payment', 'Settings', 'Settlement', 'Stop', 'read_journal']
+__all__ = [
+    "BadJournal",
+    "Bidder",
+    "Bounds",
+    "Good",
+    "Group",
+    "Journal",
+    "Judged",
+    "Lines",
+    "Log",
+    "Node",
+    "Payment",
+    "Settings",
+    "Settlement",
+    "Stop",
+    "read_journal",
+]

@@ -11,27 +11,55 @@ from .markup import key, tag, text
 from .trees import trees_section
 from .view import View
 
-STYLES = Path(__file__).with_name('page.css')
+STYLES = Path(__file__).with_name("page.css")
 
 
 def footer(view: View) -> str:
     """What the page was made from. One bidder's page has no digest: it would tell of the others."""
     journal, settings = view.journal, view.journal.settings
-    rules = f'lower values weigh {settings.weight} %, cap {numbers.whole(settings.cap)}, closing regret ' \
-        f'{numbers.whole(settings.close_regret)}, improvement {numbers.whole(settings.improve)}, ' \
-        f'{numbers.plural(settings.rounds, "round")}, {numbers.plural(settings.branches, "branch step")}'
+    rules = ", ".join(
+        [
+            f"lower values weigh {settings.weight} %",
+            f"cap {numbers.whole(settings.cap)}",
+            f"closing regret {numbers.whole(settings.close_regret)}",
+            f"improvement {numbers.whole(settings.improve)}",
+            numbers.plural(settings.rounds, "round"),
+            numbers.plural(settings.branches, "branch step"),
+        ]
+    )
     if view.alone:
-        return tag('footer', key(f'kind {journal.kind}, version {journal.version}', rules,
-                                 'of the other bidders nothing is shown'))
-    return tag('footer', key(
-        f'{text(view.source)}, kind {journal.kind}, version {journal.version}, '
-        f'{numbers.plural(journal.lines, "line")}', f'SHA-256 {tag("code", journal.digest)}', rules))
+        return tag(
+            "footer",
+            key(
+                f"kind {journal.kind}, version {journal.version}",
+                rules,
+                "of the other bidders nothing is shown",
+            ),
+        )
+    return tag(
+        "footer",
+        key(
+            f"{text(view.source)}, kind {journal.kind}, version {journal.version}, "
+            f'{numbers.plural(journal.lines, "line")}',
+            f'SHA-256 {tag("code", journal.digest)}',
+            rules,
+        ),
+    )
 
 
 def whole_page(view: View) -> str:
     """The page as text."""
-    head = '<meta charset="utf-8"><meta name="viewport" content="width=device-width, initial-scale=1">' \
-        + tag('title', text(view.title)) + tag('style', STYLES.read_text(encoding='utf-8'))
-    sections = answer_section(view), course_section(view), trees_section(view), certificates_section(view)
-    body = tag('main', ''.join(tag('section', section) for section in sections if section))
-    return f'<!DOCTYPE html>\n<html lang="en">{tag("head", head)}{tag("body", body + footer(view))}</html>\n'
+    head = (
+        '<meta charset="utf-8"><meta name="viewport" content="width=device-width, initial-scale=1">'
+        + tag("title", text(view.title))
+        + tag("style", STYLES.read_text(encoding="utf-8"))
+    )
+    sections = (
+        answer_section(view),
+        course_section(view),
+        trees_section(view),
+        certificates_section(view),
+    )
+    body = tag("main", "".join(tag("section", section) for section in sections if section))
+    document = tag("html", tag("head", head) + tag("body", body + footer(view)), lang="en")
+    return f"<!DOCTYPE html>\n{document}\n"

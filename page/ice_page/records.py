@@ -22,7 +22,7 @@ class Field:
     """One value: a pattern of its spelling, and what reads it."""
 
     def __init__(self, pattern: str, convert: Callable[[str], Any] = str) -> None:
-        self.pattern, self.convert = f'(?:{pattern})', convert
+        self.pattern, self.convert = f"(?:{pattern})", convert
 
     def read(self, words: Iterator[str]) -> Any:
         """Takes the field's words, and gives its value."""
@@ -33,23 +33,23 @@ class Several(Field):
     """All values that are left, at least one."""
 
     def __init__(self, one: Field, most: int) -> None:
-        super().__init__(f'{one.pattern}(?: {one.pattern}){{0,{most - 1}}}', one.convert)
+        super().__init__(f"{one.pattern}(?: {one.pattern}){{0,{most - 1}}}", one.convert)
 
     def read(self, words: Iterator[str]) -> Any:
-        return [self.convert(word) for word in words]
+        return list(map(self.convert, words))
 
 
 class Counted(Field):
     """A number, and then so many values."""
 
     def __init__(self, one: Field, most: int) -> None:
-        super().__init__(f'(?:{whole(0, most).pattern})(?: {one.pattern}){{0,{most}}}', one.convert)
+        super().__init__(f"(?:{whole(0, most).pattern})(?: {one.pattern}){{0,{most}}}", one.convert)
 
     def read(self, words: Iterator[str]) -> Any:
-        count = int(next(words, '-1'))
+        count = int(next(words, "-1"))
         if count < 0:
             raise Misspelt
-        values = [self.convert(word) for word in islice(words, count)]
+        values = list(map(self.convert, islice(words, count)))
         if len(values) != count:
             raise Misspelt
         return values
@@ -59,8 +59,8 @@ class Changes(Field):
     """A number, and then so many pairs of a good and a multiplier, the goods ascending."""
 
     def __init__(self) -> None:
-        pair = f'{GOOD.pattern} {MULTIPLIER.pattern}'
-        super().__init__(f'{whole(0, 32).pattern}(?: {pair}){{0,32}}', int)
+        pair = f"{GOOD.pattern} {MULTIPLIER.pattern}"
+        super().__init__(f"{whole(0, 32).pattern}(?: {pair}){{0,32}}", int)
 
     def read(self, words: Iterator[str]) -> Any:
         count, *numbers = map(int, words)
@@ -73,49 +73,53 @@ class Changes(Field):
 def up_to(most: int) -> str:
     """A pattern of the whole numbers from 1 to most, which have no leading zero."""
     digits = str(most)
-    choices = [f'[1-9][0-9]{{0,{len(digits) - 2}}}'] if len(digits) > 1 else []
+    choices = [f"[1-9][0-9]{{0,{len(digits) - 2}}}"] if len(digits) > 1 else []
     for place, digit in enumerate(digits):
         least = 0 if place else 1
         if int(digit) > least:
             rest = len(digits) - place - 1
-            choices.append(f'{digits[:place]}[{least}-{int(digit) - 1}][0-9]{{{rest}}}')
-    return '|'.join([*choices, digits])
+            choices.append(f"{digits[:place]}[{least}-{int(digit) - 1}][0-9]{{{rest}}}")
+    return "|".join([*choices, digits])
 
 
 def whole(low: int, high: int) -> Field:
     """A whole number from low, which is at most 1, to high."""
     if low == -high:
-        return Field(f'0|-?(?:{up_to(high)})', int)
-    zero = '0|' if low <= 0 else ''
-    negative = f'|-(?:{up_to(-low)})' if low < 0 else ''
-    return Field(f'{zero}{up_to(high)}{negative}', int)
+        return Field(f"0|-?(?:{up_to(high)})", int)
+    zero = "0|" if low <= 0 else ""
+    negative = f"|-(?:{up_to(-low)})" if low < 0 else ""
+    return Field(f"{zero}{up_to(high)}{negative}", int)
 
 
 def one_of(*words: str) -> Field:
     """One of these words."""
-    return Field('|'.join(words))
+    return Field("|".join(words))
 
 
 def lowest(word: str) -> Fraction:
     """The fraction that is spelled in lowest terms."""
     fraction = Fraction(word)
-    if f'{fraction.numerator}/{fraction.denominator}' != word:
+    if f"{fraction.numerator}/{fraction.denominator}" != word:
         raise Misspelt
     return fraction
 
 
-NAME = Field('[A-Za-z0-9_.-]{1,32}')
-BITS = Field('[01]{1,200}')
-PLACE = Field('[A-Za-z0-9_.-]{1,256}')
+NAME = Field("[A-Za-z0-9_.-]{1,32}")
+BITS = Field("[01]{1,200}")
+PLACE = Field("[A-Za-z0-9_.-]{1,256}")
 BIDDER, GOOD, NODE, FILE = whole(0, 39), whole(0, 31), whole(0, 199), whole(1, 21)
 UNITS, OWNED = whole(1, 1000), whole(0, 10**6)
-VALUE = whole(-10**9, 10**9)
-TOTAL, REGRET, VICKREY = whole(-4 * 10**14, 4 * 10**14), whole(0, 4 * 10**14), whole(0, 10**15)
-MULTIPLIER = whole(-2**56, 2**56)
+VALUE = whole(-(10**9), 10**9)
+TOTAL, REGRET, VICKREY = (
+    whole(-4 * 10**14, 4 * 10**14),
+    whole(0, 4 * 10**14),
+    whole(0, 10**15),
+)
+MULTIPLIER = whole(-(2**56), 2**56)
 VIOLATION, DENOMINATOR = whole(0, 2**100), whole(1, 2**32)
-FRACTION = Field(f'{whole(-10**18, 10**18).pattern}/{whole(1, 1000).pattern}', lowest)
-STAGE, KIND = one_of('accuracy', 'balance'), one_of('wide', 'pivots', 'rows', 'den')
-ENDS = one_of('assign', 'exchange', 'prices', 'regret', 'closed', 'open', 'spent', 'limit')
+FRACTION = Field(f"{whole(-10**18, 10**18).pattern}/{whole(1, 1000).pattern}", lowest)
+STAGE, KIND = one_of("accuracy", "balance"), one_of("wide", "pivots", "rows", "den")
+ENDS = one_of("assign", "exchange", "prices", "regret", "closed", "open", "spent", "limit")
 
 
 class Form:
@@ -123,8 +127,8 @@ class Form:
 
     def __init__(self, heading: str, *fields: Field) -> None:
         fixed = [word for word in heading.split() if word.islower() or word.isdigit()]
-        self.heading, self.fields, self.head = heading, fields, ' '.join(fixed)
-        self.pattern = ' '.join([self.head, *(field.pattern for field in fields)])
+        self.heading, self.fields, self.head = heading, fields, " ".join(fixed)
+        self.pattern = " ".join([self.head, *(field.pattern for field in fields)])
         self.shape: re.Pattern[str] | None = None
 
     def read(self, line: str) -> Record:
@@ -132,7 +136,7 @@ class Form:
         self.shape = self.shape or re.compile(self.pattern)
         if not self.shape.fullmatch(line):
             raise Misspelt
-        words = iter(line[len(self.head) + 1:].split(' ') if self.fields else ())
+        words = iter(line[len(self.head) + 1 :].split(" ") if self.fields else ())
         values = [field.read(words) for field in self.fields]
         if next(words, None) is not None:
             raise Misspelt
@@ -140,53 +144,60 @@ class Form:
 
 
 ALL_FORMS = (
-    Form('ice 1 KIND', one_of('assign', 'regret', 'session', 'exchange', 'prices')),
-    Form('ice 2 KIND', one_of('regret', 'session')),
-    Form('settings W C P I R B', whole(0, 100), whole(0, 10**12), whole(1, 10**9),
-         whole(0, 10**9), whole(0, 20), whole(0, 50000)),
-    Form('good NAME', NAME),
-    Form('exact NAME', NAME),
-    Form('bidder NAME O ..', NAME, Several(OWNED, 32)),
-    Form('node choose L M N LO HI', NODE, NODE, NODE, VALUE, VALUE),
-    Form('node buy G U LO HI', GOOD, UNITS, VALUE, VALUE),
-    Form('node sell G U LO HI', GOOD, UNITS, VALUE, VALUE),
-    Form('assign'),
-    Form('settle R', whole(0, 20)),
-    Form('final V', TOTAL),
-    Form('rival V', TOTAL),
-    Form('provisional V', TOTAL),
-    Form('without B V', BIDDER, TOTAL),
-    Form('set BITS', BITS),
-    Form('branch B N', BIDDER, NODE),
-    Form('leaf M ..', Several(MULTIPLIER, 32)),
-    Form('near K G M ..', Changes()),
-    Form('dead B', BIDDER),
-    Form('regret A', REGRET),
-    Form('prices D N ..', DENOMINATOR, Several(whole(0, 2**62), 32)),
-    Form('accuracy X D', VIOLATION, DENOMINATOR),
-    Form('balance D', DENOMINATOR),
-    Form('row B W BITS', BIDDER, DENOMINATOR, BITS),
-    Form('submit NAME K LO .. L HI ..', NAME, Counted(VALUE, 200), Counted(VALUE, 200)),
-    Form('verdict accepted'),
-    Form('verdict 40 N', NODE),
-    Form('verdict 41 N', NODE),
-    *(Form(f'verdict {number}') for number in range(42, 47)),
-    Form('threshold C S', FRACTION, FRACTION),
-    Form('payment NAME V D P', NAME, VICKREY, FRACTION, FRACTION),
-    Form('spent V X', TOTAL, whole(-2**127, 2**127 - 1)),
-    Form('limit STAGE KIND X D', STAGE, KIND, VIOLATION, DENOMINATOR),
-    Form('pool B BITS', BIDDER, BITS),
-    Form('end WORD', ENDS),
-    Form('refused F N PLACE', FILE, whole(1, 99), PLACE),
-    Form('unread F', FILE),
+    Form("ice 1 KIND", one_of("assign", "regret", "session", "exchange", "prices")),
+    Form("ice 2 KIND", one_of("regret", "session")),
+    Form(
+        "settings W C P I R B",
+        whole(0, 100),
+        whole(0, 10**12),
+        whole(1, 10**9),
+        whole(0, 10**9),
+        whole(0, 20),
+        whole(0, 50000),
+    ),
+    Form("good NAME", NAME),
+    Form("exact NAME", NAME),
+    Form("bidder NAME O ..", NAME, Several(OWNED, 32)),
+    Form("node choose L M N LO HI", NODE, NODE, NODE, VALUE, VALUE),
+    Form("node buy G U LO HI", GOOD, UNITS, VALUE, VALUE),
+    Form("node sell G U LO HI", GOOD, UNITS, VALUE, VALUE),
+    Form("assign"),
+    Form("settle R", whole(0, 20)),
+    Form("final V", TOTAL),
+    Form("rival V", TOTAL),
+    Form("provisional V", TOTAL),
+    Form("without B V", BIDDER, TOTAL),
+    Form("set BITS", BITS),
+    Form("branch B N", BIDDER, NODE),
+    Form("leaf M ..", Several(MULTIPLIER, 32)),
+    Form("near K G M ..", Changes()),
+    Form("dead B", BIDDER),
+    Form("regret A", REGRET),
+    Form("prices D N ..", DENOMINATOR, Several(whole(0, 2**62), 32)),
+    Form("accuracy X D", VIOLATION, DENOMINATOR),
+    Form("balance D", DENOMINATOR),
+    Form("row B W BITS", BIDDER, DENOMINATOR, BITS),
+    Form("submit NAME K LO .. L HI ..", NAME, Counted(VALUE, 200), Counted(VALUE, 200)),
+    Form("verdict accepted"),
+    Form("verdict 40 N", NODE),
+    Form("verdict 41 N", NODE),
+    *(Form(f"verdict {number}") for number in range(42, 47)),
+    Form("threshold C S", FRACTION, FRACTION),
+    Form("payment NAME V D P", NAME, VICKREY, FRACTION, FRACTION),
+    Form("spent V X", TOTAL, whole(-(2**127), 2**127 - 1)),
+    Form("limit STAGE KIND X D", STAGE, KIND, VIOLATION, DENOMINATOR),
+    Form("pool B BITS", BIDDER, BITS),
+    Form("end WORD", ENDS),
+    Form("refused F N PLACE", FILE, whole(1, 99), PLACE),
+    Form("unread F", FILE),
 )
 FORMS = {form.head: form for form in ALL_FORMS}
 
 
 def read_record(line: str) -> Record:
     """The record that the line is; Misspelt where it is none."""
-    words = line.split(' ', 2)
-    form = FORMS.get(' '.join(words[:2])) or FORMS.get(words[0])
+    words = line.split(" ", 2)
+    form = FORMS.get(" ".join(words[:2])) or FORMS.get(words[0])
     if form is None:
         raise Misspelt
     return form.read(line)
@@ -197,5 +208,5 @@ def log_lines(leaf: str) -> re.Pattern[bytes]:
 
     It knows the spelling of each field, but not how many pairs a `near` states.
     """
-    forms = '|'.join(FORMS[head].pattern for head in (leaf, 'branch', 'dead'))
-    return re.compile(f'(?:(?:{forms})\n)*'.encode())
+    forms = "|".join(FORMS[head].pattern for head in (leaf, "branch", "dead"))
+    return re.compile(f"(?:(?:{forms})\n)*".encode())

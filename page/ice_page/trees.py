@@ -3,15 +3,17 @@ from __future__ import annotations
 
 import textwrap
 from fractions import Fraction
+from itertools import accumulate
 from typing import NamedTuple
 
 from . import numbers
 from .journal import Node
-from .markup import box, dot, drawing, exact, key, label, line, tag, text
+from .markup import box, dot, exact, frame, key, label, line, slice_of, tag, text
 from .view import View
 
-INDENT, ROW, LINE = 16, 6, 14
-LETTER, STRONG_LETTER = 6.4, 6.6
+INDENT, ROW, LINE, MIDDLE = 16, 6, 14, 11
+SLICE, LEAST_SCALE = 560, 0.8
+LETTER = 7.0
 INTERVAL = 150
 LEAST_LEFT = 170
 BROAD = 600
@@ -30,14 +32,14 @@ def choice(node: Node) -> str:
     """The words of a choose node."""
     count, least, most = len(node.children), node.first, node.second
     if least == count:
-        return f'all {count}'
+        return f"all {count}"
     if least == most:
-        return f'exactly {least} of {count}'
+        return f"exactly {least} of {count}"
     if least and most < count:
-        return f'{least} to {most} of {count}'
+        return f"{least} to {most} of {count}"
     if least:
-        return f'at least {least} of {count}'
-    return f'at most {most} of {count}' if most < count else f'any of {count}'
+        return f"at least {least} of {count}"
+    return f"at most {most} of {count}" if most < count else f"any of {count}"
 
 
 class TreeDrawing:
@@ -53,15 +55,19 @@ class TreeDrawing:
         self.lines = self.all_lines()
         self.spans = list(map(self.span, self.low, self.high))
         self.left = max([LEAST_LEFT, *map(self.extent, self.lines)])
-        self.width = self.left + INTERVAL + 14 + STRONG_LETTER * max(map(len, self.spans))
+        self.width = self.left + INTERVAL + 14 + LETTER * max(map(len, self.spans))
         lowest = min(0, *self.low0)
         self.scale = Fraction(INTERVAL, max(1, max(0, *self.high0) - lowest))
         self.zero = Fraction(self.left) - lowest * self.scale
+        self.tops = list(
+            accumulate((ROW + LINE * len(item.words) for item in self.lines), initial=0)
+        )
+        self.places = {item.node.number: place for place, item in enumerate(self.lines)}
 
     @staticmethod
     def span(low: int, high: int) -> str:
         """An interval in words."""
-        return numbers.whole(low) if low == high else f'{numbers.whole(low)}..{numbers.whole(high)}'
+        return numbers.whole(low) if low == high else f"{numbers.whole(low)}..{numbers.whole(high)}"
 
     def extent(self, item: Line) -> float:
         """How far the words of a row reach."""
@@ -70,19 +76,21 @@ class TreeDrawing:
 
     def leaf(self, node: Node) -> str:
         """The words of a leaf's units."""
-        units = f'{numbers.whole(node.second)} ' if node.second > 1 else ''
+        units = f"{numbers.whole(node.second)} " if node.second > 1 else ""
         return units + self.goods[node.first].name
 
     def bundle(self, node: Node) -> str:
         """The words of a node of which all children are leaves worth nothing by themselves."""
         children = [self.nodes[child] for child in node.children]
         if not children or node.first != len(children):
-            return ''
-        if any(child.kind == 'choose' or not self.idle[child.number] for child in children):
-            return ''
-        sides = [(side, [self.leaf(child) for child in children if child.kind == side])
-                 for side in ('buy', 'sell')]
-        return '; '.join(f'{side} {" + ".join(goods)}' for side, goods in sides if goods)
+            return ""
+        if any(child.kind == "choose" or not self.idle[child.number] for child in children):
+            return ""
+        sides = [
+            (side, [self.leaf(child) for child in children if child.kind == side])
+            for side in ("buy", "sell")
+        ]
+        return "; ".join(f'{side} {" + ".join(goods)}' for side, goods in sides if goods)
 
     def all_lines(self) -> list[Line]:
         """The rows of the tree: one for each node, or for a bundle with its leaves."""
@@ -92,96 +100,161 @@ class TreeDrawing:
                 continue
             words = self.bundle(node)
             if words:
-                note = f' ({node.children[0]}–{node.children[-1]})'
+                note = f" ({node.children[0]}–{node.children[-1]})"
                 skip = node.children[-1] + 1
                 found.append(Line(node, textwrap.wrap(words, WRAP, break_on_hyphens=False), note))
             else:
-                plain = choice(node) if node.kind == 'choose' else f'{node.kind} {self.leaf(node)}'
-                found.append(Line(node, [plain], ''))
+                plain = choice(node) if node.kind == "choose" else f"{node.kind} {self.leaf(node)}"
+                found.append(Line(node, [plain], ""))
         return found
 
     def whole(self) -> str:
-        """The drawing."""
-        y, heights = 12, {}
-        back = links = body = ''
-        for item in self.lines:
-            node, inside = item.node, self.bits[item.node.number] == '1'
-            x, look = INDENT * node.depth - 6, ' in' * inside
-            heights[node.number] = y
-            if inside:
-                back += box(x + 9, y - 9, self.width - x - 9, 4 + LINE * len(item.words), 'on')
-            if node.up is not None:
-                path = f'M{x - INDENT} {heights[node.up] + 8}V{y}H{x - 8}'
-                links += tag('path', d=path, class_=f'link{look}')
-            body += self.node(item, x, y, look) + self.interval(node.number, y, look)
-            y += ROW + LINE * len(item.words)
-        back += line(self.zero, 2, self.zero, y - 8)
-        return drawing(round(self.width), y, back + links + body, f'tree of {self.bidder.name}', True)
+        """The drawing, in slices that fit on a sheet of paper."""
+        slices: list[list[int]] = []
+        for place in range(len(self.lines)):
+            if not slices or self.tops[place + 1] - self.tops[slices[-1][0]] > SLICE:
+                slices.append([])
+            slices[-1].append(place)
+        title = f"tree of {self.bidder.name}"
+        return frame("".join(self.slice(rows, title) for rows in slices), "tree", title)
 
-    def node(self, item: Line, x: int, y: int, look: str) -> str:
+    def slice(self, rows: list[int], title: str) -> str:
+        """Some rows of the tree, with the links that come into them or pass by."""
+        top, bottom = self.tops[rows[0]], self.tops[rows[-1] + 1]
+        back = "".join(map(self.background, rows)) + line(self.zero, top, self.zero, bottom - 4)
+        links = "".join(
+            self.link(place)
+            for place in range(rows[0], len(self.lines))
+            if self.parent_height(place) < bottom
+        )
+        body = "".join(self.node(place) + self.interval(place) for place in rows)
+        more = ", continued" if rows[0] else ""
+        return slice_of(
+            round(self.width),
+            top,
+            bottom - top,
+            back + links + body,
+            title + more,
+            round(LEAST_SCALE * self.width),
+        )
+
+    def height(self, place: int) -> int:
+        """Where the first line of a row stands."""
+        return self.tops[place] + MIDDLE
+
+    def parent_height(self, place: int) -> int:
+        """Where the row of a row's parent stands; for the root, its own."""
+        up = self.lines[place].node.up
+        return self.height(place if up is None else self.places[up])
+
+    def look(self, place: int) -> str:
+        """The class of what is in the set that trades."""
+        return " in" if self.bits[self.lines[place].node.number] == "1" else ""
+
+    def background(self, place: int) -> str:
+        """The band behind a row that is in the set."""
+        item = self.lines[place]
+        if not self.look(place):
+            return ""
+        x, y = INDENT * item.node.depth + 3, self.height(place)
+        return box(x, y - 9, self.width - x, 4 + LINE * len(item.words), "on")
+
+    def link(self, place: int) -> str:
+        """The line from a row's parent to it."""
+        node, y = self.lines[place].node, self.height(place)
+        if node.up is None:
+            return ""
+        x = INDENT * node.depth - 6
+        path = f"M{x - INDENT} {self.parent_height(place) + 8}V{y}H{x - 8}"
+        return tag("path", d=path, class_=f"link{self.look(place)}")
+
+    def node(self, place: int) -> str:
         """The disc and the words of a row."""
-        node = item.node
+        item, look, y = self.lines[place], self.look(place), self.height(place)
+        node, x = item.node, INDENT * item.node.depth - 6
         side = self.nodes[node.children[0]].kind if item.note else node.kind
-        body = dot(x, y, 8, f'node {side}{look}') + label(x, y + 3.2, str(node.number), f'id{look}', 'middle')
-        for place, words in enumerate(item.words):
-            last = place == len(item.words) - 1
-            note = tag('tspan', item.note, class_='soft') if item.note and last else ''
-            body += label(x + LINE, y + 4 + LINE * place, text(words) + note, 'strong' if look else 'soft')
+        body = dot(x, y, 8, f"node {side}{look}")
+        body += label(x, y + 3.2, str(node.number), f"id{look}", "middle")
+        for number, words in enumerate(item.words):
+            last = number == len(item.words) - 1
+            note = tag("tspan", item.note, class_="soft") if item.note and last else ""
+            style = "strong" if look else "soft"
+            body += label(x + LINE, y + 4 + LINE * number, text(words) + note, style)
         return body
 
-    def interval(self, number: int, y: int, look: str) -> str:
+    def interval(self, place: int) -> str:
         """The opening and the present interval of a node that isn't worth 0 throughout."""
+        number, look, y = self.lines[place].node.number, self.look(place), self.height(place)
         if self.idle[number]:
-            return ''
-        low, high, low0, high0 = (self.zero + values[number] * self.scale
-                                  for values in (self.low, self.high, self.low0, self.high0))
+            return ""
+        low, high, low0, high0 = (
+            self.zero + values[number] * self.scale
+            for values in (self.low, self.high, self.low0, self.high0)
+        )
         thin = max(Fraction(0), 3 - high + low) / 2
-        return line(low0, y, high0, y, 'was') + line(low - thin, y, high + thin, y, f'now{look}') \
-            + label(self.width - 3, y + 4, self.spans[number], 'strong' if look else 'soft', 'end')
+        style = "strong" if look else "soft"
+        return (
+            line(low0, y, high0, y, "was")
+            + line(low - thin, y, high + thin, y, f"now{look}")
+            + label(self.width - 3, y + 4, self.spans[number], style, "end")
+        )
 
 
 def trades(view: View, number: int) -> str:
     """What a bidder buys and sells, as markup."""
     said = []
-    for word, sign in (('buys', 1), ('sells', -1)):
-        goods = [(f'{numbers.whole(count * sign)} ' if count * sign > 1 else '') + text(good.name)
-                 for count, good in zip(view.units[number], view.journal.goods) if count * sign > 0]
-        said += [tag('span', f'{word} {", ".join(goods)}', class_=word[:-1])] if goods else []
-    return ' and '.join(said) or 'no trade'
+    for word, sign in (("buys", 1), ("sells", -1)):
+        goods = [
+            (f"{numbers.whole(count * sign)} " if count * sign > 1 else "") + text(good.name)
+            for count, good in zip(view.units[number], view.journal.goods)
+            if count * sign > 0
+        ]
+        said += [tag("span", f'{word} {", ".join(goods)}', class_=word[:-1])] if goods else []
+    return " and ".join(said) or "no trade"
 
 
 def reason(view: View, number: int) -> str:
     """Why a bidder pays what it pays."""
     payment = view.journal.payments[number]
-    words = f'Its set is worth {numbers.whole(view.worths[number])}. '
+    words = f"Its set is worth {numbers.whole(view.worths[number])}. "
     if view.alone:
-        words += f'Its Vickrey discount is {numbers.whole(payment.vickrey)}'
+        words += f"Its Vickrey discount is {numbers.whole(payment.vickrey)}"
     else:
-        words += f'Without it {numbers.whole(view.total - payment.vickrey)} of ' \
-            f'{numbers.whole(view.total)} can be reached: a Vickrey discount of ' \
-            f'{numbers.whole(payment.vickrey)}'
+        words += (
+            f"Without it {numbers.whole(view.total - payment.vickrey)} of "
+            f"{numbers.whole(view.total)} can be reached: a Vickrey discount of "
+            f"{numbers.whole(payment.vickrey)}"
+        )
     if payment.vickrey:
-        words += f', of which the cut leaves {exact(payment.discount) if payment.discount else "nothing"}'
-    return tag('p', f'{words}.', class_='soft')
+        left = exact(payment.discount) if payment.discount else "nothing"
+        words += f", of which the cut leaves {left}"
+    return tag("p", f"{words}.", class_="soft")
 
 
 def card(view: View, number: int) -> str:
     """One bidder: its trade, its payment and its tree."""
-    bidder, says, why = view.journal.bidders[number], trades(view, number), ''
+    bidder, says, why = view.journal.bidders[number], trades(view, number), ""
     if view.journal.payments:
         payment = view.journal.payments[number].payment
         says += f', {"receives" if payment < 0 else "pays"} <b>{exact(abs(payment))}</b>'
-        why = reason(view, number) if '1' in view.journal.shown.sets[number] else ''
+        why = reason(view, number) if "1" in view.journal.shown.sets[number] else ""
     tree = TreeDrawing(view, number)
-    parts = tag('h3', text(bidder.name)) + tag('div', says) + why + tree.whole()
-    return tag('article', parts, class_='broad' if tree.width > BROAD else None)
+    parts = tag("h3", text(bidder.name)) + tag("div", says) + why + tree.whole()
+    return tag("article", parts, class_="broad" if tree.width > BROAD else None)
 
 
 def trees_section(view: View) -> str:
     """The cards of all bidders that are shown."""
-    cards = ''.join(card(view, number) for number in view.bidders)
-    return tag('h2', 'Its tree' if view.alone else 'Each bidder') + key(
-        'a node has its number in the journal, and is filled where it is in the set that trades',
-        'a bundle takes one row, its leaves’ numbers in brackets',
-        'thin line: opening interval of the value', 'bar: what is left of it', 'upright line: 0',
-        'sales have negative values') + tag('div', cards, class_='cards')
+    cards = "".join(card(view, number) for number in view.bidders)
+    return (
+        tag("h2", "Its tree" if view.alone else "Each bidder")
+        + key(
+            "a node has its number in the journal, and is filled where it trades",
+            "a bundle takes one row, its leaves’ numbers in brackets",
+            "thin line: opening interval of the value",
+            "bar: what is left of it",
+            "upright line: 0",
+            "sales have negative values",
+        )
+        + tag("div", cards, class_="cards")
+    )

@@ -21,7 +21,7 @@ class View:
     answer: Answer
     title: str
     source: str
-    unit: str = ''
+    unit: str = ""
     bidder: int | None = None
 
     @property
@@ -55,9 +55,9 @@ class View:
     @property
     def with_unit(self) -> str:
         """The unit of values as markup, with a space before it."""
-        return f' {text(self.unit)}' if self.unit else ''
+        return f" {text(self.unit)}" if self.unit else ""
 
     @property
     def is_proven(self) -> bool:
         """Whether the trade is proven to be a best one: the checker said so of its proof."""
-        return self.answer.says_yes(self.journal) and self.journal.last.group('rival') is not None
+        return self.answer.says_yes(self.journal) and self.journal.last.group("rival") is not None

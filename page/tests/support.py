@@ -15,13 +15,13 @@ sys.path.insert(0, str(HERE.parent))
 
 from ice_page import command  # noqa: E402
 
-SAMPLES = sorted(HERE.glob('samples/*')) + sorted(ROOT.glob('examples/*.journal'))
-VOID = ('meta',)
+SAMPLES = sorted(HERE.glob("samples/*")) + sorted(ROOT.glob("examples/*.journal"))
+VOID = ("meta",)
 
 
 def sample(name: str) -> str:
     """The text of a sample."""
-    return (HERE / 'samples' / name).read_text()
+    return (HERE / "samples" / name).read_text()
 
 
 class Element:
@@ -33,12 +33,12 @@ class Element:
     @property
     def text(self) -> str:
         """All words in it."""
-        return ''.join(part if isinstance(part, str) else part.text for part in self.parts)
+        return "".join(part if isinstance(part, str) else part.text for part in self.parts)
 
     @property
     def classes(self) -> list[str]:
         """Its classes."""
-        return self.attributes.get('class', '').split()
+        return self.attributes.get("class", "").split()
 
     def all(self, name: str, class_: str | None = None) -> list[Element]:
         """All elements of a name, and of a class where one is given, in their order."""
@@ -52,9 +52,12 @@ class Element:
 
     def seen(self) -> str:
         """The words that are seen: all but titles of drawings, captions and styles."""
-        hidden = ('title', 'style', 'caption')
-        return ''.join(part if isinstance(part, str) else part.seen()
-                       for part in self.parts if isinstance(part, str) or part.name not in hidden)
+        hidden = ("title", "style", "caption")
+        return "".join(
+            part if isinstance(part, str) else part.seen()
+            for part in self.parts
+            if isinstance(part, str) or part.name not in hidden
+        )
 
 
 class Page(HTMLParser):
@@ -62,21 +65,21 @@ class Page(HTMLParser):
 
     def __init__(self, source: str) -> None:
         super().__init__()
-        self.root = Element('', {})
+        self.root = Element("", {})
         self.open = [self.root]
         self.feed(source)
         self.close()
         assert self.open == [self.root], [element.name for element in self.open]
 
     def handle_starttag(self, name, attributes):
-        assert len(dict(attributes)) == len(attributes), f'an attribute twice: {attributes}'
+        assert len(dict(attributes)) == len(attributes), f"an attribute twice: {attributes}"
         element = Element(name, dict(attributes))
         self.open[-1].parts.append(element)
         if name not in VOID:
             self.open.append(element)
 
     def handle_endtag(self, name):
-        assert self.open[-1].name == name, f'{name} closes {self.open[-1].name}'
+        assert self.open[-1].name == name, f"{name} closes {self.open[-1].name}"
         self.open.pop()
 
     def handle_data(self, words):
@@ -84,23 +87,28 @@ class Page(HTMLParser):
 
     def table(self, caption: str) -> list[list[str]]:
         """The rows of all tables whose caption begins so, as words without titles of drawings."""
-        return [[''.join(cell.seen().split('\n')) for cell in row.parts]
-                for table in self.root.all('table') if table.all('caption')[0].text.startswith(caption)
-                for row in table.all('tr')]
+        return [
+            ["".join(cell.seen().split("\n")) for cell in row.parts]
+            for table in self.root.all("table")
+            if table.all("caption")[0].text.startswith(caption)
+            for row in table.all("tr")
+        ]
 
     def facts(self) -> dict[str, tuple[str, str]]:
         """The numbers at a glance, each with its note."""
-        entries = self.root.all('dl', 'facts')[0].all('div')
-        return {entry.parts[0].text: (entry.parts[1].text, entry.parts[2].text) for entry in entries}
+        entries = self.root.all("dl", "facts")[0].all("div")
+        return {
+            entry.parts[0].text: (entry.parts[1].text, entry.parts[2].text) for entry in entries
+        }
 
 
 def run(journal: str | bytes, *options: str) -> tuple[int, str, str]:
     """Makes a page of a journal: the status, the page, and what standard error has."""
     with tempfile.TemporaryDirectory() as folder:
-        file, page = Path(folder, 'some.journal'), Path(folder, 'page.html')
+        file, page = Path(folder, "some.journal"), Path(folder, "page.html")
         file.write_bytes(journal if isinstance(journal, bytes) else journal.encode())
-        status, errors = call(str(file), '-o', str(page), *options)
-        return status, page.read_text(encoding='utf-8') if page.exists() else '', errors
+        status, errors = call(str(file), "-o", str(page), *options)
+        return status, page.read_text(encoding="utf-8") if page.exists() else "", errors
 
 
 def call(*words: str) -> tuple[int, str]:

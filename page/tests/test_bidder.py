@@ -4,91 +4,130 @@ import unittest
 
 from support import SAMPLES, call, page_of, run, sample
 
-AIRPORT = sample('airport-slots.session')
-NAMES = re.findall('^bidder ([^ ]+)', AIRPORT, re.M)
+AIRPORT = sample("airport-slots.session")
+NAMES = re.findall("^bidder ([^ ]+)", AIRPORT, re.M)
 
 
 class OneBidder(unittest.TestCase):
     """What one bidder sees."""
 
     def test_its_own(self):
-        page = page_of(AIRPORT, '--bidder', 'Meridian', '--checked', 'yes 32 0/1')
+        page = page_of(AIRPORT, "--bidder", "Meridian", "--checked", "yes 32 0/1")
         facts = page.facts()
-        self.assertEqual(facts['its trade is worth, at least'], ('792', 'at its lower values, in a trade proven best'))
-        self.assertEqual(facts['it pays'][0], '716.75 (2867/4)')
-        self.assertEqual(facts['could be missed, at most'], ('32', 'the regret'))
-        self.assertEqual(facts['surplus of the payments'][0], '0')
-        self.assertEqual(facts['checker’s answer'], ('yes', 'every test passed, as told to this page'))
-        rows = page.table('Who trades what')
-        self.assertEqual([row[0] for row in rows], ['', 'Meridian'])
-        self.assertEqual(rows[1][-1], '270')
-        self.assertEqual([row[:2] for row in page.table('What could be missed')[1:]],
-                         [['0', '705'], ['1', '114'], ['2', '89'], ['3', '32']])
-        self.assertEqual(len(page.root.all('figure')), 9)
-        self.assertEqual(len(page.root.all('article')), 1)
+        self.assertEqual(
+            facts["its trade is worth, at least"],
+            ("792", "at its lower values, in a trade proven best"),
+        )
+        self.assertEqual(facts["it pays"][0], "716.75 (2867/4)")
+        self.assertEqual(facts["could be missed, at most"], ("32", "the regret"))
+        self.assertEqual(facts["surplus of the payments"][0], "0")
+        self.assertEqual(
+            facts["checker’s answer"], ("yes", "every test passed, as told to this page")
+        )
+        rows = page.table("Who trades what")
+        self.assertEqual([row[0] for row in rows], ["", "Meridian"])
+        self.assertEqual(rows[1][-1], "270")
+        self.assertEqual(
+            [row[:2] for row in page.table("What could be missed")[1:]],
+            [["0", "705"], ["1", "114"], ["2", "89"], ["3", "32"]],
+        )
+        self.assertEqual(len(page.root.all("figure")), 9)
+        self.assertEqual(len(page.root.all("article")), 1)
         words = page.root.seen()
-        for part in ('●\xa03 accepted', '×\xa03 refused', 'round 1: Meridian at node 1',
-                     'Its Vickrey discount is 270, of which the cut leaves 75.25 (301/4).'):
+        for part in (
+            "●\xa03 accepted",
+            "×\xa03 refused",
+            "round 1: Meridian at node 1",
+            "Its Vickrey discount is 270, of which the cut leaves 75.25 (301/4).",
+        ):
             self.assertIn(part, words)
 
     def test_nothing_of_the_others(self):
         for name in NAMES:
-            page = page_of(AIRPORT, '--bidder', name, '--checked', 'yes 32 0/1')
+            page = page_of(AIRPORT, "--bidder", name, "--checked", "yes 32 0/1")
             words = page.root.text
             for other in NAMES:
                 self.assertEqual(other in words, other == name)
-            for number in ('1,304', '10,796', '405 lines', 'SHA-256'):
+            for number in ("1,304", "10,796", "405 lines", "SHA-256"):
                 self.assertNotIn(number, words)
-            self.assertEqual(page.table('Searches and'), [])
+            self.assertEqual(page.table("Searches and"), [])
 
     def test_every_sample(self):
         for file in SAMPLES:
             journal = file.read_text()
-            names = re.findall('^bidder ([^ ]+)', journal, re.M)
+            names = re.findall("^bidder ([^ ]+)", journal, re.M)
             for name in names:
-                page = page_of(journal, '--bidder', name)
-                self.assertEqual([card.all('h3')[0].text for card in page.root.all('article')], [name])
+                page = page_of(journal, "--bidder", name)
+                self.assertEqual(
+                    [card.all("h3")[0].text for card in page.root.all("article")], [name]
+                )
 
     def test_same_page_whatever_the_others_bid(self):
         # The seller's values, sets, bids and payment, the totals and the logs are others.
-        journal = sample('two-settlements.session')
+        journal = sample("two-settlements.session")
         lines = journal.splitlines()
-        for number, other in {5: 'node sell 0 1 -16 -12', 9: 'final -3', 10: 'set 1', 12: 'near 1 0 7777',
-                              13: 'rival 2', 18: 'provisional 11', 19: 'set 1', 25: 'row 0 3 1',
-                              32: 'submit someone 0 0', 43: 'final 9', 44: 'set 0', 47: 'rival 9',
-                              52: 'without 0 -4', 56: 'without 1 8', 58: 'set 1',
-                              61: 'payment s 9 8/3 -17/4'}.items():
+        for number, other in {
+            5: "node sell 0 1 -16 -12",
+            9: "final -3",
+            10: "set 1",
+            12: "near 1 0 7777",
+            13: "rival 2",
+            18: "provisional 11",
+            19: "set 1",
+            25: "row 0 3 1",
+            32: "submit someone 0 0",
+            43: "final 9",
+            44: "set 0",
+            47: "rival 9",
+            52: "without 0 -4",
+            56: "without 1 8",
+            58: "set 1",
+            61: "payment s 9 8/3 -17/4",
+        }.items():
             self.assertEqual(lines[number - 1].split()[0], other.split()[0])
             lines[number - 1] = other
-        changed = '\n'.join(lines) + '\n'
-        pages = [run(text, '--bidder', 'b', '--checked', 'yes 0 0/1') for text in (journal, changed)]
+        changed = "\n".join(lines) + "\n"
+        pages = [
+            run(text, "--bidder", "b", "--checked", "yes 0 0/1") for text in (journal, changed)
+        ]
         self.assertEqual(pages[0][0], 0)
         self.assertEqual(pages[0], pages[1])
         self.assertNotEqual(run(journal)[1], run(changed)[1])
 
     def test_stops_tell_nothing(self):
-        for name, state in (('ring.spent.session', 'Search spent'), ('ring.spent.regret', 'Search spent'),
-                            ('open.session', 'Open'), ('refused.session', 'Open'), ('unread.session', 'Open')):
+        for name, state in (
+            ("ring.spent.session", "Search spent"),
+            ("ring.spent.regret", "Search spent"),
+            ("open.session", "Open"),
+            ("refused.session", "Open"),
+            ("unread.session", "Open"),
+        ):
             journal = sample(name)
-            bidder = re.findall('^bidder ([^ ]+)', journal, re.M)[0]
-            line = len(journal.splitlines()) if 'spent' not in name else journal.splitlines().index('spent 10 15') + 1
-            page = page_of(journal, '--bidder', bidder, '--checked', f'no {line} closed')
-            self.assertEqual(page.facts()['state'][0], state)
-            self.assertEqual(page.facts()['checker’s answer'][0], 'good so far')
-            lead = page.root.all('p', 'lead')[0].text
-            self.assertNotRegex(lead, 'found|possible|bids')
-            self.assertNotIn(f'{line} closed', page.root.text)
+            bidder = re.findall("^bidder ([^ ]+)", journal, re.M)[0]
+            line = (
+                len(journal.splitlines())
+                if "spent" not in name
+                else journal.splitlines().index("spent 10 15") + 1
+            )
+            page = page_of(journal, "--bidder", bidder, "--checked", f"no {line} closed")
+            self.assertEqual(page.facts()["state"][0], state)
+            self.assertEqual(page.facts()["checker’s answer"][0], "good so far")
+            lead = page.root.all("p", "lead")[0].text
+            self.assertNotRegex(lead, "it found|possible|bids")
+            self.assertNotIn(f"{line} closed", page.root.text)
 
     def test_a_no_is_shown_without_its_line(self):
-        page = page_of(AIRPORT, '--bidder', 'Meridian', '--checked', 'no 99 above')
-        self.assertEqual(page.facts()['checker’s answer'],
-                         ('no', 'not what this journal asks for: don’t rely on this page'))
+        page = page_of(AIRPORT, "--bidder", "Meridian", "--checked", "no 99 above")
+        self.assertEqual(
+            page.facts()["checker’s answer"],
+            ("no", "not what this journal asks for: don’t rely on this page"),
+        )
 
     def test_no_such_bidder(self):
-        status, _, errors = run(AIRPORT, '--bidder', 'Meridia')
-        self.assertEqual((status, 'no bidder is named Meridia' in errors), (2, True))
-        self.assertEqual(call('x', '--bidder')[0], 1)
+        status, _, errors = run(AIRPORT, "--bidder", "Meridia")
+        self.assertEqual((status, "no bidder is named Meridia" in errors), (2, True))
+        self.assertEqual(call("x", "--bidder")[0], 1)
 
 
-if __name__ == '__main__':
+if __name__ == "__main__":
     unittest.main()

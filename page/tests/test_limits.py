@@ -8,8 +8,8 @@ import unittest
 from largest import BIDDERS, GOODS, NODES, ROUNDS, largest_session, name
 from support import HERE, page_of, run, sample
 
-TREE = 'bidder {} 0\nnode choose 0 1 1 0 0\nnode buy 0 1 0 0\n'
-MEASURED = '''
+TREE = "bidder {} 0\nnode choose 0 1 1 0 0\nnode buy 0 1 0 0\n"
+MEASURED = """
 import resource, sys
 sys.dont_write_bytecode = True
 sys.path.insert(0, sys.argv[1])
@@ -17,27 +17,27 @@ from ice_page.command import main
 status = main(['-'])
 print(resource.getrusage(resource.RUSAGE_SELF).ru_maxrss, file=sys.stderr)
 sys.exit(status)
-'''
-START = 'ice 1 assign\nsettings 50 0 100 1 5 200\n'
+"""
+START = "ice 1 assign\nsettings 50 0 100 1 5 200\n"
 
 
 def assignment(goods: int, trees: list[str]) -> str:
     """A journal of kind assign in which nothing is traded."""
-    lines = [f'good g{number}' for number in range(goods)]
+    lines = [f"good g{number}" for number in range(goods)]
     for number, tree in enumerate(trees):
-        lines += [f'bidder b{number}' + ' 0' * goods, *tree.splitlines()]
-    lines += ['assign', *('set ' + '0' * tree.count('node') for tree in trees), 'end assign']
-    return START + ''.join(f'{line}\n' for line in lines)
+        lines += [f"bidder b{number}" + " 0" * goods, *tree.splitlines()]
+    lines += ["assign", *("set " + "0" * tree.count("node") for tree in trees), "end assign"]
+    return START + "".join(f"{line}\n" for line in lines)
 
 
 def wide(nodes: int) -> str:
     """A tree of so many nodes below one root."""
-    return f'node choose 0 {nodes - 1} {nodes - 1} 0 0\n' + 'node buy 0 1 1 2\n' * (nodes - 1)
+    return f"node choose 0 {nodes - 1} {nodes - 1} 0 0\n" + "node buy 0 1 1 2\n" * (nodes - 1)
 
 
 def deep(depth: int) -> str:
     """A tree of so many levels."""
-    return 'node choose 0 1 1 1 2\n' * (depth - 1) + 'node buy 0 1 1 2\n'
+    return "node choose 0 1 1 1 2\n" * (depth - 1) + "node buy 0 1 1 2\n"
 
 
 class Limits(unittest.TestCase):
@@ -45,55 +45,80 @@ class Limits(unittest.TestCase):
 
     def test_all_at_once(self):
         journal, start = largest_session(), time.process_time()
-        page = page_of(journal, '--unit', 'k€')
+        page = page_of(journal, "--unit", "k€")
         self.assertLess(time.process_time() - start, 10)
-        self.assertEqual(len(page.root.all('article')), BIDDERS)
-        rows = page.table('Who trades what')
-        self.assertEqual([cell[:32] for cell in rows[0][1:]], [name('good', number) for number in range(GOODS)])
-        self.assertEqual(len(page.table('What each pays')), BIDDERS + 2)
-        self.assertEqual(len(page.table('What was sure')), ROUNDS + 2)
-        self.assertEqual(len(page.root.all('figure')), GOODS)
-        self.assertIn('●\xa0800 accepted', page.root.seen())
-        self.assertIn('×\xa07,200 refused', page.root.seen())
-        searches = page.table('Searches and') + page.table('More') + page.table('The last')
-        self.assertEqual(len([row for row in searches if row[0] != 'search']), 3 * ROUNDS + 2 + BIDDERS)
-        self.assertEqual(journal.count('\nnode '), NODES)
-        drawn = sum(len(card.all('text', 'id')) for card in page.root.all('article'))
-        bundles = journal.count('node choose 3 3 3 ')
+        self.assertEqual(len(page.root.all("article")), BIDDERS)
+        rows = page.table("Who trades what")
+        self.assertEqual(
+            [cell[:32] for cell in rows[0][1:]], [name("good", number) for number in range(GOODS)]
+        )
+        self.assertEqual(len(page.table("What each pays")), BIDDERS + 2)
+        self.assertEqual(len(page.table("What was sure")), ROUNDS + 2)
+        self.assertEqual(len(page.root.all("figure")), GOODS)
+        self.assertIn("●\xa0800 accepted", page.root.seen())
+        self.assertIn("×\xa07,200 refused", page.root.seen())
+        searches = page.table("Searches and") + page.table("More") + page.table("The last")
+        self.assertEqual(
+            len([row for row in searches if row[0] != "search"]), 3 * ROUNDS + 2 + BIDDERS
+        )
+        self.assertEqual(journal.count("\nnode "), NODES)
+        drawn = sum(len(card.all("text", "id")) for card in page.root.all("article"))
+        bundles = journal.count("node choose 3 3 3 ")
         self.assertEqual(drawn, NODES - 3 * bundles)
 
     def test_each_limit(self):
-        lawful = [assignment(32, [wide(3)]), assignment(1, [wide(3)] * 40), assignment(1, [wide(200)] * 10),
-                  assignment(1, [deep(16)])]
+        lawful = [
+            assignment(32, [wide(3)]),
+            assignment(1, [wide(3)] * 40),
+            assignment(1, [wide(200)] * 10),
+            assignment(1, [deep(16)]),
+        ]
         for journal in lawful:
             self.assertEqual(run(journal)[0], 0)
-        refused = [(assignment(33, [wide(3)]), 'more than 32 goods'),
-                   (assignment(1, [wide(3)] * 41), 'more than 40 bidders'),
-                   (assignment(1, [wide(200)] * 10 + [deep(2)]), 'more than 2,000 nodes in all'),
-                   (assignment(1, [deep(2), 'node choose 0 2 2 0 0\n' + wide(200) + 'node buy 0 1 0 0\n']),
-                    'more than 200 nodes'),
-                   (assignment(1, [deep(17)]), 'deeper than 16')]
+        refused = [
+            (assignment(33, [wide(3)]), "more than 32 goods"),
+            (assignment(1, [wide(3)] * 41), "more than 40 bidders"),
+            (assignment(1, [wide(200)] * 10 + [deep(2)]), "more than 2,000 nodes in all"),
+            (
+                assignment(
+                    1, [deep(2), "node choose 0 2 2 0 0\n" + wide(200) + "node buy 0 1 0 0\n"]
+                ),
+                "more than 200 nodes",
+            ),
+            (assignment(1, [deep(17)]), "deeper than 16"),
+        ]
         for journal, why in refused:
             status, _, errors = run(journal)
             self.assertEqual((status, why in errors), (2, True), errors)
-            self.assertRegex(errors, 'line [0-9]+: ')
+            self.assertRegex(errors, "line [0-9]+: ")
 
     def test_names_nobody_has(self):
         # Refused bids are counted; of the names that no bidder has, the first few are kept.
-        bids = ''.join(f'submit nobody{number} 0 0\nverdict 45\n' for number in range(500))
-        journal = sample('two-settlements.session').replace('submit b 1 5 1 18\n', bids + 'submit b 1 5 1 18\n')
+        bids = "".join(f"submit nobody{number} 0 0\nverdict 45\n" for number in range(500))
+        journal = sample("two-settlements.session").replace(
+            "submit b 1 5 1 18\n", bids + "submit b 1 5 1 18\n"
+        )
         page = page_of(journal)
-        self.assertIn('×\xa0507 refused', page.root.seen())
-        self.assertIn('nobody0', page.root.seen())
-        self.assertNotIn('nobody499', page.root.seen())
+        self.assertIn("×\xa0507 refused", page.root.seen())
+        self.assertIn("nobody0", page.root.seen())
+        self.assertNotIn("nobody499", page.root.seen())
 
     def test_long_logs(self):
         # 8 MB of short steps, and what stands around them.
         steps = 300_000
-        log = 'branch 0 0\nnear 2 0 640 1 -72057\n' * steps + 'dead 0\n'
-        journal = sample('two-settlements.regret').replace('near 1 0 640\n', log)
+        log = "branch 0 0\nnear 2 0 640 1 -72057\n" * steps + "dead 0\n"
+        journal = sample("two-settlements.regret").replace("near 1 0 640\n", log)
         # A shell stands between, since a new process begins with the greatest size of the old one.
-        words = ['sh', '-c', '"$@"; exit $?', 'sh', sys.executable, '-c', MEASURED, str(HERE.parent)]
+        words = [
+            "sh",
+            "-c",
+            '"$@"; exit $?',
+            "sh",
+            sys.executable,
+            "-c",
+            MEASURED,
+            str(HERE.parent),
+        ]
         ran = subprocess.run(words, input=journal.encode(), capture_output=True, check=True)
         page = ran.stdout.decode()
         self.assertIn(f'<td class="right">{steps:,}</td>', page)
@@ -101,5 +126,5 @@ class Limits(unittest.TestCase):
         self.assertLess(int(ran.stderr), 64 * 1024)
 
 
-if __name__ == '__main__':
+if __name__ == "__main__":
     unittest.main()

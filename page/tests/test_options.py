@@ -9,7 +9,7 @@ from pathlib import Path
 
 from support import HERE, Page, call, page_of, run, sample
 
-SESSION = 'two-settlements.session'
+SESSION = "two-settlements.session"
 ODD = '<b>&amp; "it\'s" \u20ac</b><script>alert(1)</script>'
 
 
@@ -20,54 +20,65 @@ class Statuses(unittest.TestCase):
         folder = tempfile.TemporaryDirectory()
         self.addCleanup(folder.cleanup)
         self.folder = Path(folder.name)
-        self.journal = self.folder / 'a.journal'
+        self.journal = self.folder / "a.journal"
         self.journal.write_text(sample(SESSION))
 
     def test_wrong_words(self):
         file = str(self.journal)
-        for words in ([], [file, file], [file, '--what'], [file, '-o'], [file, '--check', '--checked', 'yes 0'],
-                      [file, '--program', 'x'], [file, '-o', file]):
+        for words in (
+            [],
+            [file, file],
+            [file, "--what"],
+            [file, "-o"],
+            [file, "--check", "--checked", "yes 0"],
+            [file, "--program", "x"],
+            [file, "-o", file],
+        ):
             status, errors = call(*words)
             self.assertEqual(status, 1, words)
-            self.assertIn('usage: ', errors)
+            self.assertIn("usage: ", errors)
         self.assertEqual(self.journal.read_text(), sample(SESSION))
 
     def test_a_link_to_the_journal_is_not_overwritten(self):
-        link = self.folder / 'link.html'
+        link = self.folder / "link.html"
         os.symlink(self.journal, link)
-        self.assertEqual(call(str(self.journal), '-o', str(link))[0], 1)
+        self.assertEqual(call(str(self.journal), "-o", str(link))[0], 1)
         self.assertEqual(self.journal.read_text(), sample(SESSION))
 
     def test_unread(self):
-        status, errors = call(str(self.folder / 'absent'), '-o', str(self.folder / 'p.html'))
-        self.assertEqual((status, 'No such file' in errors), (6, True))
-        self.assertFalse((self.folder / 'p.html').exists())
+        status, errors = call(str(self.folder / "absent"), "-o", str(self.folder / "p.html"))
+        self.assertEqual((status, "No such file" in errors), (6, True))
+        self.assertFalse((self.folder / "p.html").exists())
         self.assertEqual(call(str(self.folder))[0], 6)
 
     def test_unwritten(self):
-        status, errors = call(str(self.journal), '-o', str(self.folder / 'no' / 'p.html'))
-        self.assertEqual((status, 'No such file' in errors), (7, True))
+        status, errors = call(str(self.journal), "-o", str(self.folder / "no" / "p.html"))
+        self.assertEqual((status, "No such file" in errors), (7, True))
 
     def test_bad_journal_leaves_no_page(self):
-        self.journal.write_text('no journal\n')
-        page = self.folder / 'p.html'
-        status, errors = call(str(self.journal), '-o', str(page))
+        self.journal.write_text("no journal\n")
+        page = self.folder / "p.html"
+        status, errors = call(str(self.journal), "-o", str(page))
         self.assertEqual(status, 2)
-        self.assertIn('line 1: `no journal` stands where `ice` is due', errors)
+        self.assertIn("line 1: `no journal` stands where `ice` is due", errors)
         self.assertFalse(page.exists())
 
     def test_other_kinds(self):
-        for head in ('ice 1 exchange', 'ice 1 prices'):
-            status, _, errors = run(f'{head}\n')
-            self.assertEqual((status, f'line 1: `{head}` heads no journal' in errors), (2, True))
+        for head in ("ice 1 exchange", "ice 1 prices"):
+            status, _, errors = run(f"{head}\n")
+            self.assertEqual((status, f"line 1: `{head}` heads no journal" in errors), (2, True))
 
     def test_standard_input_and_output(self):
-        program = HERE.parent / 'ice-page'
-        ran = subprocess.run([str(program), '-'], input=sample(SESSION).encode(), capture_output=True, check=False)
-        self.assertEqual((ran.returncode, ran.stderr), (0, b''))
+        program = HERE.parent / "ice-page"
+        ran = subprocess.run(
+            [str(program), "-"], input=sample(SESSION).encode(), capture_output=True, check=False
+        )
+        self.assertEqual((ran.returncode, ran.stderr), (0, b""))
         page = Page(ran.stdout.decode())
-        self.assertEqual(page.root.all('h1')[0].text, 'standard input')
-        helped = subprocess.run([sys.executable, str(program), '--help'], capture_output=True, check=False)
+        self.assertEqual(page.root.all("h1")[0].text, "standard input")
+        helped = subprocess.run(
+            [sys.executable, str(program), "--help"], capture_output=True, check=False
+        )
         self.assertEqual(helped.returncode, 0)
 
 
@@ -75,39 +86,41 @@ class Words(unittest.TestCase):
     """Options with signs of markup are shown as they are."""
 
     def test_title_unit_and_answer(self):
-        page = page_of(sample(SESSION), '--title', ODD, '--unit', ODD, '--checked', ODD)
-        self.assertEqual(page.root.all('h1')[0].text, ODD)
-        self.assertEqual(page.root.all('head')[0].all('title')[0].text, ODD)
-        self.assertEqual(page.facts()['total value, at least'][0], f'1 {ODD}')
-        self.assertIn(f'“{ODD}”', page.facts()['checker’s answer'][1])
-        self.assertEqual(page.root.all('script'), [])
+        page = page_of(sample(SESSION), "--title", ODD, "--unit", ODD, "--checked", ODD)
+        self.assertEqual(page.root.all("h1")[0].text, ODD)
+        self.assertEqual(page.root.all("head")[0].all("title")[0].text, ODD)
+        self.assertEqual(page.facts()["total value, at least"][0], f"1 {ODD}")
+        self.assertIn(f"“{ODD}”", page.facts()["checker’s answer"][1])
+        self.assertEqual(page.root.all("script"), [])
 
     def test_file_name(self):
         with tempfile.TemporaryDirectory() as folder:
-            file, target = Path(folder, '<i>&"\'.journal'), Path(folder, 'page.html')
+            file, target = Path(folder, "<i>&\"'.journal"), Path(folder, "page.html")
             file.write_text(sample(SESSION))
-            self.assertEqual(call(str(file), '-o', str(target))[0], 0)
-            page = Page(target.read_text(encoding='utf-8'))
-            self.assertEqual(page.root.all('h1')[0].text, file.name)
-            self.assertIn(file.name, page.root.all('footer')[0].text)
+            self.assertEqual(call(str(file), "-o", str(target))[0], 0)
+            page = Page(target.read_text(encoding="utf-8"))
+            self.assertEqual(page.root.all("h1")[0].text, file.name)
+            self.assertIn(file.name, page.root.all("footer")[0].text)
 
     def test_names_of_a_journal(self):
-        for name in ('<b>', 'a&b', '"', "'", 'ä'):
-            for old in ('good A', 'bidder s 1', 'payment s 1'):
-                journal = sample(SESSION).replace(old, old[:-1] + name if old == 'good A' else old.replace(' s ', f' {name} '))
+        for name in ("<b>", "a&b", '"', "'", "ä"):
+            for old in ("good A", "bidder s 1", "payment s 1"):
+                journal = sample(SESSION).replace(
+                    old, old[:-1] + name if old == "good A" else old.replace(" s ", f" {name} ")
+                )
                 status, _, errors = run(journal)
                 self.assertEqual(status, 2, name)
-                self.assertRegex(errors, 'line [0-9]+: ')
+                self.assertRegex(errors, "line [0-9]+: ")
 
     def test_bidder_of_no_name(self):
-        status, _, errors = run(sample(SESSION), '--bidder', '<b>')
-        self.assertEqual((status, 'no bidder is named <b>' in errors), (2, True))
+        status, _, errors = run(sample(SESSION), "--bidder", "<b>")
+        self.assertEqual((status, "no bidder is named <b>" in errors), (2, True))
 
     def test_names_of_dots_and_signs(self):
-        journal = re.sub(r'\bb\b', '-._9', sample(SESSION))
+        journal = re.sub(r"\bb\b", "-._9", sample(SESSION))
         page = page_of(journal)
-        self.assertIn('-._9', [row[0] for row in page.table('Who trades what')])
+        self.assertIn("-._9", [row[0] for row in page.table("Who trades what")])
 
 
-if __name__ == '__main__':
+if __name__ == "__main__":
     unittest.main()

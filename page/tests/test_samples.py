@@ -8,17 +8,17 @@ from fractions import Fraction
 
 from support import SAMPLES, Page, page_of, sample
 
-SIGNS = {'buy': 1, 'sell': -1}
+SIGNS = {"buy": 1, "sell": -1}
 
 
 def minus(number: int) -> str:
     """A whole number as it is printed."""
-    return f'{number:,}'.replace('-', '\u2212')
+    return f"{number:,}".replace("-", "\u2212")
 
 
 def value_of(words: str) -> Fraction:
     """The number that a printed decimal is."""
-    return Fraction(words.replace('\u2212', '-').replace(',', ''))
+    return Fraction(words.replace("\u2212", "-").replace(",", ""))
 
 
 class Told:
@@ -26,23 +26,27 @@ class Told:
 
     def __init__(self, journal: str) -> None:
         self.lines = [line.split() for line in journal.splitlines()]
-        self.goods = [line[1] for line in self.lines if line[0] in ('good', 'exact')]
-        self.bidders = [line[1] for line in self.lines if line[0] == 'bidder']
+        self.goods = [line[1] for line in self.lines if line[0] in ("good", "exact")]
+        self.bidders = [line[1] for line in self.lines if line[0] == "bidder"]
         self.nodes = {name: [] for name in self.bidders}
-        name = ''
+        name = ""
         for line in self.lines:
-            if line[0] == 'bidder':
+            if line[0] == "bidder":
                 name = line[1]
-            if line[0] == 'node':
+            if line[0] == "node":
                 self.nodes[name].append(line[1:])
         self.lows = {name: [int(node[-2]) for node in self.nodes[name]] for name in self.bidders}
         for place, line in enumerate(self.lines):
-            if line[0] == 'submit' and self.lines[place + 1] == ['verdict', 'accepted']:
-                self.lows[line[1]] = list(map(int, line[3:3 + int(line[2])]))
-        at = max(place for place, line in enumerate(self.lines) if line[0] in ('final', 'assign', 'spent'))
-        if self.rest('final'):
-            at = max(place for place, line in enumerate(self.lines) if line[0] == 'final')
-        sets = [line[1] for line in self.lines[at + 1:at + 1 + len(self.bidders)]]
+            if line[0] == "submit" and self.lines[place + 1] == ["verdict", "accepted"]:
+                self.lows[line[1]] = list(map(int, line[3 : 3 + int(line[2])]))
+        at = max(
+            place
+            for place, line in enumerate(self.lines)
+            if line[0] in ("final", "assign", "spent")
+        )
+        if self.rest("final"):
+            at = max(place for place, line in enumerate(self.lines) if line[0] == "final")
+        sets = [line[1] for line in self.lines[at + 1 : at + 1 + len(self.bidders)]]
         self.sets = dict(zip(self.bidders, sets))
 
     def rest(self, word: str) -> list[list[str]]:
@@ -53,24 +57,24 @@ class Told:
         """What a bidder buys of each good, less what it sells."""
         units = [0] * len(self.goods)
         for node, bit in zip(self.nodes[name], self.sets[name]):
-            if bit == '1' and node[0] in SIGNS:
+            if bit == "1" and node[0] in SIGNS:
                 units[int(node[1])] += SIGNS[node[0]] * int(node[2])
         return units
 
     def worth(self, name: str) -> int:
         """The lower value of a bidder's set."""
-        return sum(low for low, bit in zip(self.lows[name], self.sets[name]) if bit == '1')
+        return sum(low for low, bit in zip(self.lows[name], self.sets[name]) if bit == "1")
 
     def logs(self) -> list[tuple[int, int, int, int]]:
         """Branches, leaves, dead sides and bytes of each log."""
         logs, inside = [], False
         for line in self.lines:
-            if line[0] in ('branch', 'near', 'leaf', 'dead'):
+            if line[0] in ("branch", "near", "leaf", "dead"):
                 if not inside:
                     logs.append([0, 0, 0, 0])
-                logs[-1][{'branch': 0, 'dead': 2}.get(line[0], 1)] += 1
-                logs[-1][3] += len(' '.join(line)) + 1
-            inside = line[0] in ('branch', 'near', 'leaf', 'dead')
+                logs[-1][{"branch": 0, "dead": 2}.get(line[0], 1)] += 1
+                logs[-1][3] += len(" ".join(line)) + 1
+            inside = line[0] in ("branch", "near", "leaf", "dead")
         return [tuple(log) for log in logs]
 
 
@@ -85,91 +89,115 @@ class Samples(unittest.TestCase):
     def test_matrix(self):
         for name, told, page, _ in self.pages:
             with self.subTest(name):
-                rows = page.table('Who trades what')
+                rows = page.table("Who trades what")
                 for bidder, cells in zip(told.bidders, rows[1:]):
                     self.assertEqual(cells[0], bidder)
-                    shown = [int(value_of(cell.strip('+·') or '0')) for cell in cells[1:len(told.goods) + 1]]
+                    shown = [
+                        int(value_of(cell.strip("+·") or "0"))
+                        for cell in cells[1 : len(told.goods) + 1]
+                    ]
                     self.assertEqual(shown, told.units(bidder))
                     self.assertEqual(cells[len(told.goods) + 1], minus(told.worth(bidder)))
-                bought = [sum(max(0, told.units(each)[good]) for each in told.bidders)
-                          for good in range(len(told.goods))]
+                bought = [
+                    sum(max(0, told.units(each)[good]) for each in told.bidders)
+                    for good in range(len(told.goods))
+                ]
                 sums = rows[len(told.bidders) + 1]
-                self.assertEqual([int(cell or '0') for cell in sums[1:len(told.goods) + 1]], bought)
-                self.assertEqual(sums[len(told.goods) + 1], minus(sum(map(told.worth, told.bidders))))
-                self.assertNotIn('don’t add up', page.root.seen())
+                self.assertEqual(
+                    [int(cell or "0") for cell in sums[1 : len(told.goods) + 1]], bought
+                )
+                self.assertEqual(
+                    sums[len(told.goods) + 1], minus(sum(map(told.worth, told.bidders)))
+                )
+                self.assertNotIn("don’t add up", page.root.seen())
 
     def test_payments(self):
         for name, told, page, _ in self.pages:
             with self.subTest(name):
-                rows = page.table('Who trades what, and what each pays')
-                payments = told.rest('payment')
+                rows = page.table("Who trades what, and what each pays")
+                payments = told.rest("payment")
                 self.assertEqual(bool(rows), bool(payments))
                 for (_, vickrey, *fractions), cells in zip(payments, rows[1:]):
                     for fraction, decimal, exact in zip(fractions, cells[-5:-1:2], cells[-4:-1:2]):
                         number = Fraction(fraction)
-                        shown = value_of(decimal.strip('≈') or '0')
-                        self.assertLessEqual(abs(shown - number), Fraction(1, 2000) if '≈' in decimal else 0)
-                        self.assertEqual(exact, '' if number.denominator == 1 else fraction.replace('-', '\u2212'))
-                    self.assertEqual(cells[-1], minus(int(vickrey)) if vickrey != '0' else '')
+                        shown = value_of(decimal.strip("≈") or "0")
+                        self.assertLessEqual(
+                            abs(shown - number), Fraction(1, 2000) if "≈" in decimal else 0
+                        )
+                        self.assertEqual(
+                            exact,
+                            "" if number.denominator == 1 else fraction.replace("-", "\u2212"),
+                        )
+                    self.assertEqual(cells[-1], minus(int(vickrey)) if vickrey != "0" else "")
                 if payments:
-                    cut, surplus = told.rest('threshold')[0]
+                    cut, surplus = told.rest("threshold")[0]
                     number = Fraction(cut)
-                    self.assertIn(f'({cut})' if number.denominator > 1 else f'cut at {number}', rows[0][-1])
-                    self.assertEqual(page.facts()['surplus of the payments'][0], str(Fraction(surplus)))
+                    self.assertIn(
+                        f"({cut})" if number.denominator > 1 else f"cut at {number}", rows[0][-1]
+                    )
+                    self.assertEqual(
+                        page.facts()["surplus of the payments"][0], str(Fraction(surplus))
+                    )
 
     def test_facts(self):
         for name, told, page, journal in self.pages:
             with self.subTest(name):
                 facts = page.facts()
                 total = sum(map(told.worth, told.bidders))
-                self.assertEqual(facts['total value, at least'][0], minus(total))
-                regrets = told.rest('regret')
-                if 'assign' in journal.splitlines()[0]:
-                    self.assertNotIn('could be missed, at most', facts)
+                self.assertEqual(facts["total value, at least"][0], minus(total))
+                regrets = told.rest("regret")
+                if "assign" in journal.splitlines()[0]:
+                    self.assertNotIn("could be missed, at most", facts)
                 else:
                     # A journal that is spent at its first search states no regret at all.
-                    shown = minus(int(regrets[-1][0])) if regrets else 'unknown'
-                    self.assertEqual(facts['could be missed, at most'][0], shown)
-                self.assertEqual(facts['checker’s answer'][0], 'not checked')
-                self.assertNotIn('proven best', page.root.seen())
+                    shown = minus(int(regrets[-1][0])) if regrets else "unknown"
+                    self.assertEqual(facts["could be missed, at most"][0], shown)
+                self.assertEqual(facts["checker’s answer"][0], "not checked")
+                self.assertNotIn("proven best", page.root.seen())
 
     def test_course(self):
         for name, told, page, _ in self.pages:
             with self.subTest(name):
-                rows = page.table('What was sure')[1:]
-                if len(told.rest('regret')) > 1:
-                    self.assertEqual([[row[1], row[2]] for row in rows],
-                                     [[minus(int(final)), minus(int(regret))] for (final,), (regret,)
-                                      in zip(told.rest('final'), told.rest('regret'))])
+                rows = page.table("What was sure")[1:]
+                if len(told.rest("regret")) > 1:
+                    self.assertEqual(
+                        [[row[1], row[2]] for row in rows],
+                        [
+                            [minus(int(final)), minus(int(regret))]
+                            for (final,), (regret,) in zip(told.rest("final"), told.rest("regret"))
+                        ],
+                    )
                 else:
                     self.assertEqual(rows, [])
-                prices = told.rest('prices')
-                figures = page.root.all('figure')
+                prices = told.rest("prices")
+                figures = page.root.all("figure")
                 self.assertEqual(len(figures), len(told.goods) if prices else 0)
                 for good, figure in enumerate(figures):
                     last = Fraction(int(prices[-1][good + 1]), int(prices[-1][0]))
-                    words = figure.all('b')[0].text
-                    exact = f'({last})' if last.denominator > 1 else str(last.numerator)
-                    self.assertIn(exact, words.replace(',', ''))
-                    self.assertEqual(figure.all('figcaption')[0].text, told.goods[good])
+                    words = figure.all("b")[0].text
+                    exact = f"({last})" if last.denominator > 1 else str(last.numerator)
+                    self.assertIn(exact, words.replace(",", ""))
+                    self.assertEqual(figure.all("figcaption")[0].text, told.goods[good])
 
     def test_bids(self):
         for name, told, page, _ in self.pages:
             with self.subTest(name):
-                verdicts = [verdict[0] for verdict in told.rest('verdict')]
-                words = page.root.seen() if verdicts else '●\xa00 accepted ×\xa00 refused'
+                verdicts = [verdict[0] for verdict in told.rest("verdict")]
+                words = page.root.seen() if verdicts else "●\xa00 accepted ×\xa00 refused"
                 self.assertIn(f'●\xa0{verdicts.count("accepted")} accepted', words)
-                refused = len(verdicts) - verdicts.count('accepted')
-                self.assertIn(f'×\xa0{refused} refused', words)
-                whys = [entry for listed in page.root.all('dl', 'why') for entry in listed.all('dt')]
+                refused = len(verdicts) - verdicts.count("accepted")
+                self.assertIn(f"×\xa0{refused} refused", words)
+                whys = [
+                    entry for listed in page.root.all("dl", "why") for entry in listed.all("dt")
+                ]
                 counts = [entry.text.split()[1] for entry in whys]
-                different = sorted(set(verdicts) - {'accepted'})
+                different = sorted(set(verdicts) - {"accepted"})
                 self.assertEqual(counts, [str(verdicts.count(verdict)) for verdict in different])
 
     def test_uncertainty(self):
         for name, told, page, _ in self.pages:
             with self.subTest(name):
-                rows = page.table('Bids, and how the uncertainty shrank')[1:]
+                rows = page.table("Bids, and how the uncertainty shrank")[1:]
                 for bidder, cells in zip(told.bidders, rows):
                     opening = sum(int(node[-1]) - int(node[-2]) for node in told.nodes[bidder])
                     self.assertEqual((cells[0], cells[1]), (bidder, minus(opening)))
@@ -177,31 +205,40 @@ class Samples(unittest.TestCase):
     def test_trees(self):
         for name, told, page, _ in self.pages:
             with self.subTest(name):
-                cards = page.root.all('article')
-                self.assertEqual([card.all('h3')[0].text for card in cards], told.bidders)
+                cards = page.root.all("article")
+                self.assertEqual([card.all("h3")[0].text for card in cards], told.bidders)
                 for bidder, card in zip(told.bidders, cards):
-                    filled = [int(word.text) for word in card.all('text', 'id') if 'in' in word.classes]
-                    shown = [int(word.text) for word in card.all('text', 'id')]
-                    taken = [number for number, bit in enumerate(told.sets[bidder]) if bit == '1']
+                    filled = [
+                        int(word.text) for word in card.all("text", "id") if "in" in word.classes
+                    ]
+                    shown = [int(word.text) for word in card.all("text", "id")]
+                    taken = [number for number, bit in enumerate(told.sets[bidder]) if bit == "1"]
                     self.assertEqual(filled, [number for number in taken if number in shown])
                     hidden = set(range(len(told.nodes[bidder]))) - set(shown)
-                    self.assertTrue(all(told.nodes[bidder][number][0] != 'choose' for number in hidden))
+                    self.assertTrue(
+                        all(told.nodes[bidder][number][0] != "choose" for number in hidden)
+                    )
 
     def test_logs(self):
         for name, told, page, _ in self.pages:
             with self.subTest(name):
-                rows = [row[1:5] for row in page.table('Searches and') + page.table('More') + page.table('The last')
-                        if row[0] != 'search']
-                logs = [[minus(count) if count else '' for count in log] for log in told.logs()]
+                rows = [
+                    row[1:5]
+                    for row in page.table("Searches and")
+                    + page.table("More")
+                    + page.table("The last")
+                    if row[0] != "search"
+                ]
+                logs = [[minus(count) if count else "" for count in log] for log in told.logs()]
                 self.assertEqual(rows, logs)
 
     def test_footer(self):
         for name, told, page, journal in self.pages:
             with self.subTest(name):
-                words = page.root.all('footer')[0].text
+                words = page.root.all("footer")[0].text
                 self.assertIn(hashlib.sha256(journal.encode()).hexdigest(), words)
-                self.assertIn(f'{len(told.lines)} lines', words)
-                self.assertIn(f'version {told.lines[0][1]}', words)
+                self.assertIn(f"{len(told.lines)} lines", words)
+                self.assertIn(f"version {told.lines[0][1]}", words)
 
 
 class ByHand(unittest.TestCase):
@@ -214,38 +251,50 @@ class ByHand(unittest.TestCase):
 
     def page(self) -> Page:
         """Its page, with the checker's yes."""
-        return page_of(sample('two-settlements.session'), '--checked', 'yes 0 0/1', '--unit', 'k€')
+        return page_of(sample("two-settlements.session"), "--checked", "yes 0 0/1", "--unit", "k€")
 
     def test_glance(self):
         facts = self.page().facts()
-        self.assertEqual(facts['state'], ('Closed', 'settlement 1'))
-        self.assertEqual(facts['total value, at least'], ('1 k€', 'at lower values, proven best'))
-        self.assertEqual(facts['could be missed, at most'], ('0 k€', 'the regret'))
-        self.assertEqual(facts['surplus of the payments'], ('0 k€', 'the total less the discounts'))
-        self.assertEqual(facts['checker’s answer'][0], 'yes')
+        self.assertEqual(facts["state"], ("Closed", "settlement 1"))
+        self.assertEqual(facts["total value, at least"], ("1 k€", "at lower values, proven best"))
+        self.assertEqual(facts["could be missed, at most"], ("0 k€", "the regret"))
+        self.assertEqual(facts["surplus of the payments"], ("0 k€", "the total less the discounts"))
+        self.assertEqual(facts["checker’s answer"][0], "yes")
 
     def test_matrix(self):
-        rows = self.page().table('Who trades what')
-        self.assertEqual(rows[1], ['s', '\u22121', '\u221215', '0.5', '1/2', '\u221215.5', '\u221231/2', '1'])
-        self.assertEqual(rows[2], ['b', '+1', '16', '0.5', '1/2', '15.5', '31/2', '1'])
-        self.assertEqual(rows[3], ['traded', '1', '1', '1.0', '', '0.0', '', 'the surplus'])
+        rows = self.page().table("Who trades what")
+        self.assertEqual(
+            rows[1], ["s", "\u22121", "\u221215", "0.5", "1/2", "\u221215.5", "\u221231/2", "1"]
+        )
+        self.assertEqual(rows[2], ["b", "+1", "16", "0.5", "1/2", "15.5", "31/2", "1"])
+        self.assertEqual(rows[3], ["traded", "1", "1", "1.0", "", "0.0", "", "the surplus"])
 
     def test_course(self):
         page = self.page()
-        self.assertEqual([row[:4] for row in page.table('What was sure')[1:]],
-                         [['0', '0', '5', ''], ['1', '1', '0', '0 %']])
+        self.assertEqual(
+            [row[:4] for row in page.table("What was sure")[1:]],
+            [["0", "0", "5", ""], ["1", "1", "0", "0 %"]],
+        )
         # The buyer's interval was 10..20 and is 16..18; the seller's was a point from the start.
-        rows = page.table('Bids')
-        self.assertEqual(rows[1], ['s', '0', '0'.replace('0', ''), '0', ''])
-        self.assertEqual(rows[2][:2] + rows[2][3:], ['b', '10', '2', '20 %'])
+        rows = page.table("Bids")
+        self.assertEqual(rows[1], ["s", "0", "0".replace("0", ""), "0", ""])
+        self.assertEqual(rows[2][:2] + rows[2][3:], ["b", "10", "2", "20 %"])
 
     def test_words(self):
         words = self.page().root.seen()
-        for part in ('receives 15.5 (31/2)', 'pays 15.5 (31/2)', 'Its set is worth 16.', 'Without it 0 of 1',
-                     'the cut leaves 0.5 (1/2)', 'round 1: b at node 0', 'round 1: zz',
-                     'must fall by 2 or vanish', 'closes at 0 or less'):
+        for part in (
+            "receives 15.5 (31/2)",
+            "pays 15.5 (31/2)",
+            "Its set is worth 16.",
+            "Without it 0 of 1",
+            "the cut leaves 0.5 (1/2)",
+            "round 1: b at node 0",
+            "round 1: zz",
+            "must fall by 2 or vanish",
+            "closes at 0 or less",
+        ):
             self.assertIn(part, words)
 
 
-if __name__ == '__main__':
+if __name__ == "__main__":
     unittest.main()
