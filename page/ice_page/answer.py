@@ -29,45 +29,50 @@ class Fact(NamedTuple):
 
 def outcome(view: View) -> tuple[str, str]:
     """The state in a word or two, and why, both as markup."""
-    journal, settings, regret = view.journal, view.journal.settings, view.journal.last.regret
-    stop = journal.stop
-    assert stop is not None
-    file = f"the file of round {journal.last.number + 1}"
-    if stop.word == "closed" and regret is not None:
-        if regret <= settings.close_regret:
-            why = (
-                f"the regret is {numbers.whole(regret)}, and this session closes at "
-                f"{numbers.whole(settings.close_regret)} or less"
-            )
-        else:
-            why = {0: "this session has no rounds", 1: "its one round was held"}.get(
-                settings.rounds, f"all {settings.rounds} rounds were held"
-            )
-        return "Closed", why
-    if stop.word == "spent":
+    journal = view.journal
+    word, file = journal.end.word, f"the file of round {journal.last.number + 1}"
+    if word == "closed":
+        return "Closed", closed_words(view)
+    if word == "spent":
         return "Search spent", spent_words(view)
-    if stop.word == "limit":
-        stage, kind = stop.fields[:2]
-        why = (
-            "the prices could not be worked out"
-            if view.alone
-            else f"the stage {stage} of the pricing needs {LIMITS[kind]}"
-        )
-        return "Pricing limit", why
-    if stop.word == "refused":
-        fault = (
-            ""
-            if view.alone
-            else f", with fault {stop.fields[1]}"
-            + (f" at {text(stop.fields[2])}" if stop.fields[2] != "-" else "")
-        )
-        return "Open", f"{file} was refused{fault}"
+    if word == "limit":
+        return "Pricing limit", limit_words(view)
+    if word == "refused":
+        return "Open", f"{file} was refused{fault_words(view)}"
     return {
         "unread": ("Open", f"{file} could not be read"),
         "open": ("Open", f"{file} was not given"),
         "assign": ("One trade", "an assignment by itself, with no proof that it is best"),
         "regret": ("One trade", "with its regret, without rounds or payments"),
-    }[stop.word]
+    }[word]
+
+
+def closed_words(view: View) -> str:
+    """Why a session closed."""
+    settings, regret = view.journal.settings, view.journal.last.regret or 0
+    if regret <= settings.close_regret:
+        return (
+            f"the regret is {numbers.whole(regret)}, and this session closes at "
+            f"{numbers.whole(settings.close_regret)} or less"
+        )
+    few = {0: "this session has no rounds", 1: "its one round was held"}
+    return few.get(settings.rounds, f"all {settings.rounds} rounds were held")
+
+
+def limit_words(view: View) -> str:
+    """Which limit the pricing met."""
+    if view.alone:
+        return "the prices could not be worked out"
+    stage, kind, *_ = view.journal.end.fields
+    return f"the stage {stage} of the pricing needs {LIMITS[kind]}"
+
+
+def fault_words(view: View) -> str:
+    """The fault of a round file, which may be anybody's."""
+    if view.alone:
+        return ""
+    _, number, place = view.journal.end.fields
+    return f", with fault {number}" + ("" if place == "-" else f" at {text(place)}")
 
 
 def spent_words(view: View) -> str:
@@ -111,8 +116,7 @@ def checked(view: View) -> Fact:
     by = " by the program, asked for this page" if answer.asked else ", as told to this page"
     if expected.startswith("yes "):
         return Fact(name, "yes", f"{said}every test passed{by}", "good")
-    stop = view.journal.stop
-    assert stop is not None
+    stop = view.journal.end
     value = "good so far" if view.alone else f"good to line {numbers.whole(stop.line - 1)}"
     return Fact(name, value, f"{said}every test passed up to the stop{by}", "good")
 

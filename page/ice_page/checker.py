@@ -39,8 +39,7 @@ class Answer:
 
 def due(journal: Journal) -> str:
     """The answer that the checker gives on this journal where every test passes."""
-    stop = journal.stop
-    assert stop is not None
+    stop = journal.end
     if stop.word == "closed":
         surplus = journal.surplus
         return f"yes {journal.last.regret} {surplus.numerator}/{surplus.denominator}"

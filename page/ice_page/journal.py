@@ -155,6 +155,12 @@ class Journal:
     digest: str = ""
 
     @property
+    def end(self) -> Stop:
+        """How the journal ends; a journal that was read to its end has it."""
+        assert self.stop is not None
+        return self.stop
+
+    @property
     def last(self) -> Settlement:
         """The last settlement."""
         return self.settlements[-1]

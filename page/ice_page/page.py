@@ -27,6 +27,7 @@ def footer(view: View) -> str:
             numbers.plural(settings.branches, "branch step"),
         ]
     )
+    asked = view.answer.asked and view.answer.text
     if view.alone:
         return tag(
             "footer",
@@ -42,6 +43,7 @@ def footer(view: View) -> str:
             f"{text(view.source)}, kind {journal.kind}, version {journal.version}, "
             f'{numbers.plural(journal.lines, "line")}',
             f'SHA-256 {tag("code", journal.digest)}',
+            f"ice check read these bytes and said “{text(view.answer.text)}”" if asked else "",
             rules,
         ),
     )

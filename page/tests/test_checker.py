@@ -88,6 +88,7 @@ class Asked(unittest.TestCase):
         self.assertIn("by the program, asked for this page", note)
         self.assertIn(PROVEN, words)
         self.assertIn(hashlib.sha256(sample(SESSION).encode()).hexdigest(), words)
+        self.assertIn("ice check read these bytes and said “yes 0 0/1”", words)
 
     def test_same_bytes_and_words(self):
         journal = sample("airport-slots.session")
