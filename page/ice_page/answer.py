@@ -112,13 +112,13 @@ def checked(view: View) -> Fact:
             else f"{said}, where this journal asks for {wanted}"
         )
         return Fact(name, "no", f"{why}: don’t rely on this page", "bad")
-    said = "" if view.alone else f"{said}: "
-    by = " by the program, asked for this page" if answer.asked else ", as told to this page"
+    by = f"asked of {text(answer.asked)} for this page" if answer.asked else "as told to this page"
+    by = by if view.alone else f"{said}, {by}"
     if expected.startswith("yes "):
-        return Fact(name, "yes", f"{said}every test passed{by}", "good")
-    stop = view.journal.end
-    value = "good so far" if view.alone else f"good to line {numbers.whole(stop.line - 1)}"
-    return Fact(name, value, f"{said}every test passed up to the stop{by}", "good")
+        return Fact(name, "yes", f"{by}: every test passed", "good")
+    line = view.journal.end.line
+    value = "good so far" if view.alone else f"good to line {numbers.whole(line - 1)}"
+    return Fact(name, value, f"{by}: every test passed up to the stop", "good")
 
 
 def facts(view: View) -> list[Fact]:

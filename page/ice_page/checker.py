@@ -16,12 +16,12 @@ NO_VERDICT = ("refused ", "unread ", "words refused")
 class Answer:
     """What the checker said of a journal.
 
-    `asked` is whether it was asked for this page, on the bytes that the page shows; otherwise
-    whoever made the page told it. No text is no answer.
+    `asked` is the name of the program that was asked for this page, on the bytes that the page
+    shows; where there is none, whoever made the page told the answer. No text is no answer.
     """
 
     text: str = ""
-    asked: bool = False
+    asked: str = ""
     status: int = 0
 
     def fits(self, journal: Journal) -> bool:
@@ -69,6 +69,7 @@ class Checker:
     """The program `ice check`, which is fed the bytes of a journal while they are read."""
 
     def __init__(self, program: str | Path = PROGRAM) -> None:
+        self.name = Path(program).name
         self.process = subprocess.Popen(
             [str(program), "check", "/dev/stdin"], stdin=subprocess.PIPE, stdout=subprocess.PIPE
         )
@@ -91,7 +92,7 @@ class Checker:
         self.close_input()
         said = self.output.read(4096).decode("utf-8", "replace").strip()
         self.output.close()
-        return Answer(said, True, self.process.wait())
+        return Answer(said, f"{self.name} check", self.process.wait())
 
     def stop(self) -> None:
         """Ends the program without its answer."""

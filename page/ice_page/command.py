@@ -94,12 +94,18 @@ def number_of(journal: Journal, name: str | None) -> int | None:
 
 
 def write(page: str, name: str | None) -> None:
-    """Writes the page to a file or to standard output."""
-    if name is None:
-        sys.stdout.buffer.write(page.encode())
+    """Writes the page to a file or to standard output; what is no text in a name becomes `?`."""
+    data = page.encode(errors="replace")
+    if name is not None:
+        Path(name).write_bytes(data)
+        return
+    try:
+        sys.stdout.buffer.write(data)
         sys.stdout.buffer.flush()
-    else:
-        Path(name).write_bytes(page.encode())
+    except OSError:
+        # Nothing more is written when the process ends.
+        os.dup2(os.open(os.devnull, os.O_WRONLY), 1)
+        raise
 
 
 def main(arguments: list[str] | None = None) -> int:

@@ -50,7 +50,7 @@ FEW_SETTLEMENTS = 10
 def course_section(view: View) -> str:
     """The section, or nothing where there is nothing to tell."""
     parts = regret_table(view) + price_charts(view)
-    if len(view.journal.settlements) > 1 or view.journal.last.bids:
+    if len(view.journal.settlements) > 1:
         parts += Rounds(view).whole()
     return tag("h2", "How it went") + parts if parts else ""
 

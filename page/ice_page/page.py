@@ -27,26 +27,14 @@ def footer(view: View) -> str:
             numbers.plural(settings.branches, "branch step"),
         ]
     )
-    asked = view.answer.asked and view.answer.text
+    kind = f"kind {journal.kind}, version {journal.version}"
     if view.alone:
-        return tag(
-            "footer",
-            key(
-                f"kind {journal.kind}, version {journal.version}",
-                rules,
-                "of the other bidders nothing is shown",
-            ),
-        )
-    return tag(
-        "footer",
-        key(
-            f"{text(view.source)}, kind {journal.kind}, version {journal.version}, "
-            f'{numbers.plural(journal.lines, "line")}',
-            f'SHA-256 {tag("code", journal.digest)}',
-            f"ice check read these bytes and said “{text(view.answer.text)}”" if asked else "",
-            rules,
-        ),
-    )
+        return tag("footer", key(kind, rules, "of the other bidders nothing is shown"))
+    answer, said = view.answer, ""
+    if answer.asked and answer.text:
+        said = f"{text(answer.asked)} read these bytes and said “{text(answer.text)}”"
+    source = f"{text(view.source)}, {kind}, {numbers.plural(journal.lines, 'line')}"
+    return tag("footer", key(source, f"SHA-256 {tag('code', journal.digest)}", said, rules))
 
 
 def whole_page(view: View) -> str:

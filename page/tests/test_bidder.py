@@ -22,7 +22,7 @@ class OneBidder(unittest.TestCase):
         self.assertEqual(facts["could be missed, at most"], ("32", "the regret"))
         self.assertEqual(facts["surplus of the payments"][0], "0")
         self.assertEqual(
-            facts["checker’s answer"], ("yes", "every test passed, as told to this page")
+            facts["checker’s answer"], ("yes", "as told to this page: every test passed")
         )
         rows = page.table("Who trades what")
         self.assertEqual([row[0] for row in rows], ["", "Meridian"])

@@ -85,10 +85,17 @@ class Asked(unittest.TestCase):
     def test_yes(self):
         value, note, words = self.answer('cat >/dev/null; echo "yes 0 0/1"')
         self.assertEqual(value, "yes")
-        self.assertIn("by the program, asked for this page", note)
+        self.assertIn("“yes 0 0/1”, asked of ice check for this page: every test passed", note)
         self.assertIn(PROVEN, words)
         self.assertIn(hashlib.sha256(sample(SESSION).encode()).hexdigest(), words)
         self.assertIn("ice check read these bytes and said “yes 0 0/1”", words)
+
+    def test_the_program_is_named(self):
+        program = Path(self.program("cat >/dev/null; echo 'yes 0 0/1'"))
+        other = program.with_name("<other>")
+        program.rename(other)
+        page = page_of(sample(SESSION), "--check", "--program", str(other))
+        self.assertIn("asked of <other> check for this page", page.facts()["checker’s answer"][1])
 
     def test_same_bytes_and_words(self):
         journal = sample("airport-slots.session")

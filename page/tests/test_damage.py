@@ -86,7 +86,7 @@ class Damage(unittest.TestCase):
     def test_random_edits(self):
         draw = random.Random(12)
         samples = [file.read_bytes() for file in SAMPLES if file.stat().st_size < 3000]
-        for _ in range(1500):
+        for _ in range(600):
             data = bytearray(draw.choice(samples))
             for _ in range(draw.choice([1, 1, 2, 8])):
                 place = draw.randrange(len(data))

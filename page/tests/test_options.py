@@ -55,6 +55,13 @@ class Statuses(unittest.TestCase):
         status, errors = call(str(self.journal), "-o", str(self.folder / "no" / "p.html"))
         self.assertEqual((status, "No such file" in errors), (7, True))
 
+    def test_output_that_takes_nothing(self):
+        with open("/dev/full", "wb") as full:
+            words = [str(HERE.parent / "ice-page"), str(self.journal)]
+            ran = subprocess.run(words, stdout=full, stderr=subprocess.PIPE, text=True, check=False)
+        said = "ice-page: standard output: No space left on device\n"
+        self.assertEqual((ran.returncode, ran.stderr), (7, said))
+
     def test_bad_journal_leaves_no_page(self):
         self.journal.write_text("no journal\n")
         page = self.folder / "p.html"
@@ -101,6 +108,14 @@ class Words(unittest.TestCase):
             page = Page(target.read_text(encoding="utf-8"))
             self.assertEqual(page.root.all("h1")[0].text, file.name)
             self.assertIn(file.name, page.root.all("footer")[0].text)
+
+    def test_file_name_that_is_no_text(self):
+        with tempfile.TemporaryDirectory() as folder:
+            file, target = os.fsencode(folder) + b"/\xe9.journal", Path(folder, "page.html")
+            Path(os.fsdecode(file)).write_text(sample(SESSION))
+            self.assertEqual(call(os.fsdecode(file), "-o", str(target))[0], 0)
+            page = Page(target.read_text(encoding="utf-8"))
+            self.assertEqual(page.root.all("h1")[0].text, "?.journal")
 
     def test_names_of_a_journal(self):
         for name in ("<b>", "a&b", '"', "'", "ä"):
