@@ -195,7 +195,7 @@ class Rounds:
             label(number * self.step + Fraction(self.thick, 2), 12, str(number), "soft", "middle")
             for number in range(self.count)
         )
-        axis = drawing(self.width, 16, marks, f"settlements 0 to {self.count - 1}")
+        axis = drawing(self.width + 6, 16, marks, f"settlements 0 to {self.count - 1}")
         head = row(
             column_head("", "name"),
             column_head("opening", "right"),

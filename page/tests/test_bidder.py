@@ -42,6 +42,11 @@ class OneBidder(unittest.TestCase):
         ):
             self.assertIn(part, words)
 
+    def test_who_receives(self):
+        facts = page_of(sample("two-settlements.session"), "--bidder", "s").facts()
+        self.assertEqual(facts["it receives"][0], "15.5 (31/2)")
+        self.assertNotIn("it pays", facts)
+
     def test_nothing_of_the_others(self):
         for name in NAMES:
             page = page_of(AIRPORT, "--bidder", name, "--checked", "yes 32 0/1")

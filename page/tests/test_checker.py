@@ -61,8 +61,24 @@ class Answers(unittest.TestCase):
         self.assertEqual(self.answer(journal, "--checked", "yes 20")[::2], ("no", False))
 
     def test_sets_that_do_not_add_up(self):
-        journal = sample(SESSION).replace("final 1\n", "final 2\n")
-        self.assertIn("don’t add up to what it states", page_of(journal).root.seen())
+        session = sample(SESSION)
+        trade = (
+            "ice 1 assign\nsettings 50 0 100 1 5 200\n{} A\nbidder s 1\nnode sell 0 1 -10 -10\n"
+            "bidder b 0\nnode buy 0 1 20 30\nassign\nset {}\nset {}\nend assign\n"
+        )
+        for journal, fits in (
+            (session, True),
+            (session.replace("final 1\n", "final 2\n"), False),
+            (session.replace("payment b 1 1/2 31/2", "payment b 1 1/2 30/1"), False),
+            (session.replace("threshold 1/2 0/1", "threshold 1/2 1/1"), False),
+            (trade.format("good", 1, 1), True),
+            (trade.format("good", 0, 1), False),
+            (trade.format("good", 1, 0), True),
+            (trade.format("exact", 1, 1), True),
+            (trade.format("exact", 1, 0), False),
+        ):
+            words = page_of(journal).root.seen()
+            self.assertEqual("don’t add up to what it states" in words, not fits, journal)
 
 
 class Asked(unittest.TestCase):

@@ -74,6 +74,14 @@ class Damage(unittest.TestCase):
                     changed = "\n".join([*lines[: number - 1], other, *lines[number:]]) + "\n"
                     self.refused(changed)
 
+    def test_round_file_of_another_round(self):
+        for name, other in (
+            ("refused.session", "refused 3 3 bids.0.lo.0"),
+            ("unread.session", "unread 3"),
+        ):
+            lines = sample(name).splitlines()
+            self.refused("\n".join([*lines[:-1], other]) + "\n", len(lines))
+
     def test_other_line_endings_and_bytes(self):
         text = sample("two-settlements.session")
         self.refused(text.replace("\n", "\r\n"), 1)

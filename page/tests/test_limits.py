@@ -64,6 +64,9 @@ class Limits(unittest.TestCase):
         self.assertEqual(journal.count("\nnode "), NODES)
         drawn = sum(len(card.all("text", "id")) for card in page.root.all("article"))
         bundles = journal.count("node choose 3 3 3 ")
+        slices = page.root.all("article")[0].all("svg")
+        self.assertGreater(len(slices), 3)
+        self.assertTrue(all(part.all("path", "link") for part in slices))
         self.assertEqual(drawn, NODES - 3 * bundles)
 
     def test_each_limit(self):

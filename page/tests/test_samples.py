@@ -215,9 +215,12 @@ class Samples(unittest.TestCase):
                     taken = [number for number, bit in enumerate(told.sets[bidder]) if bit == "1"]
                     self.assertEqual(filled, [number for number in taken if number in shown])
                     hidden = set(range(len(told.nodes[bidder]))) - set(shown)
-                    self.assertTrue(
-                        all(told.nodes[bidder][number][0] != "choose" for number in hidden)
-                    )
+                    for number in hidden:
+                        kind, *_, low, high = told.nodes[bidder][number]
+                        self.assertIn(kind, SIGNS)
+                        self.assertEqual((low, high, told.lows[bidder][number]), ("0", "0", 0))
+                    self.assertEqual(len(card.all("svg")), 1)
+                    self.assertEqual(len(card.all("path", "link")), len(shown) - 1)
 
     def test_logs(self):
         for name, told, page, _ in self.pages:
