@@ -99,7 +99,7 @@ def checked(view: View) -> Fact:
         return Fact(
             name,
             "not checked",
-            "the page only retells the journal; let " "<code>ice check</code> judge it",
+            "the page only retells the journal; let <code>ice check</code> judge it",
             "warn",
         )
     if not answer.is_verdict():
@@ -229,9 +229,8 @@ def answer_section(view: View) -> str:
         for fact in facts(view)
     )
     title = text(view.title)
-    if view.bidder is not None:
-        name = view.journal.bidders[view.bidder].name
-        title += tag("span", f" · for {text(name)} alone", class_="soft")
+    if view.alone:
+        title += tag("span", text(view.whom), class_="soft")
     return (
         tag("h1", title)
         + lead(view)

@@ -160,17 +160,15 @@ class Matrix:
 
     def doesnt_add_up(self) -> bool:
         """Whether sets and sums are at odds with what the journal states."""
-        paid = sum((each.payment for each in self.journal.payments), Fraction(0))
-        exact_left = any(
-            good.exact and count for good, count in zip(self.journal.goods, self.rest())
+        journal, rest = self.journal, self.rest()
+        paid = sum((each.payment for each in journal.payments), Fraction(0))
+        odds = (
+            min(rest) < 0,
+            any(good.exact and count for good, count in zip(journal.goods, rest)),
+            sum(self.view.worths) != self.view.total,
+            bool(journal.payments) and paid != journal.surplus,
         )
-        return (
-            min(self.rest()) < 0
-            or exact_left
-            or sum(self.view.worths) != self.view.total
-            or bool(self.payments)
-            and paid != self.journal.surplus
-        )
+        return any(odds)
 
     def legend(self) -> str:
         """What the signs mean."""

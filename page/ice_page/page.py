@@ -41,7 +41,7 @@ def whole_page(view: View) -> str:
     """The page as text."""
     head = (
         '<meta charset="utf-8"><meta name="viewport" content="width=device-width, initial-scale=1">'
-        + tag("title", text(view.title))
+        + tag("title", text(view.title + view.whom))
         + tag("style", STYLES.read_text(encoding="utf-8"))
     )
     sections = (

@@ -29,6 +29,12 @@ class View:
         """Whether the page is for one bidder."""
         return self.bidder is not None
 
+    @property
+    def whom(self) -> str:
+        """For whom the page is, as an addition to its title."""
+        alone = self.bidder is not None
+        return f" · for {self.journal.bidders[self.bidder or 0].name} alone" if alone else ""
+
     @cached_property
     def bidders(self) -> list[int]:
         """The numbers of the bidders that are shown."""

@@ -8,6 +8,40 @@ AIRPORT = sample("airport-slots.session")
 NAMES = re.findall("^bidder ([^ ]+)", AIRPORT, re.M)
 
 
+PUBLISHED = ("ice", "settings", "good", "exact", "settle", "regret", "prices", "threshold", "end")
+VALUES = ("final", "rival", "provisional", "without")
+
+
+def with_other_bids(journal: str, name: str) -> str:
+    """The journal with all else than what is published and what is this bidder's changed."""
+    names = re.findall("^bidder ([^ ]+)", journal, re.M)
+    mine, sets, whose, lines = names.index(name), 0, "", []
+    for line in journal.splitlines():
+        word, *fields = line.split()
+        sets = sets + 1 if word == "set" else 0
+        if word in ("bidder", "submit"):
+            whose = fields[0]
+        own = whose == name and word in ("bidder", "node", "submit", "verdict")
+        own = own or sets - 1 == mine or word == "payment" and fields[0] == name
+        if own or word in PUBLISHED:
+            lines.append(line)
+        elif word == "set":
+            lines.append("set " + "0" * len(fields[0]))
+        elif word in VALUES:
+            lines.append(" ".join([word, *fields[:-1], str(int(fields[-1]) + 7)]))
+        elif word in ("node", "submit"):
+            lines.append(" ".join([word, *fields[:-1], str(int(fields[-1]) + 7)]))
+        elif word == "payment":
+            lines.append(f"payment {fields[0]} 77 7/3 -7/9")
+        elif word == "verdict":
+            lines.append("verdict 46")
+        elif word == "near":
+            lines.append("near 1 0 7")
+        else:
+            lines.append(line)
+    return "".join(f"{line}\n" for line in lines)
+
+
 class OneBidder(unittest.TestCase):
     """What one bidder sees."""
 
@@ -24,6 +58,8 @@ class OneBidder(unittest.TestCase):
         self.assertEqual(
             facts["checker’s answer"], ("yes", "as told to this page: every test passed")
         )
+        titles = [page.root.all("head")[0].all("title")[0].text, page.root.all("h1")[0].text]
+        self.assertEqual(titles, ["some.journal · for Meridian alone"] * 2)
         rows = page.table("Who trades what")
         self.assertEqual([row[0] for row in rows], ["", "Meridian"])
         self.assertEqual(rows[1][-1], "270")
@@ -98,6 +134,13 @@ class OneBidder(unittest.TestCase):
         self.assertEqual(pages[0][0], 0)
         self.assertEqual(pages[0], pages[1])
         self.assertNotEqual(run(journal)[1], run(changed)[1])
+
+    def test_same_page_in_a_larger_session(self):
+        for name in NAMES:
+            changed = with_other_bids(AIRPORT, name)
+            self.assertGreater(sum(a != b for a, b in zip(AIRPORT.split(), changed.split())), 150)
+            options = ("--bidder", name, "--checked", "yes 32 0/1", "--title", "Slots")
+            self.assertEqual(run(AIRPORT, *options), run(changed, *options), name)
 
     def test_stops_tell_nothing(self):
         for name, state in (
