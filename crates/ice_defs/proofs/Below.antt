@@ -106,3 +106,10 @@ pub find-none : (p : ℕ → Bool) (n : ℕ) → ((k : ℕ) → k < n → p k �
 find-none p zero none = refl
 find-none p (suc n) none =
     find-append p (numbers_below n) (n ∷ []) ∙ ap (λ o. option_or o (find p (n ∷ []))) (find-none p n (λ k l. none k (omega arith))) ∙ cond-false (p n) _ None (none n (omega arith))
+
+-- ---- one number
+
+-- what holds of 0 holds of each number below 1
+pub below_one : (P : ℕ → Type 0) → P 0 → (n : ℕ) → n < 1 → P n
+below_one P p zero h = p
+below_one P p (suc n) h = absurd (omega (arith, h))

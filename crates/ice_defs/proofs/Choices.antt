@@ -1,5 +1,5 @@
 -- Options and truth values.
-use Rattle.std.proofs.Common.{ℕ, ◌≡◌, Bool, true, false, cond, ◌&&◌, Option, Some, None, refl}
+use Rattle.std.proofs.Common.{ℕ, ◌≡◌, Bool, true, false, cond, Option, Some, None, refl}
 use Rattle.std.specs.Prelude.{is_none, is_some}
 use Rattle.std.specs.Option.{option_or}
 
@@ -23,7 +23,7 @@ pub passes_not : (b : Bool) (n : ℕ) → cond b (Some n) None ≡ None → b �
 passes_not true n e = absurd cc
 passes_not false n e = refl
 
--- both of two
-pub and-true : (a b : Bool) → (a && b) ≡ true → (a ≡ true) × (b ≡ true)
-and-true true b e = (refl, e)
-and-true false b e = absurd cc
+-- what is not refused at once is left to the other tests
+pub some_refused : {X : Type 0} (b : Bool) (x : X) (other : Option X) → cond b (Some x) other ≡ None → (b ≡ false) × (other ≡ None)
+some_refused true x other e = absurd cc
+some_refused false x other e = (refl, e)

@@ -2,6 +2,8 @@
 pub mod Products
 -- multiples of integers, and their order
 pub mod Multiples
+-- integers: tests of their order, their size, and a negated factor
+pub mod Integers
 -- sums over the numbers below a bound
 pub mod Sums
 -- facts of each item of a list

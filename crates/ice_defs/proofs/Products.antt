@@ -44,8 +44,8 @@ pub sum_below-times : (m : ℤ) (f : ℕ → ℤ) (n : ℕ) → sum_below (λ k.
 sum_below-times m f zero = sym (*ℤ-zero m)
 sum_below-times m f (suc n) = ap (λ s. s +ℤ (m *ℤ f n)) (sum_below-times m f n) ∙ sym (times_add m (sum_below f n) (f n))
 
--- one more
-times_one : (m : ℤ) → m *ℤ pos 1 ≡ m
+-- one time, and one more
+pub times_one : (m : ℤ) → m *ℤ pos 1 ≡ m
 times_one (pos n) = omega (arith, ints)
 times_one (negsuc n) = omega (arith, ints)
 
