@@ -1,18 +1,16 @@
 -- The test `is_satisfied` decides which sets are satisfied.
-use Rattle.std.proofs.Common.{ℕ, ◌<◌, ◌≤◌, ◌≡◌, Bool, true, false, cond, ◌&&◌, not, ltb, [], ◌∷◌, length, Option, Some, None, refl, arith, ap, ◌∙◌, ◌⊎◌, inl, inr, subst}
+use Rattle.std.proofs.Common.{ℕ, ◌<◌, ◌≤◌, ◌≡◌, Bool, true, false, cond, ◌&&◌, not, ltb, [], ◌∷◌, length, Option, Some, None, refl, ap, ◌∙◌, ◌⊎◌, inl, inr, subst}
 use Rattle.std.specs.Prelude.{is_none, filter_map}
 use Rattle.std.proofs.lemmas.Bool.{cases_lt, both_ways, and_parts, and_from, and_left, and_right, eqb-true, eq-eqb, lt-ltb, le-ltb}
-use Rattle.std.proofs.lemmas.Bool.Decides.{nat_tests}
-use Rattle.ice_defs.specs.declared.NodeKind.{NodeKind}
-use Rattle.ice_defs.specs.declared.NodeKind.TheVariants.{Choose, Buy, Sell}
 use Rattle.ice_defs.specs.declared.SatRule.{SatRule}
 use Rattle.ice_defs.specs.declared.SatRule.TheVariants.{Parent}
 use Rattle.ice_defs.specs.Tree.{Tree, kind_of, parent_of}
-use Rattle.ice_defs.specs.Set.{NodeSet, has, IsSatisfied, IsWithin, children_inside}
+use Rattle.ice_defs.specs.Set.{NodeSet, has, IsSatisfied, children_inside}
 use Rattle.ice_defs.specs.SetFault.{count_fault, fault_at, first_in, is_satisfied}
 use Rattle.ice_defs.proofs.Lists.{first_in-none}
 use Rattle.ice_defs.proofs.Below.{filter_map-none, filter_map-each}
 use Rattle.ice_defs.proofs.Choices.{is_none-true}
+use Rattle.ice_tree.proofs.Satisfied.{IsWithin-from_none, none-from_IsWithin}
 
 -- ---- the first of some options
 
@@ -21,16 +19,6 @@ one_none None e = refl
 one_none (Some x) e = absurd (cc)
 
 -- ---- the faults of a node
-
-count_fault-none : (kind : NodeKind) (count : ℕ) → count_fault kind count ≡ None → IsWithin kind count
-count_fault-none (Choose least most) count e = (grind (arith, nat_tests), grind (arith, nat_tests))
-count_fault-none (Buy good units) count e = tt
-count_fault-none (Sell good units) count e = tt
-
-count_fault-within : (kind : NodeKind) (count : ℕ) → IsWithin kind count → count_fault kind count ≡ None
-count_fault-within (Choose least most) count (few, many) = grind (arith, nat_tests)
-count_fault-within (Buy good units) count within = refl
-count_fault-within (Sell good units) count within = refl
 
 abbrev fault_by : Bool → Bool → Option SatRule → Option SatRule
 fault_by inside orphan rule = cond inside (cond orphan (Some Parent) rule) None
@@ -57,11 +45,11 @@ module _ (t : Tree) (s : NodeSet) where
   satisfied size none = record {
     same_length = size;
     parent_inside = λ c later l e. parent_of-orphan c _ later (fault_at-none c (none c l) e).0;
-    count_inside = λ n l e. count_fault-none _ _ (fault_at-none n (none n l) e).1;
+    count_inside = λ n l e. IsWithin-from_none _ _ (fault_at-none n (none n l) e).1;
   }
 
   no_fault : IsSatisfied t s → (n : ℕ) → n < length t → fault_at t s n ≡ None
-  no_fault sat n l = fault_by-fine (has s n) _ _ (λ e. (not_orphan (cases_lt 0 n) e, count_fault-within _ _ (sat.count_inside n l e)))
+  no_fault sat n l = fault_by-fine (has s n) _ _ (λ e. (not_orphan (cases_lt 0 n) e, none-from_IsWithin _ _ (sat.count_inside n l e)))
     where
       not_orphan : (0 < n) ⊎ (n ≤ 0) → has s n ≡ true → (ltb 0 n && not (has s (parent_of t n))) ≡ false
       not_orphan (inl later) e = and_right _ _ (ap not (sat.parent_inside n later l e))

@@ -1,5 +1,5 @@
 -- The net of a set is its value at the net weights.
-use Rattle.std.proofs.Common.{ℕ, zero, suc, ◌*◌, ◌^◌, ◌<◌, ◌≤◌, ◌≡◌, Bool, true, false, cond, length, ℤ, pos, ◌+ℤ◌, ◌-ℤ◌, ◌*ℤ◌, neg_ℤ, ◌≤ℤ◌, refl, arith, ap, sym, ◌∙◌, subst}
+use Rattle.std.proofs.Common.{ℕ, ◌*◌, ◌^◌, ◌≤◌, ◌≡◌, Bool, true, false, cond, length, ℤ, pos, ◌+ℤ◌, ◌-ℤ◌, ◌*ℤ◌, neg_ℤ, ◌≤ℤ◌, refl, arith, ap, sym, ◌∙◌, subst}
 use Rattle.std.proofs.lemmas.Int.{ints}
 use Rattle.ice_defs.specs.Sum.{sum_below}
 use Rattle.ice_defs.specs.Tree.{Tree, kind_of}
@@ -7,7 +7,7 @@ use Rattle.ice_defs.specs.Set.{NodeSet, has, Weights, weight_of, AllSmall, IsSma
 use Rattle.ice_defs.specs.Fixing.{Fixing}
 use Rattle.ice_defs.specs.Greatest.{IsGreatest}
 use Rattle.ice_defs.specs.Bound.{Multipliers, cost, net, IsOpen}
-use Rattle.ice_defs.proofs.Sums.{sum_below-same, sum_below-add, sum_below-swap}
+use Rattle.ice_defs.proofs.Sums.{sum_below-same, sum_below-add, sum_below-swap, sum_below-low, sum_below-high}
 use Rattle.ice_bound.specs.Multipliers.{multiplier_of}
 use Rattle.ice_bound.specs.Net.{node_cost, AreNetWeights}
 use Rattle.ice_defs.proofs.Products.{sum_below-times}
@@ -48,15 +48,6 @@ greatest-net t w m nets x v are is =
       attained = (s, o, sym (value-nets t w m nets s are (o.0).same_length) ∙ same);
       bound = λ r ok. subst (λ z. z ≤ℤ v) (value-nets t w m nets r are (ok.0).same_length) (is.bound r ok);
     }
-
--- a sum of so many terms between two bounds
-sum_below-low : (f : ℕ → ℤ) (n m : ℕ) → ((k : ℕ) → k < n → neg_ℤ (pos m) ≤ℤ f k) → neg_ℤ (pos (n * m)) ≤ℤ sum_below f n
-sum_below-low f zero m each = omega (arith, ints)
-sum_below-low f (suc n) m each = omega (arith, ints, sum_below-low f n m (λ k h. each k (omega arith)), each n (omega arith))
-
-sum_below-high : (f : ℕ → ℤ) (n m : ℕ) → ((k : ℕ) → k < n → f k ≤ℤ pos m) → sum_below f n ≤ℤ pos (n * m)
-sum_below-high f zero m each = omega (arith, ints)
-sum_below-high f (suc n) m each = omega (arith, ints, sum_below-high f n m (λ k h. each k (omega arith)), each n (omega arith))
 
 -- what is greatest at small weights is no larger than 200 of them
 pub greatest-small : (t : Tree) (nets : Weights) (x : Fixing) (v : ℤ) → length t ≤ 200 → length nets ≡ length t → AllSmall nets

@@ -7,6 +7,7 @@ use borrow.Author.Tests.{ltb-true}
 use Rattle.std.proofs.Math.Nat.{div-mul_cancel, div-le_self, mul-div_cancel', mul-pos, pos_of_dvd_of_pos, dvd-mul_left}
 use Rattle.ice_defs.specs.Fraction.{Fraction, Equals, plus, times}
 use Rattle.ice_defs.specs.Frac.{gcd, lowest, reciprocal, num_fits, den_fits, if_fits, add, mul}
+use Rattle.ice_defs.proofs.Integers.{unsigned_abs-neg}
 use Rattle.ice_frac.specs.Lowest.{IsLowest}
 use Rattle.ice_frac.proofs.Ring.{is_diff, diff_same, diff_pos, diffs, neg_pos_mul, cancel_ℤ}
 use Rattle.ice_frac.proofs.Gcd.{IsGcd-gcd, gcd_pos, gcd_comm, part_dvd, coprime-div, crossed, Crossed}
@@ -15,11 +16,7 @@ use Rattle.ice_frac.proofs.Gcd.{IsGcd-gcd, gcd_pos, gcd_comm, part_dvd, coprime-
 
 pub unsigned_abs-int_div : (n : ℤ) (g : ℕ) → unsigned_abs (int_div n (pos g)) ≡ unsigned_abs n / g
 unsigned_abs-int_div (pos n) g = refl
-unsigned_abs-int_div (negsuc n) g = unsigned_abs-neg (suc n / g)
-  where
-    unsigned_abs-neg : (m : ℕ) → unsigned_abs (neg_ℤ (pos m)) ≡ m
-    unsigned_abs-neg zero = refl
-    unsigned_abs-neg (suc m) = refl
+unsigned_abs-int_div (negsuc n) g = unsigned_abs-neg (pos (suc n / g))
 
 pub int_div-exact : (n : ℤ) (g : ℕ) → g ∣ unsigned_abs n → int_div n (pos g) *ℤ pos g ≡ n
 int_div-exact (pos n) g h = ap pos (div-mul_cancel g h)

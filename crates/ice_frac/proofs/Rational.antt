@@ -232,7 +232,7 @@ rational_of-negated a ha = rational_from_pair (neg_ℤ a.num) a.den ha ∙ ap ne
 rational_of-less : (a b : Fraction) → IsFraction a → IsFraction b → rational_of (less a b) ≡ rational_of a +ℚ neg_ℚ (rational_of b)
 rational_of-less a b ha hb = rational_of-plus a (negated b) ha hb ∙ ap (λ x. rational_of a +ℚ x) (rational_of-negated b hb)
 
-positive-reciprocal_of : (n : ℤ) (d : ℕ) → n ≢ pos 0 → IsFraction (reciprocal (record { num = n; den = d }))
+pub positive-reciprocal_of : (n : ℤ) (d : ℕ) → n ≢ pos 0 → IsFraction (reciprocal (record { num = n; den = d }))
 positive-reciprocal_of (pos zero) d h = absurd (h refl)
 positive-reciprocal_of (pos (suc n)) d h = pos_suc n
 positive-reciprocal_of (negsuc n) d h = pos_suc n

@@ -1,13 +1,11 @@
 -- The goods and bidders that are drawn aren't refused, and make the generated exchange.
-use Rattle.std.proofs.Common.{ℕ, zero, suc, ◌+◌, ◌*◌, ◌<◌, ◌≤◌, ◌≡◌, Bool, true, false, cond, eqb, leb, List, [], ◌∷◌, ◌++◌, map, length, replicate, ℤ, pos, neg_ℤ, ◌+ℤ◌, ◌≤ℤ◌, Option, Some, None, refl, arith, ap, sym, ◌∙◌, subst, append_assoc}
-use Rattle.std.specs.Prelude.{IsSome, IsOk, Result, Ok, Err, is_some, is_none, int_lt, int_le, slice_index, find, codes, decimal}
-use Rattle.std.specs.Option.{option_or}
+use Rattle.std.proofs.Common.{ℕ, ◌+◌, ◌*◌, ◌<◌, ◌≤◌, ◌≡◌, Bool, true, false, cond, eqb, leb, List, [], ◌∷◌, ◌++◌, map, length, replicate, ℤ, pos, neg_ℤ, ◌+ℤ◌, ◌≤ℤ◌, Option, Some, None, refl, arith, ap, sym, ◌∙◌, subst, append_assoc}
+use Rattle.std.specs.Prelude.{IsSome, IsOk, Result, Ok, Err, is_some, is_none, int_lt, int_le, slice_index, codes, decimal}
 use Rattle.std.specs.List.{AllByRecursion, list_all}
 use Rattle.std.specs.Fmt.{digits}
 use Rattle.std.proofs.lemmas.Int.{ints}
 use Rattle.std.proofs.lemmas.Bool.{and_parts, leb-true}
 use Rattle.std.proofs.lemmas.List.{map_push}
-use Rattle.std.proofs.lemmas.List.Folds.{find-append}
 use Rattle.std.proofs.Math.Numerals.{add-one}
 use Rattle.ice_defs.specs.declared.NodeKind.{NodeKind}
 use Rattle.ice_defs.specs.declared.NodeKind.TheVariants.{Choose, Buy, Sell}
@@ -20,6 +18,8 @@ use Rattle.ice_defs.specs.Lawful.{IsLimitedTree, AreBounds, IsBidder}
 use Rattle.ice_defs.specs.Exchange.{Good, Bidder, Exchange}
 use Rattle.ice_defs.specs.Making.{good_refusal, bidder_refusal, over_sale}
 use Rattle.ice_defs.proofs.Sums.{sum_below-le, sum_below-add, sum_below-zero}
+use Rattle.ice_defs.proofs.Below.{find-none}
+use Rattle.ice_defs.proofs.Choices.{is_none-true}
 use Rattle.ice_best.proofs.Sales.{greatest_sale-greatest}
 use Rattle.ice_trade.specs.declared.faults.MakeFault.{MakeFault}
 use Rattle.ice_trade.specs.Fault.{RefusedBy}
@@ -28,7 +28,7 @@ use Rattle.ice_gen.specs.Generated.{Made, bounds_of_values, truth_of_values, dra
 use Rattle.ice_gen.specs.Drawing.{state_after}
 use Rattle.ice_gen.specs.Parts.{bidder_of, truth_of, exchange_with, goods_below, the_settings}
 use Rattle.ice_gen.proofs.Drawing.{state_after-add}
-use Rattle.ice_gen.proofs.Numbers.{below_4, all_below, None-from_is_none}
+use Rattle.ice_gen.proofs.Numbers.{below_4, all_below}
 
 -- ---- goods
 
@@ -37,7 +37,7 @@ is_free g = is_none (good_refusal (goods_below g) [] (codes "G" ++ decimal g))
 
 pub good_refusal-none : (g : ℕ) → g < 12 → good_refusal (goods_below g) [] (codes "G" ++ decimal g) ≡ None
 unfolding is_free digits
-good_refusal-none g l = None-from_is_none _ (all_below is_free 12 refl g l)
+good_refusal-none g l = is_none-true _ (all_below is_free 12 refl g l)
 
 -- the exchange with so many goods and no bidder
 abbrev pub stocked : ℕ → Exchange
@@ -110,13 +110,6 @@ greatest_sale-covered : (t : Tree) (g : ℕ) → greatest_sale t g ≤ℤ sold t
 greatest_sale-covered t g =
     let (s, sat, same) = (greatest_sale-greatest t g).attained in
     subst (λ z. z ≤ℤ sold t g) same (units_covered t s g)
-
-find-none : (p : ℕ → Bool) (n : ℕ) → ((k : ℕ) → k < n → p k ≡ false) → find p (numbers_below n) ≡ None
-find-none p zero none = refl
-find-none p (suc n) none =
-    find-append p (numbers_below n) (n ∷ [])
-    ∙ ap (λ o. option_or o (find p (n ∷ []))) (find-none p n (λ k h. none k (omega arith)))
-    ∙ ap (λ b. let o : Option ℕ = cond b (Some n) None in o) (none n (omega arith))
 
 is_owned : Tree → List ℕ → ℕ → Bool
 is_owned t own g = int_le (sold t g) (pos (slice_index own g))

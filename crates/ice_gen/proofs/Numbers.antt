@@ -1,8 +1,7 @@
 -- Tests over all numbers below a bound, and choices that no test meets.
-use Rattle.std.proofs.Common.{ℕ, zero, suc, ◌<◌, ◌≤◌, ◌≡◌, Bool, true, false, cond, ◌&&◌, List, [], ◌∷◌, ◌++◌, Option, Some, None, refl, arith, ap, sym, ◌∙◌, ◌⊎◌, inl, inr}
-use Rattle.std.specs.Prelude.{is_none}
+use Rattle.std.proofs.Common.{ℕ, zero, suc, ◌<◌, ◌≤◌, ◌≡◌, Bool, true, false, cond, ◌&&◌, List, [], ◌∷◌, ◌++◌, refl, arith, ap, sym, ◌∙◌, ◌⊎◌, inl, inr}
 use Rattle.std.specs.List.{list_all}
-use Rattle.std.proofs.lemmas.Bool.{cases_lt}
+use Rattle.std.proofs.lemmas.Bool.{cases_lt, and_parts}
 use Rattle.ice_defs.specs.Sum.{numbers_below}
 
 -- a choice whose test fails
@@ -17,10 +16,6 @@ below_4 P p0 p1 p2 p3 (suc (suc zero)) l = p2
 below_4 P p0 p1 p2 p3 (suc (suc (suc zero))) l = p3
 below_4 P p0 p1 p2 p3 (suc (suc (suc (suc i)))) l = absurd (omega arith)
 
-both : (b c : Bool) → (b && c) ≡ true → (b ≡ true) × (c ≡ true)
-both true c e = (refl, e)
-both false c e = absurd cc
-
 list_all-append : {X : Type 0} (p : X → Bool) (xs ys : List X) → list_all p (xs ++ ys) ≡ (list_all p xs && list_all p ys)
 list_all-append p [] ys = refl
 list_all-append p (x ∷ xs) ys = by (p x) _ _ _ (list_all-append p xs ys)
@@ -33,13 +28,9 @@ list_all-append p (x ∷ xs) ys = by (p x) _ _ _ (list_all-append p xs ys)
 pub all_below : (p : ℕ → Bool) (n : ℕ) → list_all p (numbers_below n) ≡ true → (k : ℕ) → k < n → p k ≡ true
 all_below p zero all k l = absurd (omega arith)
 all_below p (suc n) all k l =
-    let parts = both _ _ (sym (list_all-append p (numbers_below n) (n ∷ [])) ∙ all) in
-    by (cases_lt k n) (λ before. all_below p n parts.0 k before) (both (p n) true parts.1).0
+    let parts = and_parts _ _ (sym (list_all-append p (numbers_below n) (n ∷ [])) ∙ all) in
+    by (cases_lt k n) (λ before. all_below p n parts.0 k before) (and_parts (p n) true parts.1).0
   where
     by : (k < n) ⊎ (n ≤ k) → (k < n → p k ≡ true) → p n ≡ true → p k ≡ true
     by (inl before) first last = first before
     by (inr here) first last = let same : k ≡ n = omega arith in ap p same ∙ last
-
-pub None-from_is_none : {X : Type 0} (o : Option X) → is_none o ≡ true → o ≡ None
-None-from_is_none None e = refl
-None-from_is_none (Some x) e = absurd cc

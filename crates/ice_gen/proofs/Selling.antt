@@ -1,8 +1,9 @@
 -- A seller, sale by sale.
-use Rattle.std.proofs.Common.{ℕ, zero, suc, ◌+◌, ◌*◌, ◌<◌, ◌≡◌, Bool, true, false, ◌&&◌, ltb, eqb, List, [], ◌∷◌, length, None, refl, arith, ap, sym, ◌∙◌}
+use Rattle.std.proofs.Common.{ℕ, zero, suc, ◌+◌, ◌*◌, ◌<◌, ◌≡◌, true, false, ◌&&◌, ltb, eqb, List, [], ◌∷◌, length, None, refl, arith, ap, sym, ◌∙◌}
 use Rattle.std.specs.Prelude.{slice_set, replicate}
 use Rattle.std.proofs.lemmas.List.{length_push}
 use Rattle.std.proofs.Math.Numerals.{add-one}
+use Rattle.std.proofs.lemmas.Bool.{and_right}
 use Rattle.ice_defs.specs.declared.NodeKind.TheVariants.{Choose, Sell}
 use Rattle.ice_defs.specs.Making.{is_complete, innermost}
 use Rattle.ice_tree.specs.Making.{draft_close_refusal, all_but_first}
@@ -56,11 +57,7 @@ length-sold_by i (suc j) x =
 
 -- a tree whose root is open isn't complete
 pub unfinished : (d : ValuedDraft) → d.opened ≡ 0 ∷ [] → is_complete (draft_of d) ≡ false
-unfinished d root = ap (λ (l : List ℕ). ltb 0 (length d.tree) && eqb (length l) 0) root ∙ and-false (ltb 0 (length d.tree))
-  where
-    and-false : (b : Bool) → (b && false) ≡ false
-    and-false true = refl
-    and-false false = refl
+unfinished d root = ap (λ (l : List ℕ). ltb 0 (length d.tree) && eqb (length l) 0) root ∙ and_right (ltb 0 (length d.tree)) false refl
 
 pub complete-sold : (i x : ℕ) → is_complete (draft_of (record (sold_by i 3 x) { opened = all_but_first (sold_by i 3 x).opened })) ≡ true
 unfolding sold_by

@@ -3,7 +3,7 @@ use Rattle.std.proofs.Common.{◌≡◌, ℕ, suc, ◌+◌, ◌-◌, ◌<◌, �
 use Rattle.std.specs.List.{list_all, join_with_byte, AllByRecursion, flat_map}
 use Rattle.std.specs.Fmt.{signed_decimal}
 use Rattle.std.specs.Str.Parse.{AllDigits}
-use Rattle.std.proofs.lemmas.Bool.{ne_eqb, lt-ltb, ltb-true}
+use Rattle.std.proofs.lemmas.Bool.{ne_eqb, lt-ltb, ltb-true, and_parts, and_from}
 use Rattle.std.proofs.lemmas.Bool.Decides.{nat_tests}
 use Rattle.std.proofs.lemmas.Int.{ints}
 use Rattle.std.proofs.lemmas.Str.Parse.{digit_from_value}
@@ -32,34 +32,26 @@ IsClear field = is_clear field ≡ true
 abbrev pub AreClear : List (List ℕ) → Type 0
 AreClear = AllByRecursion IsClear
 
-pub both : (a b : Bool) → (a && b) ≡ true → (a ≡ true) × (b ≡ true)
-both true b e = (refl, e)
-both false b e = absurd cc
-
-and_of : (a b : Bool) → a ≡ true → b ≡ true → (a && b) ≡ true
-and_of true b p q = q
-and_of false b p q = absurd cc
-
 clear_cons : (b : ℕ) (bs : List ℕ) → 32 < b → IsClear bs → IsClear (b ∷ bs)
-clear_cons b bs h p = and_of (ltb 32 b) (is_clear bs) (lt-ltb 32 b h) p
+clear_cons b bs h p = and_from (ltb 32 b) (is_clear bs) (lt-ltb 32 b h) p
 
 clear_append : (a b : List ℕ) → IsClear a → IsClear b → IsClear (a ++ b)
 clear_append [] b p q = q
 clear_append (x ∷ xs) b p q =
-    let h = both (ltb 32 x) (is_clear xs) p in
-    and_of (ltb 32 x) (is_clear (xs ++ b)) h.0 (clear_append xs b h.1 q)
+    let h = and_parts (ltb 32 x) (is_clear xs) p in
+    and_from (ltb 32 x) (is_clear (xs ++ b)) h.0 (clear_append xs b h.1 q)
 
 fields_alone : (field : List ℕ) → IsClear field → fields field ≡ field ∷ []
 fields_alone [] p = refl
 fields_alone (b ∷ bs) p =
-    let h = both (ltb 32 b) (is_clear bs) p in
+    let h = and_parts (ltb 32 b) (is_clear bs) p in
     let above : 32 < b = ltb-true 32 b h.0 in
     rw (ne_eqb b 32 (λ e. omega arith), fields_alone bs h.1) refl
 
 fields_then : (field rest : List ℕ) → IsClear field → fields (field ++ 32 ∷ rest) ≡ field ∷ fields rest
 fields_then [] rest p = refl
 fields_then (b ∷ bs) rest p =
-    let h = both (ltb 32 b) (is_clear bs) p in
+    let h = and_parts (ltb 32 b) (is_clear bs) p in
     let above : 32 < b = ltb-true 32 b h.0 in
     rw (ne_eqb b 32 (λ e. omega arith), fields_then bs rest h.1) refl
 
@@ -115,11 +107,11 @@ name_byte b h = grind (arith, nat_tests)
 clear_name_bytes : (name : List ℕ) → list_all is_name_byte name ≡ true → IsClear name
 clear_name_bytes [] h = refl
 clear_name_bytes (b ∷ bs) h =
-    let p = both (is_name_byte b) (list_all is_name_byte bs) h in
+    let p = and_parts (is_name_byte b) (list_all is_name_byte bs) h in
     clear_cons b bs (name_byte b p.0) (clear_name_bytes bs p.1)
 
 clear_name : (name : List ℕ) → IsName name → IsClear name
-clear_name name h = clear_name_bytes name (both _ (list_all is_name_byte name) h).1
+clear_name name h = clear_name_bytes name (and_parts _ (list_all is_name_byte name) h).1
 
 clear_bits : (bits : List Bool) → IsClear (map bit_byte bits)
 clear_bits [] = refl

@@ -1,7 +1,7 @@
 -- Bytes are the lines of one list of records, or have one least line at fault.
 use Rattle.std.proofs.Common.{◌≡◌, ℕ, ◌<◌, ltb, List, [], ◌∷◌, ◌++◌, length, Contains, refl, sym, ap, ◌∙◌, append_assoc, arith, Result, Ok, Err}
 use Rattle.std.specs.List.{AllByRecursion, join_with_byte}
-use Rattle.std.proofs.lemmas.Bool.{ltb-true}
+use Rattle.std.proofs.lemmas.Bool.{ltb-true, and_parts}
 use Rattle.std.proofs.lemmas.List.{append-nil}
 use Rattle.std.proofs.lemmas.List.Concat.{flat_map-cons}
 use Rattle.std.proofs.lemmas.List.Elements.{Contains-append_right}
@@ -9,7 +9,7 @@ use Rattle.ice_journal.specs.Records.{Record}
 use Rattle.ice_journal.specs.Ranges.{IsRecord}
 use Rattle.ice_journal.specs.Spelling.{fields_of, text_of, line_of}
 use Rattle.ice_journal.specs.Journal.{bytes_of, IsJournal, IsNoRecord, ComesTo, LinesFault, grammar, unended, IsJournalOf}
-use Rattle.ice_journal.proofs.Clear.{IsClear, AreClear, is_clear, both, clear_record}
+use Rattle.ice_journal.proofs.Clear.{IsClear, AreClear, is_clear, clear_record}
 use Rattle.ice_journal.proofs.OneSpelling.{one_spelling}
 
 -- no newline
@@ -23,7 +23,7 @@ one_line (b ∷ bs) none = (λ e. none (0, omega arith, e), one_line bs (λ h. n
 clear_line : (field : List ℕ) → IsClear field → IsOneLine field
 clear_line [] p = tt
 clear_line (b ∷ bs) p =
-    let h = both (ltb 32 b) (is_clear bs) p in
+    let h = and_parts (ltb 32 b) (is_clear bs) p in
     let above : 32 < b = ltb-true 32 b h.0 in
     (λ e. absurd (omega arith), clear_line bs h.1)
 

@@ -48,7 +48,3 @@ pub push_front : {A : Type 0} (g : A → List ℕ) (whole fields after : List (L
 push_front g whole fields after [] x field e cut is = e ∙ cut ∙ ap (λ (f : List ℕ). f ∷ after) is
 push_front g whole fields after (y ∷ ys) x field e cut is =
     e ∙ ap (λ (fs : List (List ℕ)). g y ∷ fs) (push_front g (map g ys ++ fields) fields after ys x field refl cut is)
-
-pub push_all : {A : Type 0} (P : A → Type 0) (xs : List A) (x : A) → AllByRecursion P xs → P x → AllByRecursion P (xs ++ x ∷ [])
-push_all P [] x p q = (q, tt)
-push_all P (y ∷ ys) x p q = (p.0, push_all P ys x p.1 q)

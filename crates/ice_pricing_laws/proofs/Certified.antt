@@ -10,7 +10,7 @@ use Rattle.ice_defs.specs.Set.{Weights, value, units}
 use Rattle.ice_defs.specs.Trade.{Assignment, tree_of, set_of, weights_of}
 use Rattle.ice_defs.specs.Prices.{Prices, ArePrices}
 use Rattle.ice_defs.specs.Pricing.{IsViolation, top_of}
-use Rattle.ice_defs.specs.Rows.{Row, Certificate, weighted_sum, wanted, PassesAccuracy, PassesBalance}
+use Rattle.ice_defs.specs.Rows.{Row, weighted_sum, wanted}
 use Rattle.ice_defs.specs.Rows as rows
 use Rattle.ice_defs.specs.Fraction.{Fraction, whole, Equals, times, fraction_at}
 use Rattle.ice_defs.specs.Program.{Constraint, dot, leasts, cost}
@@ -19,7 +19,7 @@ use Rattle.ice_defs.proofs.Products.{times-le}
 use Rattle.ice_frac.proofs.Ring.{is_diff, diff_same, diff_pos, diffs}
 use Rattle.ice_frac.proofs.Fractions.{Equals-trans, Equals_from_AtMost, AtMost_from_Equals}
 use Rattle.ice_rows.specs.Laws.{AreSatisfied}
-use Rattle.ice_defs.proofs.Multiples.{times_less, times_swap, times_turn, times_keep, times_cancel}
+use Rattle.ice_defs.proofs.Multiples.{times_less, times_swap, times_turn, times_keep, times_cancel, one_time}
 use Rattle.ice_rows.proofs.Weighted.{total_weight, weighted_sum-ones}
 use Rattle.ice_rows.proofs.Priced.{violation-ge, rows-le}
 use Rattle.ice_rows.proofs.Accurate.{wanted-le}
@@ -27,7 +27,7 @@ use Rattle.ice_pricing_laws.specs.Weights.{rows_with, AreWeights, DualsPassAccur
 use Rattle.ice_pricing_laws.proofs.Lists.{length-map_below}
 use Rattle.ice_pricing_laws.proofs.Dens.{IsOver, AreOver}
 use Rattle.ice_pricing_laws.proofs.Dots.{times-over, over-same}
-use Rattle.ice_pricing_laws.proofs.Programs.{above, cost-over, one-*ℤ}
+use Rattle.ice_pricing_laws.proofs.Programs.{above, cost-over}
 use Rattle.ice_pricing_laws.proofs.Solved.{den_of, num_at, den_of-pos, are_over-own, own-pos, own-over}
 use Rattle.ice_pricing_laws.proofs.Accuracy.{point-size, least_is_accurate}
 use Rattle.ice_pricing_laws.proofs.Balanced.{balance-size, violation-balance_point, least-top, point-top, least_is_balanced}
@@ -160,7 +160,7 @@ duals_pass_accuracy ts ws sets goods cap pool x y v den ns some satisfied member
     let few = weights-size goods pool y e a over long 1 den ns weights in
     let multiples = weights-multiples goods pool y e a over long 1 den ns weights in
     let scaled : (f : Member → ℤ) → pos e *ℤ pool_sum pool f (weight_at ns) ≡ pos den *ℤ pool_sum pool f b =
-    λ f. pool_sum-scaled pool 1 den e (weight_at ns) b f multiples ∙ ap (λ z. pos den *ℤ z) (one-*ℤ (pool_sum pool f b)) in
+    λ f. pool_sum-scaled pool 1 den e (weight_at ns) b f multiples ∙ ap (λ z. pos den *ℤ z) (one_time (pool_sum pool f b)) in
     let worth : Member → ℤ = worth_above ts ws sets goods cap in
     let worths = ap (λ z. pos e *ℤ z) (worth-rows ts ws sets goods cap pool ns few) ∙ scaled worth in
     let each : (g : ℕ) → g < goods → (pos 100 *ℤ (pos e *ℤ weighted_sum (rows.units_above ts ws sets g) rs)) ≤ℤ (pos den *ℤ a g) =
@@ -235,12 +235,12 @@ duals_pass_balance ts ws sets goods cap pool p delta x y v den ns satisfied memb
       times-le den (pool_sum pool (λ m. pos factor *ℤ u m) b) (a g) (facts.columns g h),
       ap (λ z. pos den *ℤ z) (pool_sum-times pool (pos factor) u b),
       ap (λ z. pos e *ℤ z) (units-rows ts ws sets goods cap pool g ns few) ∙ scaled u,
-      one-*ℤ (pos e *ℤ weighted_sum (rows.units_above ts ws sets g) rs),
+      one_time (pos e *ℤ weighted_sum (rows.units_above ts ws sets g) rs),
     ) in
     let wants = wanted-most 1 e den (λ g. weighted_sum (rows.units_above ts ws sets g) rs) a goods facts.low each in
     let all : ℤ = wanted ts ws sets goods rs in
     let asked : all ≤ℤ pos den =
-    times_cancel e all (pos den) he (omega (arith, ints, wants, one-*ℤ (pos e *ℤ all), times-le den (sum_below a goods) (pos e) facts.last, *ℤ_comm (pos den) (pos e))) in
+    times_cancel e all (pos den) he (omega (arith, ints, wants, one_time (pos e *ℤ all), times-le den (sum_below a goods) (pos e) facts.last, *ℤ_comm (pos den) (pos e))) in
     let worth : Member → ℤ = worth_above ts ws sets goods cap in
     let first : Member → ℤ = λ m. (pos r.den *ℤ worth m) -ℤ v in
     let second : Member → ℤ = λ m. (pos p.den *ℤ worth m) -ℤ delta in

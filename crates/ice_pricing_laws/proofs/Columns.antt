@@ -13,11 +13,13 @@ use Rattle.ice_defs.specs.Program.{Constraint, dot, leasts, AreNonNegative, AreD
 use Rattle.ice_defs.specs.PricingRun.{Member, only_at, worth_above, units_above, accuracy_program, balance_program}
 use Rattle.ice_defs.proofs.Sums.{sum_below-same, sum_below-single, sum_below-zero, at_same, at_other}
 use Rattle.ice_defs.proofs.Products.{sum_below-times}
+use Rattle.ice_defs.proofs.Integers.{neg_times}
+use Rattle.ice_defs.proofs.Multiples.{one_time}
 use Rattle.ice_pricing_laws.specs.Pools.{member_at}
 use Rattle.ice_pricing_laws.proofs.Lists.{all-at, get_or-map_push, get_or-map_end, get_or-only_at, length-only_at}
 use Rattle.ice_pricing_laws.proofs.Dens.{IsOver, AreOver}
 use Rattle.ice_pricing_laws.proofs.Dots.{coefficient, dot_num, dot-over, least-over, over-most}
-use Rattle.ice_pricing_laws.proofs.Programs.{above, one-*ℤ, minus-*ℤ, neg-*ℤ}
+use Rattle.ice_pricing_laws.proofs.Programs.{above, minus-*ℤ}
 use Rattle.ice_pricing_laws.proofs.Duals.{pool_sum, dot-rows}
 
 -- ---- the first rows
@@ -57,7 +59,7 @@ tops-last goods a =
     (λ i l. ap (λ z. z *ℤ a i)
     (get_or-set_other (only_at (suc goods) goods (pos 1)) i goods (neg_ℤ (pos 1)) (pos 0) (λ e. absurd (omega (arith, e, l)))
     ∙ get_or-only_at (suc goods) goods goods (pos 1) (omega arith) ∙ at_same goods goods (pos 1) refl)
-    ∙ one-*ℤ (a i))
+    ∙ one_time (a i))
 
 -- ---- both programs
 
@@ -132,10 +134,10 @@ module _ (ts : List Tree) (ws : List Weights) (sets : Assignment) (goods : ℕ) 
               omega (arith, ints, most, caps-column goods g a h, members-column (pos 100) (pos 1) g (λ i. a (goods + i)) h, ap (λ z. z *ℤ pos d) (cost-of g h), zero-*ℤ (pos d));
           last =
               let most = column-most (λ row. slice_index_or row.coeffs goods (pos 0)) cap_row accuracy_row (coefficient (only_at (suc goods) goods (pos 1)) goods) (duals.columns goods (omega (arith, width))) in
-              omega (arith, ints, most, caps-last goods a, members-last (pos 100) (pos 1) (λ i. a (goods + i)), ap (λ z. z *ℤ pos d) cost-last, one-*ℤ (pos d));
+              omega (arith, ints, most, caps-last goods a, members-last (pos 100) (pos 1) (λ i. a (goods + i)), ap (λ z. z *ℤ pos d) cost-last, one_time (pos d));
           total =
               let all = dot-rows (λ row. row.least) goods cap_row accuracy_row pool a in
-              omega (arith, ints, all, sum_below-times (neg_ℤ cap) a goods, neg-*ℤ cap (sum_below a goods));
+              omega (arith, ints, all, sum_below-times (neg_ℤ cap) a goods, neg_times cap (sum_below a goods));
         }
 
     module _ (delta : ℤ) (den : ℕ) where
@@ -162,7 +164,7 @@ module _ (ts : List Tree) (ws : List Weights) (sets : Assignment) (goods : ℕ) 
             last =
                 let most = column-most (λ row. slice_index_or row.coeffs goods (pos 0)) top_row balance_row (coefficient (only_at (suc goods) goods (pos 1)) goods) (duals.columns goods (omega (arith, width))) in
                 let none = sum_below-zero (λ i. pos 0 *ℤ a (goods + i)) (length pool) (λ i l. zero-*ℤ (a (goods + i))) in
-                omega (arith, ints, most, tops-last goods a, members-last (pos (100 * den)) (pos 0) (λ i. a (goods + i)), none, ap (λ z. z *ℤ pos d) cost-last, one-*ℤ (pos d));
+                omega (arith, ints, most, tops-last goods a, members-last (pos (100 * den)) (pos 0) (λ i. a (goods + i)), none, ap (λ z. z *ℤ pos d) cost-last, one_time (pos d));
             total =
                 let all = dot-rows (λ row. row.least) goods top_row balance_row pool a in
                 omega (arith, ints, all, sum_below-zero (λ i. pos 0 *ℤ a i) goods (λ i l. zero-*ℤ (a i)));

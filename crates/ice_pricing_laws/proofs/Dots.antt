@@ -1,19 +1,15 @@
 -- Products of coefficients and fractions over a common denominator.
-use Rattle.std.proofs.Common.{ℕ, zero, suc, ◌*◌, ◌<◌, ◌≡◌, List, [], ◌∷◌, length, slice_index_or, ℤ, pos, ◌+ℤ◌, ◌*ℤ◌, ◌≤ℤ◌, refl, arith, ap, sym, subst, ◌∙◌}
+use Rattle.std.proofs.Common.{ℕ, suc, ◌*◌, ◌<◌, ◌≡◌, List, [], ◌∷◌, length, slice_index_or, ℤ, pos, ◌+ℤ◌, ◌*ℤ◌, ◌≤ℤ◌, refl, arith, ap, sym, subst, ◌∙◌}
 use Rattle.std.proofs.lemmas.Int.{ints}
 use Rattle.std.proofs.Math.Nat.{mul-pos}
 use Rattle.std.proofs.Math.IntN.{zero-*ℤ}
 use Rattle.ice_defs.specs.Sum.{sum_below}
 use Rattle.ice_defs.specs.Fraction.{Fraction, whole, AtMost, plus, times}
 use Rattle.ice_defs.specs.Program.{dot}
-use Rattle.ice_defs.proofs.Sums.{sum_below-zero}
+use Rattle.ice_defs.proofs.Sums.{sum_below-zero, sum_below-front}
 use Rattle.ice_frac.proofs.Ring.{mul_assoc_ℤ}
 use Rattle.ice_frac.proofs.Fractions.{Equals-trans, Equals-plus, plus-same_den, AtMost-left, AtMost-right}
 use Rattle.ice_pricing_laws.proofs.Dens.{IsOver, AreOver}
-
-pub sum_below-first : (f : ℕ → ℤ) (n : ℕ) → sum_below f (suc n) ≡ f 0 +ℤ sum_below (λ k. f (suc k)) n
-sum_below-first f zero = omega (arith, ints)
-sum_below-first f (suc n) = omega (arith, ints, sum_below-first f n)
 
 abbrev pub coefficient : List ℤ → ℕ → ℤ
 coefficient cs j = slice_index_or cs j (pos 0)
@@ -50,7 +46,7 @@ dot-over d [] xs n h are = zero-over d (dot_num [] n (length xs)) h (sum_below-z
 dot-over d (c ∷ cs) [] n h are = zero-over d (pos 0) h refl
 dot-over d (c ∷ cs) (x ∷ xs) n h are =
     same-over d ((c *ℤ n 0) +ℤ dot_num cs (λ j. n (suc j)) (length xs)) (dot_num (c ∷ cs) n (length (x ∷ xs))) (plus (times (whole c) x) (dot cs xs))
-    (sym (sum_below-first (λ j. coefficient (c ∷ cs) j *ℤ n j) (length xs)))
+    (sym (sum_below-front (λ j. coefficient (c ∷ cs) j *ℤ n j) (length xs)))
     (plus-over d (c *ℤ n 0) (dot_num cs (λ j. n (suc j)) (length xs)) (times (whole c) x) (dot cs xs) h
     (times-over d c (n 0) x (are 0 (omega arith)))
     (dot-over d cs xs (λ j. n (suc j)) h (λ j l. are (suc j) (omega (arith, l)))))

@@ -9,9 +9,9 @@ use Rattle.ice_defs.specs.Prices.{Prices, ArePrices}
 use Rattle.ice_defs.specs.Pricing.{top_of}
 use Rattle.ice_defs.specs.Fraction.{AtMost}
 use Rattle.ice_defs.specs.PricingRun.{Member}
+use Rattle.ice_defs.proofs.Lists.{all-from}
 use Rattle.ice_pricing_laws.specs.Feasible.{AccuracyIsFeasible, BalanceIsFeasible, AccuracyIsWithin, BalanceIsWithin}
 use Rattle.ice_pricing_laws.specs.Pools.{no_member}
-use Rattle.ice_pricing_laws.proofs.Lists.{all-from}
 use Rattle.ice_pricing_laws.proofs.Excess.{excess}
 use Rattle.ice_pricing_laws.proofs.Solved.{point_with}
 use Rattle.ice_pricing_laws.proofs.Accuracy.{bound_is_point, prices-within}

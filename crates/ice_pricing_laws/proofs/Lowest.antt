@@ -1,5 +1,5 @@
 -- Prices over the least common denominator of their lowest terms.
-use Rattle.std.proofs.Common.{ℕ, zero, suc, ◌*◌, ◌/◌, ◌<◌, ◌≤◌, ◌≡◌, List, [], ◌∷◌, ℤ, pos, negsuc, neg_ℤ, ◌*ℤ◌, refl, arith, ap, sym, subst, ◌∙◌}
+use Rattle.std.proofs.Common.{ℕ, suc, ◌*◌, ◌/◌, ◌<◌, ◌≤◌, ◌≡◌, List, [], ◌∷◌, ℤ, pos, negsuc, ◌*ℤ◌, refl, arith, ap, sym, subst, ◌∙◌}
 use Rattle.std.specs.Prelude.{unsigned_abs}
 use Rattle.std.specs.Int.{◌∣◌}
 use Rattle.std.specs.List.{AllByRecursion}
@@ -8,10 +8,12 @@ use Rattle.std.proofs.Math.Nat.{mul_comm, mul-one, mul-div_assoc, mul-div_cancel
 use Rattle.ice_defs.specs.Fraction.{Fraction, IsFraction}
 use Rattle.ice_defs.specs.Frac.{gcd}
 use Rattle.ice_defs.specs.PricingRun.{lcm, common_den, num_over}
+use Rattle.ice_defs.proofs.Lists.{map-all}
+use Rattle.ice_defs.proofs.Integers.{unsigned_abs-neg}
 use Rattle.ice_frac.proofs.Gcd.{IsGcd-gcd, gcd_pos, gcd-mul, gcd_comm, coprime-div, dvd_from_coprime, part_dvd}
 use Rattle.ice_frac.proofs.Ring.{neg_pos_mul}
 use Rattle.ice_pricing_laws.specs.Lowest.{IsReduced, PricesAreLowest}
-use Rattle.ice_pricing_laws.proofs.Lists.{all-each, map-all}
+use Rattle.ice_pricing_laws.proofs.Lists.{all-each}
 use Rattle.ice_pricing_laws.proofs.Dens.{common_den-pos, dvd-lcm_left, dvd-lcm_right}
 
 -- a common multiple is one of the least
@@ -39,11 +41,7 @@ dens-divide (f ∷ fs) m h = (dvd_trans f.den (dvd-lcm_left f.den (common_den fs
 
 abs-times : (z : ℤ) (k : ℕ) → unsigned_abs (z *ℤ pos k) ≡ unsigned_abs z * k
 abs-times (pos n) k = refl
-abs-times (negsuc n) k = ap unsigned_abs (neg_pos_mul (suc n) k) ∙ abs-neg (suc n * k)
-  where
-    abs-neg : (m : ℕ) → unsigned_abs (neg_ℤ (pos m)) ≡ m
-    abs-neg zero = refl
-    abs-neg (suc m) = refl
+abs-times (negsuc n) k = ap unsigned_abs (neg_pos_mul (suc n) k) ∙ unsigned_abs-neg (pos (suc n * k))
 
 -- what divides the denominator and the numerator over it divides what is left of the denominator
 shared : (c l : ℕ) (f : Fraction) → 0 < l → IsReduced f → f.den ∣ l → c ∣ l → c ∣ unsigned_abs (num_over l f) → f.den * c ∣ l

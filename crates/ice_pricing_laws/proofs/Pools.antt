@@ -13,8 +13,8 @@ use Rattle.ice_defs.specs.Fraction.{Fraction, AtMost}
 use Rattle.ice_defs.specs.Program.{IsPoint}
 use Rattle.ice_defs.specs.PricingLimit.{Stage, accuracy_stage, balance_stage, fairness_stage}
 use Rattle.ice_defs.specs.PricingRun.{Member, StageAt, stage_program, solution_prices, allowed, excess_of, starts, follows, turns}
+use Rattle.ice_defs.proofs.Lists.{all_push}
 use Rattle.ice_frac.proofs.Fractions.{AtMost-right}
-use Rattle.ice_rows.proofs.Sums.{all_by_recursion-push}
 use Rattle.ice_pricing_laws.specs.Pools.{no_member, member_at, AreDistinct, ViolatorIsNew, PoolStaysDistinct, RunPoolIsProper}
 use Rattle.ice_pricing_laws.proofs.Lists.{all-each, all-at}
 use Rattle.ice_pricing_laws.proofs.Programs.{MeetsAccuracy, MeetsBalance, from_accuracy, from_balance}
@@ -88,7 +88,7 @@ run_pool_is_proper ts ws sets goods cap at pool (follows {at = before} {pool = o
     let (x, solved, _, violates, _, _) = may.solved in
     let (least, _) = traces_solve ts ws sets goods cap before own x solved in
     let room = may.room in (
-      all_by_recursion-push (λ k. IsChoice ts ws sets (k.bidder, k.set)) own m members violates.0,
+      all_push (λ k. IsChoice ts ws sets (k.bidder, k.set)) own m members violates.0,
       omega (arith, room, length_push own m),
       pool_stays_distinct ts ws sets goods cap before own x m least.point violates distinct,
     )

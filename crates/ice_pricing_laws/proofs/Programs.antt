@@ -14,20 +14,17 @@ use Rattle.ice_defs.specs.Program.{Constraint, dot, AreNonNegative, IsPoint}
 use Rattle.ice_defs.specs.PricingRun.{Member, only_at, worth_above, units_above, accuracy_program, balance_program}
 use Rattle.ice_defs.proofs.Products.{times_neg}
 use Rattle.ice_defs.proofs.Sums.{sum_below-same, sum_below-single, at_same, at_other}
-use Rattle.ice_pricing_laws.proofs.Lists.{all-append, all-first, all-last, all-map, map-all, all-each, all-at, all-from, all-below, below-all, get_or-map_push, get_or-map_end, get_or-only_at, length-only_at}
+use Rattle.ice_defs.proofs.Lists.{all-append, all-first, all-last, map-all, all-from}
+use Rattle.ice_defs.proofs.Integers.{neg_times}
+use Rattle.ice_defs.proofs.Multiples.{one_time}
+use Rattle.ice_pricing_laws.proofs.Lists.{all-map, all-each, all-at, all-below, below-all, get_or-map_push, get_or-map_end, get_or-only_at, length-only_at}
 use Rattle.ice_pricing_laws.proofs.Dens.{IsOver, AreOver}
 use Rattle.ice_pricing_laws.proofs.Dots.{coefficient, dot_num, dot-over, least-over, over-least}
 
 -- ---- the rows' products
 
-pub one-*ℤ : (z : ℤ) → pos 1 *ℤ z ≡ z
-one-*ℤ z = omega (arith, ints)
-
 pub minus-*ℤ : (z : ℤ) → neg_ℤ (pos 1) *ℤ z ≡ neg_ℤ z
-minus-*ℤ z = *ℤ_comm (neg_ℤ (pos 1)) z ∙ times_neg z (pos 1) ∙ ap neg_ℤ (*ℤ_comm z (pos 1) ∙ one-*ℤ z)
-
-pub neg-*ℤ : (z w : ℤ) → neg_ℤ z *ℤ w ≡ neg_ℤ (z *ℤ w)
-neg-*ℤ z w = *ℤ_comm (neg_ℤ z) w ∙ times_neg w z ∙ ap neg_ℤ (*ℤ_comm w z)
+minus-*ℤ z = *ℤ_comm (neg_ℤ (pos 1)) z ∙ times_neg z (pos 1) ∙ ap neg_ℤ (*ℤ_comm z (pos 1) ∙ one_time z)
 
 pub dot-only_at : (k g : ℕ) (z : ℤ) (n : ℕ → ℤ) → g < k → dot_num (only_at k g z) n k ≡ z *ℤ n g
 dot-only_at k g z n h =
@@ -54,7 +51,7 @@ dot-less k g n h =
     let front = sum_below-same (λ j. coefficient cs j *ℤ n j) (λ j. cond (eqb g j) (neg_ℤ (n g)) (pos 0)) k at in
     let last : coefficient cs k *ℤ n k ≡ n k =
     ap (λ c. c *ℤ n k) (get_or-set_other (only_at (suc k) k (pos 1)) g k (neg_ℤ (pos 1)) (pos 0) (λ e. absurd (omega (arith, e, h))) ∙ get_or-only_at (suc k) k k (pos 1) (omega arith) ∙ at_same k k (pos 1) refl)
-    ∙ one-*ℤ (n k) in
+    ∙ one_time (n k) in
     omega (arith, ints, front, last, sum_below-single g k (neg_ℤ (n g)) h)
   where
     at : (j : ℕ) → j < k → coefficient (slice_set (only_at (suc k) k (pos 1)) g (neg_ℤ (pos 1))) j *ℤ n j ≡ cond (eqb g j) (neg_ℤ (n g)) (pos 0)
@@ -112,7 +109,7 @@ module _ (ts : List Tree) (ws : List Weights) (sets : Assignment) (goods : ℕ) 
     member-over factor z m = row-over _ _ (dot-push (λ g. factor *ℤ above m g) goods z n)
 
     pub cost-over : IsOver d (n goods) (dot (only_at (suc goods) goods (pos 1)) x)
-    cost-over = row-over _ _ (dot-only_at (suc goods) goods (pos 1) n (omega arith) ∙ one-*ℤ (n goods))
+    cost-over = row-over _ _ (dot-only_at (suc goods) goods (pos 1) n (omega arith) ∙ one_time (n goods))
 
     low-over : AreNonNegative x → (j : ℕ) → j < suc goods → pos 0 ≤ℤ n j
     low-over low j h =
@@ -141,9 +138,9 @@ module _ (ts : List Tree) (ws : List Weights) (sets : Assignment) (goods : ℕ) 
         record {
           low = low-over point.non_negative;
           high = λ g h. let row = least-over d (neg_ℤ cap) (neg_ℤ (n g)) _ (cap-over g h) (below-all (λ i. Meets (cap_row i)) goods (map-all Meets cap_row (numbers_below goods) caps) g h) in
-              omega (arith, ints, row, neg-*ℤ cap (pos d));
+              omega (arith, ints, row, neg_times cap (pos d));
           members = all-each (λ m. Meets (Member100 m)) (MeetsAccuracy d n) pool
-              (λ m h. let row = least-over d (worth_above ts ws sets goods cap m) _ _ (member-over (pos 100) (pos 1) m) h in omega (arith, ints, row, one-*ℤ (n goods)))
+              (λ m h. let row = least-over d (worth_above ts ws sets goods cap m) _ _ (member-over (pos 100) (pos 1) m) h in omega (arith, ints, row, one_time (n goods)))
               (map-all Meets Member100 pool members);
         }
 
@@ -154,10 +151,10 @@ module _ (ts : List Tree) (ws : List Weights) (sets : Assignment) (goods : ℕ) 
       rows = all-append Meets (map cap_row (numbers_below goods)) (map Member100 pool)
           (all-map Meets cap_row (numbers_below goods)
           (all-below (λ i. Meets (cap_row i)) goods
-          (λ g h. over-least d (neg_ℤ cap) (neg_ℤ (n g)) _ hd (cap-over g h) (let most = is.high g h in omega (arith, ints, most, neg-*ℤ cap (pos d))))))
+          (λ g h. over-least d (neg_ℤ cap) (neg_ℤ (n g)) _ hd (cap-over g h) (let most = is.high g h in omega (arith, ints, most, neg_times cap (pos d))))))
           (all-map Meets Member100 pool
           (all-each (MeetsAccuracy d n) (λ m. Meets (Member100 m)) pool
-          (λ m h. over-least d (worth_above ts ws sets goods cap m) _ _ hd (member-over (pos 100) (pos 1) m) (omega (arith, ints, h, one-*ℤ (n goods)))) is.members));
+          (λ m h. over-least d (worth_above ts ws sets goods cap m) _ _ hd (member-over (pos 100) (pos 1) m) (omega (arith, ints, h, one_time (n goods)))) is.members));
     }
 
     module _ (delta : ℤ) (den : ℕ) where

@@ -10,12 +10,11 @@ use Rattle.ice_defs.specs.Set.{NodeSet, Weights}
 use Rattle.ice_defs.specs.Trade.{Assignment}
 use Rattle.ice_defs.specs.Rows.{weighted_sum, IsRow}
 use Rattle.ice_defs.specs.PricingRun.{Member}
-use Rattle.ice_defs.proofs.Sums.{sum_below-same, sum_below-le}
+use Rattle.ice_defs.proofs.Sums.{sum_below-same, sum_below-le, sum_below-front}
 use Rattle.ice_defs.proofs.Products.{sum_below-times, times-le}
 use Rattle.ice_frac.proofs.Ring.{is_diff, diff_same, diff_pos, diffs, mul_assoc_ℤ, cancel_ℤ}
 use Rattle.ice_pricing_laws.specs.Laws.{AreMembers}
 use Rattle.ice_pricing_laws.specs.Weights.{rows_with}
-use Rattle.ice_pricing_laws.proofs.Dots.{sum_below-first}
 use Rattle.ice_pricing_laws.proofs.Duals.{pool_sum}
 use Rattle.ice_pricing_laws.proofs.Tops.{max-keeps}
 
@@ -30,11 +29,11 @@ weighted-rows f [] ns size = refl
 weighted-rows f (m ∷ pool) [] size = absurd (omega (arith, size))
 weighted-rows f (m ∷ pool) (zero ∷ ns) size =
     let rest = weighted-rows f pool ns (omega (arith, size)) in
-    let split = sum_below-first (λ i. f (slice_index_or (m ∷ pool) i (record { bidder = 0; set = [] })).bidder (slice_index_or (m ∷ pool) i (record { bidder = 0; set = [] })).set *ℤ weight_at (zero ∷ ns) i) (length pool) in
+    let split = sum_below-front (λ i. f (slice_index_or (m ∷ pool) i (record { bidder = 0; set = [] })).bidder (slice_index_or (m ∷ pool) i (record { bidder = 0; set = [] })).set *ℤ weight_at (zero ∷ ns) i) (length pool) in
     omega (arith, ints, rest, split, *ℤ-zero (f m.bidder m.set))
 weighted-rows f (m ∷ pool) (suc n ∷ ns) size =
     let rest = weighted-rows f pool ns (omega (arith, size)) in
-    let split = sum_below-first (λ i. f (slice_index_or (m ∷ pool) i (record { bidder = 0; set = [] })).bidder (slice_index_or (m ∷ pool) i (record { bidder = 0; set = [] })).set *ℤ weight_at (suc n ∷ ns) i) (length pool) in
+    let split = sum_below-front (λ i. f (slice_index_or (m ∷ pool) i (record { bidder = 0; set = [] })).bidder (slice_index_or (m ∷ pool) i (record { bidder = 0; set = [] })).set *ℤ weight_at (suc n ∷ ns) i) (length pool) in
     omega (arith, ints, rest, split, *ℤ_comm (f m.bidder m.set) (pos (suc n)))
 
 pub rows-proper : (ts : List Tree) (ws : List Weights) (sets : Assignment) (pool : List Member) (ns : List ℕ) → AreMembers ts ws sets pool → AllByRecursion (IsRow ts ws sets) (rows_with pool ns)

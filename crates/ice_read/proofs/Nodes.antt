@@ -1,8 +1,9 @@
 -- How a node is read: by its form, and a choose node child by child.
-use Rattle.std.proofs.Common.{◌≡◌, ℕ, zero, suc, ◌+◌, ◌-◌, ◌<◌, ◌≤◌, Bool, true, false, nat_eq, nat_lt, List, ◌∷◌, length, drop, get_or, refl, sym, ap, ◌∙◌, arith, add-one, drop-cons}
-use Rattle.std.specs.Prelude.{Some, None, Ok, Err, codes, ◌&&◌}
+use Rattle.std.proofs.Common.{◌≡◌, ℕ, zero, suc, ◌+◌, ◌-◌, ◌<◌, ◌≤◌, true, false, nat_eq, nat_lt, List, ◌∷◌, length, drop, get_or, refl, sym, ap, ◌∙◌, arith, add-one, drop-cons}
+use Rattle.std.specs.Prelude.{Some, None, Ok, Err, codes}
 use Rattle.std.proofs.lemmas.Bool.Decides.{nat_tests}
 use Rattle.std.proofs.lemmas.List.{drop_all}
+use Rattle.std.proofs.lemmas.Bool.{and_right}
 use Rattle.ice_defs.specs.declared.NodeKind.TheVariants.{Choose}
 use Rattle.ice_defs.specs.Tree.{kind_of, children_of}
 use Rattle.ice_defs.specs.Making.{TreeDraft, innermost, close_refusal}
@@ -116,15 +117,11 @@ begun goods old made interval items path value waiting e opened deep =
 
 pub waiting_child : (old made now : TreeDraft) (count : ℕ) → IsGoing old made now count → IsWaiting now
 waiting_child old made now count g = record {
-  going = rw (g.opened, some (length old.opened)) (and_none (nat_lt 0 (length now.tree)));
+  going = rw (g.opened, some (length old.opened)) (and_right (nat_lt 0 (length now.tree)) false refl);
   deep = g.deep;
   under = λ l. rw g.opened (omega (arith, g.there, g.added.longer));
   childless = g.added.childless;
 }
-  where
-    and_none : (b : Bool) → (b && false) ≡ false
-    and_none true = refl
-    and_none false = refl
 
 -- one child more
 pub with_child : (goods : List (List ℕ)) (old made now after : TreeDraft) (count : ℕ) (path : Path) (value : Data) → IsGoing old made now count → after.opened ≡ now.opened → node_below goods now path value ≡ Ok (taken after)

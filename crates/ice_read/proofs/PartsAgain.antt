@@ -1,19 +1,17 @@
 -- What is written of the parts of an exchange is read again.
-use Rattle.std.proofs.Common.{◌≡◌, ◌&&◌, true, ℤ, pos, negsuc, ◌≤ℤ◌, Ok, ap, arith}
+use Rattle.std.proofs.Common.{◌≡◌, ◌&&◌, ℤ, pos, negsuc, ◌≤ℤ◌, Ok, ap, arith}
 use Rattle.std.specs.Prelude.{codes, int_le}
 use Rattle.std.proofs.lemmas.Bool.{and_from, cond-true}
 use Rattle.std.proofs.lemmas.Int.{ints}
 use Rattle.ice_defs.specs.FileFault.{Path, Read, refuse, ◌>>=◌}
 use Rattle.ice_defs.specs.Exchange.{Settings, AreSettings}
+use Rattle.ice_defs.proofs.Integers.{int_le-from}
 use Rattle.ice_read.specs.Values.{at_member, whole_of}
 use Rattle.ice_read.specs.ExchangeFile.{settings_at}
 use Rattle.ice_read.specs.Written.{whole_data, settings_data}
 
 pub then : {A B : Type 0} (r : Read A) (x : A) (next : A → Read B) → r ≡ Ok x → (r >>= next) ≡ next x
 then r x next e = ap (λ o. o >>= next) e
-
-int_le-from : (a b : ℤ) → a ≤ℤ b → int_le a b ≡ true
-int_le-from a b l = grind (arith, ints)
 
 pub whole_again : (path : Path) (low high z : ℤ) → low ≤ℤ z → z ≤ℤ high → whole_of path low high (whole_data z) ≡ Ok z
 whole_again path low high (pos n) l h = cond-true (int_le low (pos n) && int_le (pos n) high) _ (refuse 4 path) (and_from _ _ (int_le-from low (pos n) l) (int_le-from (pos n) high h))

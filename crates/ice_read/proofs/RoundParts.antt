@@ -1,9 +1,8 @@
 -- What is read of the parts of a round file, step by step.
-use Rattle.std.proofs.Common.{◌≡◌, ℕ, suc, ◌+◌, ◌<◌, ◌≤◌, true, false, cond, ltb, List, [], ◌∷◌, ◌++◌, length, get_or, ℤ, pos, neg_ℤ, ◌≤ℤ◌, Ok, Err, refl, sym, ap, ◌∙◌, arith, append-nil, length-append}
-use Rattle.std.specs.Prelude.{codes, decimal, IsTrue, int_le}
+use Rattle.std.proofs.Common.{◌≡◌, ℕ, suc, ◌+◌, ◌<◌, ◌≤◌, true, false, cond, ltb, List, [], ◌∷◌, ◌++◌, length, get_or, ℤ, pos, neg_ℤ, Ok, Err, refl, sym, ap, ◌∙◌, append-nil, length-append}
+use Rattle.std.specs.Prelude.{codes, decimal, IsTrue}
 use Rattle.std.specs.List.{list_all}
 use Rattle.std.proofs.lemmas.Bool.{lt-ltb, le-ltb, and_from, cond-true, cond-false, false_from_ne_true}
-use Rattle.std.proofs.lemmas.Int.{ints}
 use Rattle.std.proofs.lemmas.List.{length_push}
 use Rattle.std.proofs.lemmas.List.Folds.{list_all-append}
 use Rattle.serde_json.specs.Data.{Data, null, Items}
@@ -16,6 +15,7 @@ use Rattle.ice_defs.specs.Making.{is_value}
 use Rattle.ice_defs.specs.Exchange.{IsBetween}
 use Rattle.ice_defs.specs.FileFault.{Path, Read, refuse, ◌>>=◌}
 use Rattle.ice_defs.specs.Round.{Submission}
+use Rattle.ice_defs.proofs.Integers.{int_le-from}
 use Rattle.ice_read.specs.declared.fault.ReadFault.{ReadFault}
 use Rattle.ice_read.specs.declared.cause.ReadCause.TheVariants.{Shape}
 use Rattle.ice_read.specs.Fault.{fault_at, IsFault}
@@ -74,9 +74,6 @@ pub record AreReadSoFar (d : Data) (vs : List Value) (i : ℕ) (values : List �
 
 pub none_read : (d : Data) (vs : List Value) → ((path : Path) → array_of path d ≡ Ok (items_view vs)) → length vs ≤ 200 → AreReadSoFar d vs 0 []
 none_read d vs is few = record { read = λ path. first value_at (values_at path d) path vs (short path d vs (is path) few); count = refl; lawful = refl }
-
-int_le-from : (a b : ℤ) → a ≤ℤ b → int_le a b ≡ true
-int_le-from a b l = grind (arith, ints)
 
 pub one_more : (d : Data) (vs : List Value) (i : ℕ) (values : List ℤ) (v : Value) (z : ℤ) → AreReadSoFar d vs i values → i < length vs → v ≡ get_or vs i v → ((path : Path) → value_at path (view v) ≡ Ok z)
     → IsBetween (neg_ℤ (pos 1000000000)) (pos 1000000000) z → AreReadSoFar d vs (i + 1) (values ++ z ∷ [])

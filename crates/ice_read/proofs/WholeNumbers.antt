@@ -3,6 +3,7 @@ use Rattle.std.proofs.Common.{◌≡◌, ℕ, ◌≤◌, ◌^◌, Bool, true, fa
 use Rattle.std.specs.Prelude.{◌&&◌, int_le, nat_lt, is_some, option_and_then, if◌then◌else◌}
 use Rattle.std.proofs.lemmas.Int.{ints}
 use Rattle.std.proofs.lemmas.Bool.Decides.{nat_tests}
+use Rattle.std.proofs.lemmas.Bool.{and_right}
 use Rattle.serde_json.specs.Data.{Data, unsigned, negative, float, null, boolean, number, string, array, object}
 use Rattle.serde_json.specs.Find.{as_number, as_i64, as_u64, as_integer}
 use Rattle.ice_defs.specs.FileFault.{Path, refuse}
@@ -48,10 +49,6 @@ not_whole (string s) low high path e whole = cc
 not_whole (array ds) low high path e whole = cc
 not_whole (object ms) low high path e whole = cc
 
-and_false : (b : Bool) → (b && false) ≡ false
-and_false true = refl
-and_false false = refl
-
 outside : (path : Path) (low high z : ℤ) → (int_le low z && int_le z high) ≡ false → in_range path low high z ≡ refuse 4 path
 outside path low high z e = rw e
 
@@ -84,7 +81,7 @@ too_large (number (unsigned n)) low high path signed whole fits = by_size (nat_l
     by_size true size is = cc
     by_size false size is =
         let above : int_le (pos n) high ≡ false = large n high (grind (arith, nat_tests)) fits in
-        outside path low high (pos n) (rw above (and_false (int_le low (pos n))))
+        outside path low high (pos n) (rw above (and_right (int_le low (pos n)) false refl))
 too_large (number (negative y)) low high path signed whole fits = cc
 too_large (number (float x)) low high path signed whole fits = cc
 too_large (string s) low high path signed whole fits = cc

@@ -10,8 +10,8 @@ pub mod Kept
 pub mod Counting
 -- a passing log closes all sides, and each of its steps stands in one
 pub mod Closing
--- fixings with the same numbers of nodes, and copies of them
-pub mod Copying
+-- fixings with the same numbers of nodes
+pub mod NodeCounts
 -- steps at the first open side of a walk
 pub mod Opening
 -- the loop over the steps of a log

@@ -10,13 +10,12 @@ ghost use Rattle.ice_refute.specs.Passing.{PassesAt, HasFault};
 ghost use Rattle.ice_refute.specs.Code.{step_of};
 ghost use Rattle.ice_defs.specs.Steps.{sides_after};
 
-use crate::copy::copy_fixings;
 use crate::fault::LogFault;
 use crate::judge::judge;
 use crate::sides::advance;
 use crate::step::{Log, Step};
 use ice_best::Fixings;
-use ice_bound::Desk;
+use ice_bound::{Desk, copy_fixings};
 use ice_tree::{AllWeights, Tree};
 
 /// Takes a step at the first open side, which the desk holds. Whether a side is open behind it.

@@ -2,7 +2,6 @@
 #![tactic(auto)]
 
 mod check;
-mod copy;
 mod fault;
 mod judge;
 mod laws;

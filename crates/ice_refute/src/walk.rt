@@ -6,13 +6,12 @@ ghost use Rattle.ice_refute.specs.Code.{step_of, CountsGoods};
 ghost use Rattle.ice_refute.specs.Passing.{PassesAt, HasFault};
 ghost use Rattle.ice_refute.specs.Waiting.{nodes_of, first_side};
 
-use crate::copy::copy_fixings;
 use crate::fault::LogFault;
 use crate::judge::judge;
 use crate::sides::advance;
 use crate::step::Step;
 use ice_best::Fixings;
-use ice_bound::Desk;
+use ice_bound::{Desk, copy_fixings};
 use ice_tree::{AllWeights, Tree};
 use std::alloc::{AllocError, Global};
 use std::marker::Model;

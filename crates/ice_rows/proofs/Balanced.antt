@@ -16,11 +16,15 @@ use Rattle.ice_rows.proofs.Weighted.{total_weight, weighted_sum-less}
 use Rattle.ice_rows.proofs.Priced.{rows-le}
 use Rattle.ice_rows.proofs.Accurate.{wanted-le, tests_give_accurate}
 
-top-low : (q : Prices) → pos 0 ≤ℤ top_of q
+-- ---- the greatest price
+
+pub top-low : (q : Prices) → pos 0 ≤ℤ top_of q
 top-low q = (fold-int_max_bounds (pos 0) q.nums (top_of q) refl).0
 
-top-high : (q : Prices) (g : ℕ) → g < length q.nums → price_of q g ≤ℤ top_of q
+pub top-high : (q : Prices) (g : ℕ) → g < length q.nums → price_of q g ≤ℤ top_of q
 top-high q g h = All-get_or (λ z. z ≤ℤ top_of q) q.nums g (pos 0) h (fold-int_max_bounds (pos 0) q.nums (top_of q) refl).1
+
+-- ---- the tests
 
 module _ (ts : List Tree) (ws : List Weights) (sets : Assignment) (goods : ℕ) where
   -- no prices whose violation is as small have a smaller greatest price

@@ -15,6 +15,8 @@ use Rattle.ice_defs.specs.Bounds.{no_bounds}
 use Rattle.ice_defs.specs.Making.{is_value, is_lawful_kind, node_refusal}
 use Rattle.ice_defs.specs.Lawful.{IsLimitedKind, IsLimitedTree, AreBounds}
 use Rattle.ice_defs.specs.Exchange.{Bidder}
+use Rattle.ice_defs.proofs.Integers.{int_le-true, int_lt-false}
+use Rattle.ice_defs.proofs.Choices.{some_refused}
 use Rattle.ice_journal.specs.Records.{Record}
 use Rattle.ice_journal.specs.Records as line
 use Rattle.ice_section.specs.Section.{OpenNode, parent_under, with_node, open_after, node_record}
@@ -23,16 +25,6 @@ use Rattle.ice_section.proofs.NewNode.{with_last, at_last, before_last, length_g
 use Rattle.ice_section.proofs.OpenNodes.{AreWaiting, AreClosed, IsLeafCount, place_of_next, opened_after, IsTree-closed}
 
 -- ---- what is not refused
-
-pub some_refused : {X : Type 0} (b : Bool) (x : X) (other : Option X) → cond b (Some x) other ≡ None → (b ≡ false) × (other ≡ None)
-some_refused true x other e = absurd cc
-some_refused false x other e = (refl, e)
-
-int_le-true : (a b : ℤ) → int_le a b ≡ true → a ≤ℤ b
-int_le-true a b e = grind (arith, ints)
-
-int_lt-false : (a b : ℤ) → int_lt a b ≡ false → b ≤ℤ a
-int_lt-false a b e = grind (arith, ints)
 
 kind_lawful : (goods : ℕ) (kind : NodeKind) → is_lawful_kind goods kind ≡ true → IsLimitedKind goods kind
 kind_lawful goods (Choose least most) e = tt

@@ -9,9 +9,10 @@ use Rattle.ice_defs.specs.declared.NodeKind.TheVariants.{Choose, Buy, Sell}
 use Rattle.ice_defs.specs.Tree.{Tree, kind_of, children_of}
 use Rattle.ice_defs.specs.Making.{close_refusal, innermost, TreeDraft}
 use Rattle.ice_tree.specs.Making.{kind_close_refusal, draft_close_refusal, all_but_first}
+use Rattle.ice_tree.proofs.MoreNodes.{children_of-other}
 use Rattle.ice_section.specs.Section.{maker, OpenNode, complete, unless_unfit, parent_under}
 use Rattle.ice_section.specs.Kept.{least_of, most_of, open_node, open_nodes, IsChoose, AreKept}
-use Rattle.ice_section.proofs.NewNode.{old_kind, children_of_other, children_of_parent}
+use Rattle.ice_section.proofs.NewNode.{old_kind, children_of_parent}
 use Rattle.ice_section.proofs.OpenNodes.{IsAfter, AreWaiting}
 
 same_node : (n c d : ℕ) (k l : NodeKind) (left : ℕ) → k ≡ l → c ≡ d
@@ -45,7 +46,7 @@ module _ (t : Tree) (x : Node) where
   outer_open stated depth [] ls after w = refl
   outer_open stated depth (n ∷ os) [] after w = refl
   outer_open stated depth (n ∷ os) (l ∷ ls) after w =
-      let head = same_node n _ _ _ _ l (old_kind t x n w.0.there) (ap (λ c. length c + l - 1) (children_of_other t x n (λ e. omega (arith, after)))) in
+      let head = same_node n _ _ _ _ l (old_kind t x n w.0.there) (ap (λ c. length c + l - 1) (children_of-other t x n (λ e. omega (arith, after)))) in
       ap (λ o. o ∷ open_nodes (t ++ x ∷ []) 1 os ls) head ∙ ap (λ os. open_node t 1 n l ∷ os) (outer_open stated depth os ls (further (open_nodes t 1 os ls) w.0.after) w.1)
     where
       further : (outer : List OpenNode) → IsAfter n outer → IsAfter x.parent outer

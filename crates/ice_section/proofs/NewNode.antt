@@ -13,7 +13,7 @@ use Rattle.ice_defs.specs.Set.{Weights, weight_of}
 use Rattle.ice_defs.specs.Bounds.{Bounds}
 use Rattle.ice_defs.specs.Lawful.{IsLimitedKind, IsDepth, AreBounds}
 use Rattle.ice_defs.proofs.Below.{filter-same}
-use Rattle.ice_tree.proofs.MoreNodes.{children_of-past}
+use Rattle.ice_tree.proofs.MoreNodes.{children_of-past, old_node, children_of-new}
 
 -- ---- a number per node, with one more
 
@@ -32,20 +32,17 @@ module _ (t : Tree) (x : Node) where
   pub length_grown : length (t ++ x ∷ []) ≡ length t + 1
   length_grown = length-append t (x ∷ [])
 
-  pub old_node : (c : ℕ) → c < length t → get_or (t ++ x ∷ []) c no_node ≡ get_or t c no_node
-  old_node c l = get_or_append_left t (x ∷ []) no_node c l
-
   pub last_node : (c : ℕ) → c ≡ length t → get_or (t ++ x ∷ []) c no_node ≡ x
   last_node c e = get_or_at t x [] no_node c (sym e)
 
   pub old_kind : (c : ℕ) → c < length t → kind_of (t ++ x ∷ []) c ≡ kind_of t c
-  old_kind c l = ap (λ (n : Node). n.kind) (old_node c l)
+  old_kind c l = ap (λ (n : Node). n.kind) (old_node t x c l)
 
   pub last_kind : (c : ℕ) → c ≡ length t → kind_of (t ++ x ∷ []) c ≡ x.kind
   last_kind c e = ap (λ (n : Node). n.kind) (last_node c e)
 
   pub old_parent : (c : ℕ) → c < length t → parent_of (t ++ x ∷ []) c ≡ parent_of t c
-  old_parent c l = ap (λ (n : Node). n.parent) (old_node c l)
+  old_parent c l = ap (λ (n : Node). n.parent) (old_node t x c l)
 
   pub last_parent : (c : ℕ) → c ≡ length t → parent_of (t ++ x ∷ []) c ≡ x.parent
   last_parent c e = ap (λ (n : Node). n.parent) (last_node c e)
@@ -57,23 +54,11 @@ module _ (t : Tree) (x : Node) where
       by (inl k) = inl k
       by (inr k) = inr (omega (arith, length_grown))
 
-  children_of_grown : (p : ℕ) → children_of (t ++ x ∷ []) p ≡ children_of t p ++ cond (ltb 0 (length t) && eqb x.parent p) (length t ∷ []) []
-  children_of_grown p =
-      ap (λ n. filter (is_child (t ++ x ∷ []) p) (numbers_below n)) (length-append t (x ∷ []) ∙ add-one (length t))
-      ∙ filter-append (is_child (t ++ x ∷ []) p) (numbers_below (length t)) (length t ∷ [])
-      ∙ ap (λ l. l ++ filter (is_child (t ++ x ∷ []) p) (length t ∷ [])) (filter-same _ (is_child t p) (length t) (λ k h. ap (λ n. ltb 0 k && eqb n.parent p) (old_node k h)))
-      ∙ ap (λ n. children_of t p ++ cond (ltb 0 (length t) && eqb n.parent p) (length t ∷ []) []) (last_node (length t) refl)
-
-  -- a node that isn't the new one's parent keeps its children
-  pub children_of_other : (p : ℕ) → x.parent ≢ p → children_of (t ++ x ∷ []) p ≡ children_of t p
-  children_of_other p ne =
-      children_of_grown p ∙ ap (λ b. children_of t p ++ cond b (length t ∷ []) []) (and_right _ _ (ne_eqb _ _ ne)) ∙ append-nil (children_of t p)
-
   -- the new one's parent has one more
   pub children_of_parent : (p : ℕ) → x.parent ≡ p → p < length t → length (children_of (t ++ x ∷ []) p) ≡ length (children_of t p) + 1
   children_of_parent p e l =
       let here : ltb 0 (length t) ≡ true = lt-ltb 0 (length t) (omega arith) in
-      ap length (children_of_grown p ∙ ap (λ b. children_of t p ++ cond (b && eqb x.parent p) (length t ∷ []) []) here ∙ ap (λ b. children_of t p ++ cond b (length t ∷ []) []) (eq-eqb _ _ e))
+      ap length (children_of-new t x p ∙ ap (λ b. children_of t p ++ cond (b && eqb x.parent p) (length t ∷ []) []) here ∙ ap (λ b. children_of t p ++ cond b (length t ∷ []) []) (eq-eqb _ _ e))
       ∙ length-append (children_of t p) (length t ∷ [])
 
 -- ---- the shape of a tree whose last nodes are still to come

@@ -9,7 +9,8 @@ use Rattle.ice_defs.specs.Tree.{Tree, IsTree, IsInterval, kind_of, parent_of, ch
 use Rattle.ice_defs.specs.Bounds.{Bounds}
 use Rattle.ice_defs.specs.Making.{close_refusal}
 use Rattle.ice_section.specs.Section.{SectionFault, OpenNode, complete, unless_unfit, parent_under, open_after}
-use Rattle.ice_section.proofs.NewNode.{with_last, at_last, before_last, length_grown, old_kind, last_kind, old_parent, last_parent, old_or_last, children_of_other, children_of_parent, IsShaped, IsPlace}
+use Rattle.ice_section.proofs.NewNode.{with_last, at_last, before_last, length_grown, old_kind, last_kind, old_parent, last_parent, old_or_last, children_of_parent, IsShaped, IsPlace}
+use Rattle.ice_tree.proofs.MoreNodes.{children_of-other}
 
 abbrev pub IsOutside : ℕ → List OpenNode → Type 0
 IsOutside n [] = Unit {0}
@@ -82,7 +83,7 @@ module _ (t : Tree) (stated depth : ℕ → ℕ) (x : Node) (children d : ℕ) w
       there = omega (arith, length_grown t x, waiting.0.there);
       is_choose = old_kind t x o.number waiting.0.there ∙ waiting.0.is_choose;
       count = before_last (length t) children stated o.number waiting.0.there ∙ waiting.0.count;
-      so_far = ap (λ c. length c + o.left) (children_of_other t x o.number (λ e. omega (arith, after))) ∙ waiting.0.so_far;
+      so_far = ap (λ c. length c + o.left) (children_of-other t x o.number (λ e. omega (arith, after))) ∙ waiting.0.so_far;
       some_left = waiting.0.some_left;
       deep = before_last (length t) d depth o.number waiting.0.there ∙ waiting.0.deep;
       over = λ k l m. over k l (old_or_last t x k m);
@@ -136,7 +137,7 @@ module _ (t : Tree) (stated depth : ℕ → ℕ) (x : Node) (children d : ℕ) w
       let same = before_last (length t) children stated n l in
       let was = closed n l outside in (
         subst (IsInterval (kind_of (t ++ x ∷ []) n)) (sym same) (subst (λ k. IsInterval k (stated n)) (sym (old_kind t x n l)) was.0),
-        ap length (children_of_other t x n (is_parent opened n started l under outside)) ∙ was.1 ∙ sym same,
+        ap length (children_of-other t x n (is_parent opened n started l under outside)) ∙ was.1 ∙ sym same,
       )
 
 -- ---- a node is complete

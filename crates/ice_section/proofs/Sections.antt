@@ -15,7 +15,7 @@ use Rattle.ice_defs.specs.Making.{node_refusal, good_refusal, node_count, over_s
 use Rattle.ice_defs.specs.Lawful.{IsLimitedTree, AreBounds}
 use Rattle.ice_defs.specs.Exchange.{Settings, Good, Bidder}
 use Rattle.ice_defs.proofs.Lists.{all_push}
-use Rattle.ice_defs.proofs.Choices.{is_none-true, is_some-false}
+use Rattle.ice_defs.proofs.Choices.{is_none-true, is_some-false, some_refused}
 use Rattle.ice_defs.proofs.Naming.{AreNamed, named_push}
 use Rattle.ice_journal.specs.Records.{Record}
 use Rattle.ice_journal.specs.Records as line
@@ -24,7 +24,7 @@ use Rattle.ice_section.specs.Described.{bidder_records, section_records}
 use Rattle.ice_section.specs.Taking.{unless_fault, take_records}
 use Rattle.ice_section.proofs.NewNode.{with_last}
 use Rattle.ice_section.proofs.OpenNodes.{IsLeafCount}
-use Rattle.ice_section.proofs.Drafts.{some_refused, drafted, drafted_more, drafted_complete, IsDraft, IsDraft-begun, IsDraftGrown, draft_grown, limited_complete}
+use Rattle.ice_section.proofs.Drafts.{drafted, drafted_more, drafted_complete, IsDraft, IsDraft-begun, IsDraftGrown, draft_grown, limited_complete}
 
 -- ---- what holds
 

@@ -1,6 +1,6 @@
 -- What the makers take of a lawful exchange: its nodes, the close of its choose nodes, its goods and its bidders.
-use Rattle.std.proofs.Common.{ℕ, zero, suc, ◌+◌, ◌<◌, ◌≤◌, ◌≡◌, true, false, ◌&&◌, ◌||◌, not, eqb, ltb, leb, List, [], ◌∷◌, length, map, ℤ, pos, neg_ℤ, ◌+ℤ◌, ◌≤ℤ◌, None, ap, ◌∙◌, refl, arith}
-use Rattle.std.specs.Prelude.{int_le, int_lt, is_some, slice_index, slice_index_or}
+use Rattle.std.proofs.Common.{ℕ, suc, ◌+◌, ◌<◌, ◌≤◌, ◌≡◌, true, false, ◌&&◌, ◌||◌, not, eqb, ltb, leb, List, [], ◌∷◌, length, map, ℤ, pos, neg_ℤ, ◌+ℤ◌, ◌≤ℤ◌, None, ap, ◌∙◌, refl, arith}
+use Rattle.std.specs.Prelude.{int_lt, is_some, slice_index, slice_index_or}
 use Rattle.std.specs.List.{AllByRecursion, list_any}
 use Rattle.std.specs.Str.{bytes_eq}
 use Rattle.std.proofs.lemmas.Int.{ints}
@@ -17,6 +17,7 @@ use Rattle.ice_defs.specs.Exchange.{Good, Bidder, Exchange}
 use Rattle.ice_defs.specs.Lawful.{IsLimitedKind, IsExchange}
 use Rattle.ice_defs.specs.Making.{is_value, is_lawful_kind, node_refusal, close_refusal, good_refusal, node_count, over_sale, bidder_refusal}
 use Rattle.ice_defs.proofs.Below.{find-each, find-none}
+use Rattle.ice_defs.proofs.Integers.{int_le-from, int_lt-not, int_lt-false}
 use Rattle.ice_best.proofs.Sales.{greatest_sale-greatest}
 
 -- ---- children
@@ -28,15 +29,6 @@ pub parent_child : (t : Tree) (p c : ℕ) → 0 < c → parent_of t c ≡ p → 
 parent_child t p c some e = and_from (ltb 0 c) (eqb (parent_of t c) p) (lt-ltb 0 c some) (eq-eqb _ _ e)
 
 -- ---- a node, and the close of a choose node
-
-int_le-from : (a b : ℤ) → a ≤ℤ b → int_le a b ≡ true
-int_le-from a b l = grind (arith, ints)
-
-int_lt-not : (a b : ℤ) → b ≤ℤ a → int_lt a b ≡ false
-int_lt-not a b l = grind (arith, ints)
-
-int_lt-false : (a b : ℤ) → int_lt a b ≡ false → b ≤ℤ a
-int_lt-false a b e = grind (arith, ints)
 
 kind_passes : (goods : ℕ) (kind : NodeKind) → IsLimitedKind goods kind → is_lawful_kind goods kind ≡ true
 kind_passes goods (Choose least most) fits = refl

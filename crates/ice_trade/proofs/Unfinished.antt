@@ -1,5 +1,5 @@
 -- An exchange that grows by a good or a bidder that isn't refused stays lawful.
-use Rattle.std.proofs.Common.{ℕ, zero, suc, ◌+◌, ◌<◌, ◌≤◌, ◌≡◌, Bool, true, false, cond, ◌||◌, not, ltb, leb, List, [], ◌∷◌, ◌++◌, map, length, ℤ, pos, ◌+ℤ◌, ◌≤ℤ◌, Option, Some, None, refl, arith, ap, sym, ◌∙◌, subst}
+use Rattle.std.proofs.Common.{ℕ, zero, suc, ◌+◌, ◌<◌, ◌≤◌, ◌≡◌, false, cond, ◌||◌, not, ltb, leb, List, [], ◌∷◌, ◌++◌, map, length, pos, ◌+ℤ◌, ◌≤ℤ◌, Some, None, refl, arith, ap, sym, ◌∙◌, subst}
 use Rattle.std.specs.Prelude.{IsTrue, is_some, int_lt, slice_index, slice_index_or}
 use Rattle.std.specs.List.{AllByRecursion, IsDistinct, list_any, position, position_or_len}
 use Rattle.std.specs.Str.{bytes_eq}
@@ -20,14 +20,11 @@ use Rattle.ice_best.proofs.Sales.{greatest_sale-greatest}
 use Rattle.ice_trade.specs.Parts.{IsUnfinished, no_exchange, with_good, with_bidder}
 use Rattle.ice_defs.proofs.Lists.{all_push}
 use Rattle.ice_defs.proofs.Naming.{named_push}
-use Rattle.ice_defs.proofs.Choices.{is_some-false}
+use Rattle.ice_defs.proofs.Choices.{is_some-false, some_refused}
 use Rattle.ice_defs.proofs.Below.{find-each}
+use Rattle.ice_defs.proofs.Integers.{int_lt-false}
 
 -- ---- what isn't refused
-
-refused_not : (b : Bool) (number : ℕ) (other : Option ℕ) → cond b (Some number) other ≡ None → (b ≡ false) × (other ≡ None)
-refused_not true number other e = absurd cc
-refused_not false number other e = (refl, e)
 
 no_bidder : (bidders : List Bidder) → length bidders ≤ 0 → bidders ≡ []
 no_bidder [] none = refl
@@ -50,10 +47,10 @@ IsUnfinished-new settings are = record {
 
 pub IsUnfinished-good : (ex : Exchange) (good : Good) → IsUnfinished ex → good_refusal ex.goods ex.bidders good.name ≡ None → IsUnfinished (with_good ex good)
 IsUnfinished-good ex good is unrefused =
-    let (none, r₁) = refused_not (ltb 0 (length ex.bidders)) 17 _ unrefused in
-    let (named, r₂) = refused_not (not (is_name good.name)) 13 _ r₁ in
-    let (new, r₃) = refused_not (list_any (λ other. bytes_eq other.name good.name) ex.goods) 10 _ r₂ in
-    let (few, r₄) = refused_not (leb 32 (length ex.goods)) 12 _ r₃ in
+    let (none, r₁) = some_refused (ltb 0 (length ex.bidders)) 17 _ unrefused in
+    let (named, r₂) = some_refused (not (is_name good.name)) 13 _ r₁ in
+    let (new, r₃) = some_refused (list_any (λ other. bytes_eq other.name good.name) ex.goods) 10 _ r₂ in
+    let (few, r₄) = some_refused (leb 32 (length ex.goods)) 12 _ r₃ in
     let (names, distinct) = named_push (λ g. g.name) ex.goods good (is.goods_named, is.goods) (not-false _ named) new in
     let empty : ex.bidders ≡ [] = no_bidder ex.bidders (ltb-false 0 (length ex.bidders) none) in
     record {
@@ -71,10 +68,10 @@ IsUnfinished-good ex good is unrefused =
 
 pub IsUnfinished-bidder : (ex : Exchange) (b : Bidder) → IsUnfinished ex → IsBidder (length ex.goods) b → bidder_refusal (length ex.goods) ex.bidders b ≡ None → IsUnfinished (with_bidder ex b)
 IsUnfinished-bidder ex b is bidder unrefused =
-    let (named, r₁) = refused_not (not (is_name b.name)) 13 _ unrefused in
-    let (new, r₂) = refused_not (list_any (λ other. bytes_eq other.name b.name) ex.bidders) 11 _ r₁ in
-    let (few, r₃) = refused_not (leb 40 (length ex.bidders) || ltb 2000 (node_count ex.bidders + length b.tree)) 12 _ r₂ in
-    let (sold, r₄) = refused_not (is_some (over_sale (length ex.goods) b.tree b.own)) 14 _ r₃ in
+    let (named, r₁) = some_refused (not (is_name b.name)) 13 _ unrefused in
+    let (new, r₂) = some_refused (list_any (λ other. bytes_eq other.name b.name) ex.bidders) 11 _ r₁ in
+    let (few, r₃) = some_refused (leb 40 (length ex.bidders) || ltb 2000 (node_count ex.bidders + length b.tree)) 12 _ r₂ in
+    let (sold, r₄) = some_refused (is_some (over_sale (length ex.goods) b.tree b.own)) 14 _ r₃ in
     let (few_bidders, few_nodes) = or_parts (leb 40 (length ex.bidders)) (ltb 2000 (node_count ex.bidders + length b.tree)) few in
     let (names, distinct) = named_push (λ x. x.name) ex.bidders b (is.bidders_named, is.names) (not-false _ named) new in
     record {
@@ -91,9 +88,6 @@ IsUnfinished-bidder ex b is bidder unrefused =
     }
 
 -- ---- no good is sold above what is owned
-
-int_lt-false : (a b : ℤ) → int_lt a b ≡ false → b ≤ℤ a
-int_lt-false a b e = grind (arith, ints)
 
 pub sells_owned : (goods : ℕ) (t : Tree) (own : List ℕ) → over_sale goods t own ≡ None → (g : ℕ) (s : NodeSet) → g < goods → IsSatisfied t s → pos 0 ≤ℤ (pos (slice_index own g) +ℤ units t s g)
 sells_owned goods t own none g s l is =

@@ -1,7 +1,6 @@
 -- What a maker keeps at each of its calls.
 use Rattle.std.proofs.Common.{ℕ, suc, ◌+◌, ◌-◌, ◌<◌, ◌≤◌, ◌≡◌, Bool, true, false, cond, ◌&&◌, not, eqb, ltb, leb, List, [], ◌∷◌, ◌++◌, length, get_or, set, take, drop, Option, Some, None, ℤ, pos, neg_ℤ, ◌≤ℤ◌, refl, arith, ap, sym, ◌∙◌, ◌⊎◌, inl, inr, subst, length-append}
 use Rattle.std.specs.Prelude.{reverse, int_le, int_lt}
-use Rattle.std.proofs.lemmas.Int.{ints}
 use Rattle.std.proofs.lemmas.Bool.{cases_lt, cases_eq, and_parts, and_from, ltb-true, ltb-false, leb-true, leb-false, lt-ltb, eqb-true, eq-eqb, ne_eqb}
 use Rattle.std.proofs.lemmas.Bool.Decides.{nat_tests}
 use Rattle.std.proofs.lemmas.List.{take-append-drop, length-drop, get_or_append_left, get_or_at, get_or_past, get_or-reverse, length-reverse, reverse-append, get_or-take, length-take-le, get_or-set_same, get_or-set_other, length-set}
@@ -15,6 +14,8 @@ use Rattle.ice_defs.specs.Lawful.{IsLimitedKind, IsLimitedTree, IsDepth, AreBoun
 use Rattle.ice_tree.specs.Making.{IsLeaf, IsMaking, IsGrown, AreCounts, HasDepths, one_child_more, Making, all_but_first, with_closed, draft_of, kind_close_refusal, draft_close_refusal}
 use Rattle.ice_tree.proofs.MoreNodes.{last_of, old_node, last_node, children_of-new, children_of-other, children_of-past, size, old_parent, last_parent, parent_there, first, no_path, IsGrown-leaf, IsGrown-open, IsGrown-close, IsTree-from_grown}
 use Rattle.ice_defs.proofs.Below.{filter-few}
+use Rattle.ice_defs.proofs.Integers.{int_le-true, int_lt-false}
+use Rattle.ice_defs.proofs.Choices.{some_refused}
 
 -- ---- the path
 
@@ -48,10 +49,6 @@ reverse-pop (x ∷ xs) = by (drop (length path - 1) path) (take-append-drop (len
 
 -- ---- refusals
 
-none_if : (b : Bool) (number : ℕ) (rest : Option ℕ) → cond b (Some number) rest ≡ None → (b ≡ false) × (rest ≡ None)
-none_if true number rest e = absurd (cc)
-none_if false number rest e = (refl, e)
-
 not_false : (b : Bool) → not b ≡ false → b ≡ true
 not_false true e = refl
 not_false false e = sym e
@@ -66,12 +63,6 @@ pub record IsTaken (goods nodes opened : ℕ) (kind : NodeKind) (lo hi : ℤ) : 
   pub ordered : lo ≤ℤ hi
   pub high : hi ≤ℤ pos 1000000000
 
-int_le-true : (a b : ℤ) → int_le a b ≡ true → a ≤ℤ b
-int_le-true a b e = grind (arith, ints)
-
-int_lt-false : (a b : ℤ) → int_lt a b ≡ false → b ≤ℤ a
-int_lt-false a b e = grind (arith, ints)
-
 has_open : (nodes opened : ℕ) → 0 < nodes → (ltb 0 nodes && eqb opened 0) ≡ false → 0 < opened
 has_open nodes opened some e = grind (arith, nat_tests)
 
@@ -79,11 +70,11 @@ pub IsTaken-from_none : (goods : ℕ) (d : TreeDraft) (kind : NodeKind) (lo hi :
     → IsTaken goods (length d.tree) (length d.opened) kind lo hi
 IsTaken-from_none goods d kind lo hi e =
     let taken : Option ℕ = node_refusal goods (length d.tree) (suc (length d.opened)) kind lo hi in
-    let unfinished = none_if (is_complete d) 25 taken e in
-    let room = none_if (leb 200 (length d.tree)) 23 _ unfinished.1 in
-    let shallow = none_if (ltb 16 (suc (length d.opened))) 24 _ room.1 in
-    let lawful = none_if (not (is_lawful_kind goods kind && is_value lo && is_value hi)) 22 _ shallow.1 in
-    let ordered = none_if (int_lt hi lo) 21 None lawful.1 in
+    let unfinished = some_refused (is_complete d) 25 taken e in
+    let room = some_refused (leb 200 (length d.tree)) 23 _ unfinished.1 in
+    let shallow = some_refused (ltb 16 (suc (length d.opened))) 24 _ room.1 in
+    let lawful = some_refused (not (is_lawful_kind goods kind && is_value lo && is_value hi)) 22 _ shallow.1 in
+    let ordered = some_refused (int_lt hi lo) 21 None lawful.1 in
     let parts = and_parts (is_lawful_kind goods kind && is_value lo) (is_value hi) (not_false _ lawful.0) in
     let kinds = and_parts (is_lawful_kind goods kind) (is_value lo) parts.0 in
     let los = and_parts (int_le (neg_ℤ (pos 1000000000)) lo) (int_le lo (pos 1000000000)) kinds.1 in

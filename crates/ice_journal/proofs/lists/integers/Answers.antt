@@ -4,7 +4,8 @@ use Rattle.std.specs.Fmt.{signed_decimal}
 use Rattle.std.specs.List.{AllByRecursion}
 use Rattle.std.proofs.lemmas.Grind.{common_steps}
 use Rattle.ice_defs.specs.Exchange.{IsBetween}
-use Rattle.ice_journal.proofs.Listed.{front_of_all, no_element, push_front, push_all}
+use Rattle.ice_defs.proofs.Lists.{all_push}
+use Rattle.ice_journal.proofs.Listed.{front_of_all, no_element, push_front}
 use Rattle.ice_journal.proofs.Numbers.{within_same}
 use Rattle.ice_journal.proofs.lists.integers.Goals as goal
 
@@ -24,6 +25,6 @@ loop-field-preserved c =
     let items : c.push.new.self.items ≡ c.loop-field.numbers.items ++ c.in_ok-integer.field-0 ∷ [] = rw value at c.push.ensures.items in
     let short : length c.push.new.self.items ≤ 32 = grind (arith, common_steps) in (
       rw items (push_front signed_decimal c.args.fields c.loop-field.fields c.next.new.self c.loop-field.numbers.items c.in_ok-integer.field-0 c.in-Some.field.now c.loop-field.invariant.0 c.in-Some.ensures c.in_ok-integer.ensures.1),
-      rw items (push_all (IsBetween (to_z w64 (of_z w64 c.args.least)) (to_z w64 (of_z w64 c.args.most))) c.loop-field.numbers.items c.in_ok-integer.field-0 c.loop-field.invariant.1 c.in_ok-integer.ensures.0),
+      rw items (all_push (IsBetween (to_z w64 (of_z w64 c.args.least)) (to_z w64 (of_z w64 c.args.most))) c.loop-field.numbers.items c.in_ok-integer.field-0 c.loop-field.invariant.1 c.in_ok-integer.ensures.0),
       short,
     )

@@ -1,4 +1,4 @@
-use Rattle.std.proofs.Common.{arith, rules, ◌≡◌, ◌<◌, ◌≤◌, ◌+◌, ◌∙◌, ap, refl, length, sum, true, false}
+use Rattle.std.proofs.Common.{arith, rules, ◌≡◌, ◌<◌, ◌≤◌, ◌+◌, ◌∙◌, ap, refl, length, sum, true, false, sym}
 use Rattle.std.proofs.lemmas.Int.{to_z-of_z}
 use mir.Syntax.{w128}
 use Rattle.ice_refute.specs.declared.fault.LogFault.TheVariants as faults
@@ -8,6 +8,7 @@ use Rattle.ice_refute.proofs.Kept.{kept_at_start}
 use Rattle.ice_refute.proofs.Reading.{stands_at_start, fault_fails}
 use Rattle.ice_refute.proofs.Standing.{next_step, length-log, next_counts, long_at, short_at, closed_at, more_at, fault_at}
 use Rattle.ice_refute.proofs.check.check_log.Goals as goal
+use Rattle.ice_refute.proofs.NodeCounts.{same_count, same_nodes}
 
 pub loop-step-init : goal.loop-step-init
 loop-step-init c =
@@ -103,3 +104,9 @@ returns-clause-ok c =
     let passes = closed_at c.args.trees.now c.args.desk.now.room c.args.weights.now _ c.args.start.now c.args.log.now c.loop-step.is_open c.loop-step.desk.marks c.loop-step.desk.sides.items
     c.loop-step.step-index (omega (arith, size)) shut i.stands in
     (λ e. rw (← to_z-of_z w128 c.args.target c.ranges.target) passes, λ p. refl)
+
+pub copy_fixings-requires-clause-bidders : goal.copy_fixings-requires-clause-bidders
+copy_fixings-requires-clause-bidders c = same_count c.args.start.now c.args.desk.now.marks (c.requires.start ∙ sym c.requires.marks)
+
+pub copy_fixings-requires-clause-nodes : goal.copy_fixings-requires-clause-nodes
+copy_fixings-requires-clause-nodes c b h = same_nodes c.args.start.now c.args.desk.now.marks b (c.requires.start ∙ sym c.requires.marks)

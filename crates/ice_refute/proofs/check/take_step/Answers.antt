@@ -1,4 +1,4 @@
-use Rattle.ice_refute.proofs.Copying.{fixings_of_nodes}
+use Rattle.ice_refute.proofs.NodeCounts.{fixings_of_nodes}
 use Rattle.ice_refute.proofs.Opening.{can_branch}
 use Rattle.ice_refute.proofs.check.take_step.Goals as goal
 

@@ -1,6 +1,6 @@
 use Rattle.std.proofs.Common.{ap, ◌∙◌}
 use Rattle.ice_refute.specs.Waiting.{nodes_of}
-use Rattle.ice_refute.proofs.Copying.{nodes_of-free}
+use Rattle.ice_refute.proofs.NodeCounts.{nodes_of-free}
 use Rattle.ice_refute.proofs.tests.desk.Goals as goal
 
 pub returns-in-Ok-clause-marks : goal.returns-in-Ok-clause-marks

@@ -10,7 +10,7 @@ use Rattle.ice_defs.specs.Set.{Weights}
 use Rattle.ice_defs.specs.Trade.{total_value}
 use Rattle.ice_defs.specs.Exchange.{trees_of}
 use Rattle.ice_refute.specs.Waiting.{nodes_of}
-use Rattle.ice_refute.proofs.Copying.{nodes_of-free}
+use Rattle.ice_refute.proofs.NodeCounts.{nodes_of-free}
 use Rattle.ice_check.specs.Groups.{weights_for}
 use Rattle.ice_check.proofs.Walks.{few_trees}
 use Rattle.ice_check.proofs.groups.Groups.begin_log.Goals as goal

@@ -1,6 +1,6 @@
 use Rattle.std.proofs.Common.{arith, ◌∙◌, ◌≡◌, ap, sum, ◌≤◌}
 use Rattle.ice_refute.specs.Waiting.{nodes_of}
-use Rattle.ice_refute.proofs.Copying.{nodes_of-free}
+use Rattle.ice_refute.proofs.NodeCounts.{nodes_of-free}
 use Rattle.ice_refute.proofs.Kept.{kept_at_start}
 use Rattle.ice_refute.proofs.walk.Walk.new.Goals as goal
 

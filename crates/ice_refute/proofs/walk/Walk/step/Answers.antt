@@ -3,7 +3,7 @@ use Rattle.std.proofs.lemmas.Int.{to_z-of_z}
 use mir.Syntax.{w128}
 use Rattle.ice_refute.specs.Waiting.{WalkView, first_side}
 use Rattle.ice_refute.proofs.Kept.{few_sides}
-use Rattle.ice_refute.proofs.Copying.{fixings_of_nodes}
+use Rattle.ice_refute.proofs.NodeCounts.{fixings_of_nodes}
 use Rattle.ice_refute.proofs.Opening.{can_branch, first_is}
 use Rattle.ice_refute.proofs.walk.Walk.step.Goals as goal
 
