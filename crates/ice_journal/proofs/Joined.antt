@@ -14,7 +14,7 @@ joined_then : (a b : List ℕ) (fields : List (List ℕ)) → join_with_byte 32 
 joined_then a b [] = refl
 joined_then a b (f ∷ fs) = append_assoc a (32 ∷ b) (32 ∷ join_with_byte 32 (f ∷ fs))
 
-with_fields-joined : (b : ℕ) (bs : List ℕ) (fields : List (List ℕ)) → with_fields (b ∷ bs) fields ≡ join_with_byte 32 ((b ∷ bs) ∷ fields)
+pub with_fields-joined : (b : ℕ) (bs : List ℕ) (fields : List (List ℕ)) → with_fields (b ∷ bs) fields ≡ join_with_byte 32 ((b ∷ bs) ∷ fields)
 with_fields-joined b bs [] = refl
 with_fields-joined b bs (f ∷ fs) = with_fields-joined b (bs ++ 32 ∷ f) fs ∙ joined_then (b ∷ bs) f fs
 

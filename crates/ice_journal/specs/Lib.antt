@@ -1,4 +1,5 @@
 pub mod Records
+pub mod Nodes
 pub mod Spelling
 pub mod Ranges
 pub mod Journal

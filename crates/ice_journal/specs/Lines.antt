@@ -6,6 +6,7 @@ use Rattle.ice_defs.specs.Round.{Submission}
 use Rattle.ice_defs.specs.PricingLimit as limits
 use Rattle.ice_defs.specs.Steps.{branch, leaf, dead}
 use Rattle.ice_journal.specs.Records as spec
+use Rattle.ice_journal.specs.Nodes.{node_record}
 use Rattle.ice_journal.specs.declared.line.Version.{Version}
 use Rattle.ice_journal.specs.declared.line.Version.TheVariants as version
 use Rattle.ice_journal.specs.declared.line.Kind.{Kind}
@@ -89,9 +90,7 @@ record_of (line.Settings s) = spec.settings s
 record_of (line.Good name) = spec.good name
 record_of (line.Exact name) = spec.exact name
 record_of (line.Bidder name own) = spec.bidder name own.items
-record_of (line.Choose least most children lo hi) = spec.choose least most children lo hi
-record_of (line.Buy good units lo hi) = spec.buy good units lo hi
-record_of (line.Sell good units lo hi) = spec.sell good units lo hi
+record_of (line.Node kind children lo hi) = node_record kind children lo hi
 record_of line.Assign = spec.assign
 record_of (line.Settle number) = spec.settle number
 record_of (line.Final value) = spec.final value

@@ -5,7 +5,7 @@ ghost use Rattle.std.specs.List.{list_all, AllByRecursion};
 ghost use Rattle.ice_defs.specs.Name.{is_name_byte};
 ghost use Rattle.ice_defs.specs.Exchange.{IsBetween};
 ghost use Rattle.ice_journal.specs.Reading.{Finds};
-ghost use Rattle.ice_journal.specs.Ranges.{IsName, IsPlace, IsBits, IsTotal, IsWithin, IsDen, IsViolationField, IsFractionField, IsValue, HasLength, IsStageRecord};
+ghost use Rattle.ice_journal.specs.Ranges.{IsName, IsPlace, IsBits, IsTotal, IsFromTo, IsDen, IsViolationField, IsFractionField, IsValue, HasLength, IsStageRecord};
 ghost use Rattle.ice_journal.specs.Spelling.{bits, bit_byte, fraction_text, counted, version_word, kind_word, end_word, stage_word, limit_word};
 ghost use Rattle.ice_journal.specs.Lines.{version_of, kind_of, end_of, stage_of, limit_of, fraction_of};
 

@@ -1,5 +1,5 @@
 use arrayvec::ArrayVec;
-use ice_defs::Verdict;
+use ice_defs::{NodeKind, Verdict};
 use ice_set::NodeSet;
 use ice_terms::{Name, Prices, Settings};
 
@@ -84,25 +84,12 @@ pub enum Line {
         name: Name,
         own: ArrayVec<u32, 32>,
     },
-    /// `node choose L M N LO HI`: least, most and number of children, each at most 199; values of at most 10^9 in size.
-    Choose {
-        least: u16,
-        most: u16,
+    /// `node choose L M N LO HI`, `node buy G U LO HI` or `node sell G U LO HI`: least, most and number of children,
+    /// each at most 199; a good of at most 31, 1 to 1,000 units; values of at most 10^9 in size. A leaf has no use for
+    /// `children`.
+    Node {
+        kind: NodeKind,
         children: u16,
-        lo: i64,
-        hi: i64,
-    },
-    /// `node buy G U LO HI`: a good of at most 31, 1 to 1,000 units.
-    Buy {
-        good: u8,
-        units: u16,
-        lo: i64,
-        hi: i64,
-    },
-    /// `node sell G U LO HI`, with the limits of `Buy`.
-    Sell {
-        good: u8,
-        units: u16,
         lo: i64,
         hi: i64,
     },

@@ -1,12 +1,40 @@
-ghost use Rattle.std.specs.Prelude.{◌≡◌, ℕ, IfOk, IfErr, Ok, Err, map};
+//! The records of the lines of bytes.
+ghost use Rattle.std.specs.Prelude.{◌≡◌, ◌<◌, ◌++◌, ℕ, length, IfOk, IfErr, Ok, Err, map};
 ghost use Rattle.ice_journal.specs.Journal.{IsJournalOf};
 ghost use Rattle.ice_journal.specs.Lines.{record_of};
-ghost use Rattle.ice_journal.specs.Ends.{EndsAt};
+ghost use Rattle.ice_journal.specs.Ends.{EndsAt, IsBadLine};
+ghost use Rattle.ice_journal.specs.Ranges.{IsRecord};
+ghost use Rattle.ice_journal.specs.Spelling.{line_of};
 
 use crate::line::Line;
 use crate::record::read_record;
 use ice_line::split_line;
 use std::alloc::Global;
+
+/// What is wrong with a line.
+#[derive(Clone, Copy, Debug, PartialEq, Eq)]
+pub enum BadLine {
+    /// It is the spelling of no record.
+    NoRecord,
+    /// It has no newline at its end.
+    NotEnded,
+}
+
+/// The record of the first line, and the bytes after it. There is at least one byte.
+pub fn next_record(bytes: &[u8]) -> Result<(Line, &[u8]), BadLine>
+    requires { 0 < length bytes.now }
+    ensures read { IfOk result (λ next. IsRecord (record_of next.0)
+        × (bytes.now ≡ line_of (record_of next.0) ++ next.1.now)) }
+    ensures bad { IfErr result (IsBadLine bytes.now) }
+{
+    let Some((text, after)) = split_line(bytes) else {
+        return Err(BadLine::NotEnded);
+    };
+    match read_record(text) {
+        Some(record) => Ok((record, after)),
+        None => Err(BadLine::NoRecord),
+    }
+}
 
 /// Why bytes are not the lines of records. Lines are counted from 1.
 #[derive(Clone, Copy, Debug, PartialEq, Eq)]
@@ -28,11 +56,10 @@ pub fn read_lines(alloc: Global, bytes: &[u8]) -> Result<Vec<Line>, LinesEnd>
     let mut rest = bytes;
     while !rest.is_empty() {
         let line = lines.len() as u64 + 1;
-        let Some((text, after)) = split_line(rest) else {
-            return Err(LinesEnd::Unended { line });
-        };
-        let Some(record) = read_record(text) else {
-            return Err(LinesEnd::Grammar { line });
+        let (record, after) = match next_record(rest) {
+            Ok(next) => next,
+            Err(BadLine::NoRecord) => return Err(LinesEnd::Grammar { line }),
+            Err(BadLine::NotEnded) => return Err(LinesEnd::Unended { line }),
         };
         let Ok(()) = lines.push(record) else {
             return Err(LinesEnd::NoMemory);

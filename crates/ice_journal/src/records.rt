@@ -4,6 +4,7 @@ ghost use Rattle.ice_journal.specs.Reading.{FindsAfter};
 use crate::line::Line;
 use crate::lists::{changes, integers, submission};
 use crate::rows;
+use ice_defs::NodeKind;
 use ice_line::Fields;
 
 const TOTAL: i64 = 400_000_000_000_000;
@@ -57,9 +58,8 @@ pub fn choose_record(fields: Fields<'_>) -> Option<Line>
     ensures { FindsAfter (codes "node" ∷ codes "choose" ∷ []) result fields.entry }
 {
     let (least, most, children, lo, hi) = rows::choose(fields)?;
-    Some(Line::Choose {
-        least,
-        most,
+    Some(Line::Node {
+        kind: NodeKind::Choose { least, most },
         children,
         lo,
         hi,
@@ -71,9 +71,9 @@ pub fn buy_record(fields: Fields<'_>) -> Option<Line>
     ensures { FindsAfter (codes "node" ∷ codes "buy" ∷ []) result fields.entry }
 {
     let (good, units, lo, hi) = rows::leaf(fields)?;
-    Some(Line::Buy {
-        good,
-        units,
+    Some(Line::Node {
+        kind: NodeKind::Buy { good, units },
+        children: 0,
         lo,
         hi,
     })
@@ -84,9 +84,9 @@ pub fn sell_record(fields: Fields<'_>) -> Option<Line>
     ensures { FindsAfter (codes "node" ∷ codes "sell" ∷ []) result fields.entry }
 {
     let (good, units, lo, hi) = rows::leaf(fields)?;
-    Some(Line::Sell {
-        good,
-        units,
+    Some(Line::Node {
+        kind: NodeKind::Sell { good, units },
+        children: 0,
         lo,
         hi,
     })

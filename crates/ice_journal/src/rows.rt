@@ -3,7 +3,7 @@ ghost use Rattle.std.specs.Fmt.{signed_decimal};
 ghost use Rattle.std.specs.List.{AllByRecursion};
 ghost use Rattle.ice_defs.specs.Exchange.{IsBetween, AreSettings};
 ghost use Rattle.ice_journal.specs.Reading.{Finds};
-ghost use Rattle.ice_journal.specs.Ranges.{IsName, IsPlace, IsBits, IsTotal, IsWithin, IsDen, IsViolationField, IsFractionField, IsValue, HasLength, IsHead, IsBidderNumber, IsNodeNumber, IsLeafRecord, IsStageRecord, ArePricesRecord, IsVerdictRecord};
+ghost use Rattle.ice_journal.specs.Ranges.{IsName, IsPlace, IsBits, IsTotal, IsFromTo, IsDen, IsViolationField, IsFractionField, IsValue, HasLength, IsHead, IsBidderNumber, IsNodeNumber, IsLeafRecord, IsStageRecord, ArePricesRecord, IsVerdictRecord};
 ghost use Rattle.ice_journal.specs.Spelling.{bits, fraction_text, version_word, kind_word, end_word, stage_word, limit_word, settings_fields, verdict_fields};
 ghost use Rattle.ice_journal.specs.Lines.{version_of, kind_of, end_of, head_of, bidder_of, threshold_of, payment_of, limit_row_of, refused_of};
 
@@ -284,7 +284,7 @@ pub fn ended(mut fields: Fields<'_>) -> Option<EndWord>
 
 /// File, number and place.
 pub fn refused(mut fields: Fields<'_>) -> Option<(u8, u8, ArrayVec<u8, 256>)>
-    ensures { Finds (option_map refused_of result) (λ found. IsWithin 1 21 found.0 × IsWithin 1 99 found.1 × IsPlace found.2) (λ found. decimal found.0 ∷ decimal found.1 ∷ found.2 ∷ []) fields.entry }
+    ensures { Finds (option_map refused_of result) (λ found. IsFromTo 1 21 found.0 × IsFromTo 1 99 found.1 × IsPlace found.2) (λ found. decimal found.0 ∷ decimal found.1 ∷ found.2 ∷ []) fields.entry }
 {
     let file = natural(fields.next()?, 1, 21)? as u8;
     let number = natural(fields.next()?, 1, 99)? as u8;

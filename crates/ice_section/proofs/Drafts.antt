@@ -19,7 +19,8 @@ use Rattle.ice_defs.proofs.Integers.{int_le-true, int_lt-false}
 use Rattle.ice_defs.proofs.Choices.{some_refused}
 use Rattle.ice_journal.specs.Records.{Record}
 use Rattle.ice_journal.specs.Records as line
-use Rattle.ice_section.specs.Section.{OpenNode, parent_under, with_node, open_after, node_record}
+use Rattle.ice_section.specs.Section.{OpenNode, parent_under, with_node, open_after}
+use Rattle.ice_journal.specs.Nodes.{node_record}
 use Rattle.ice_section.specs.Described.{bidder_records}
 use Rattle.ice_section.proofs.NewNode.{with_last, at_last, before_last, length_grown, old_kind, last_kind, old_weight, last_weight, IsShaped, IsNodeValue, IsShaped-grown, none_yet}
 use Rattle.ice_section.proofs.OpenNodes.{AreWaiting, AreClosed, IsLeafCount, place_of_next, opened_after, IsTree-closed}

@@ -12,7 +12,8 @@ use Rattle.ice_trade.specs.Parts.{with_bidder}
 use Rattle.ice_journal.specs.Ranges.{IsRecord}
 use Rattle.ice_section.specs.declared.faults.SectionFault.{SectionFault as Fault}
 use Rattle.ice_section.specs.declared.faults.SectionFault.TheVariants as fault
-use Rattle.ice_section.specs.Section.{SectionFault, maker, OpenNode, Draft, Section, unless_refused, parent_under, with_node, add_bidder, go_on, open_after, names_no_good, unless_unmade, take_node_at, take_node, take_record, node_record}
+use Rattle.ice_section.specs.Section.{SectionFault, maker, OpenNode, Draft, Section, unless_refused, parent_under, with_node, add_bidder, go_on, open_after, names_no_good, unless_unmade, take_node_at, take_node, take_record}
+use Rattle.ice_journal.specs.Nodes.{node_record}
 use Rattle.ice_section.specs.Refusal.{IsRefusal, IsMakerRefusal}
 use Rattle.ice_section.specs.Kept.{Drafting, section_from, IsReached, IsDrafting, IsHeld, node_made, draft_after}
 use Rattle.ice_section.proofs.Ranges.{IsDraftOwned}

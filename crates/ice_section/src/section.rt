@@ -6,10 +6,11 @@ ghost use Rattle.ice_defs.specs.Making.{good_refusal, bidder_refusal};
 ghost use Rattle.ice_trade.specs.Parts.{with_good, with_bidder};
 ghost use Rattle.ice_trade.specs.Fault.{make_fault_number};
 ghost use Rattle.ice_journal.specs.Lines.{record_of};
+ghost use Rattle.ice_journal.specs.Nodes.{node_record};
 ghost use Rattle.ice_journal.specs.Records as line;
 ghost use Rattle.ice_journal.specs.Ranges.{IsName, IsRecord};
 ghost use Rattle.std.specs.List.{AllByRecursion};
-ghost use Rattle.ice_section.specs.Section.{no_section, may_end, exchange_in, names_no_good, take_settings, take_good, take_bidder, take_node, take_record, node_record};
+ghost use Rattle.ice_section.specs.Section.{no_section, may_end, exchange_in, names_no_good, take_settings, take_good, take_bidder, take_node, take_record};
 ghost use Rattle.ice_section.specs.Refusal.{IsRefusal, IsMakerRefusal};
 
 use crate::draft::Draft;
@@ -226,34 +227,12 @@ impl Section {
             Line::Good(name) => self.take_good(name, false),
             Line::Exact(name) => self.take_good(name, true),
             Line::Bidder { name, own } => self.take_bidder(name, own),
-            Line::Choose {
-                least,
-                most,
+            Line::Node {
+                kind,
                 children,
                 lo,
                 hi,
-            } => {
-                let (least, most) = (*least, *most);
-                self.take_node(NodeKind::Choose { least, most }, *children, *lo, *hi)
-            }
-            Line::Buy {
-                good,
-                units,
-                lo,
-                hi,
-            } => {
-                let (good, units) = (*good, *units);
-                self.take_node(NodeKind::Buy { good, units }, 0, *lo, *hi)
-            }
-            Line::Sell {
-                good,
-                units,
-                lo,
-                hi,
-            } => {
-                let (good, units) = (*good, *units);
-                self.take_node(NodeKind::Sell { good, units }, 0, *lo, *hi)
-            }
+            } => self.take_node(*kind, *children, *lo, *hi),
             _ => Err(SectionFault::Order),
         }
     }

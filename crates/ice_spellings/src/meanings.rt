@@ -1,5 +1,7 @@
-use ice_defs::Verdict;
-use ice_journal::{EndWord, Kind, LimitKind, Line, LowestFraction, Stage, Version, read_record};
+use ice_defs::{NodeKind, Verdict};
+use ice_journal::{
+    Change, EndWord, Kind, LimitKind, Line, LowestFraction, Stage, Version, read_record,
+};
 use ice_set::NodeSet;
 use ice_terms::Settings;
 use std::process::Abort;
@@ -152,32 +154,44 @@ const RECORDS: [&str; 31] = [
     "unread 13",
 ];
 
-/// Is the record the one of its form.
-fn is_meant(line: &Line) -> bool {
+/// Is the record the one of its form, among those of an exchange.
+fn is_meant_of_exchange(line: &Line) -> bool {
     match line {
         Line::Settings(settings) => are_settings(settings),
         Line::Good(name) => name.text() == "g",
         Line::Exact(name) => name.text() == "e",
         Line::Bidder { name, own } => name.text() == "b" && own.as_slice() == [11, 12].as_slice(),
-        Line::Choose {
+        Line::Node {
+            kind,
+            children,
+            lo,
+            hi,
+        } => is_meant_node(*kind, *children, *lo, *hi),
+        _ => false,
+    }
+}
+
+fn is_meant_node(kind: NodeKind, children: u16, lo: i64, hi: i64) -> bool {
+    match kind {
+        NodeKind::Choose {
             least: 13,
             most: 14,
-            children: 15,
-            lo: 16,
-            hi: 17,
-        } => true,
-        Line::Buy {
+        } => children == 15 && lo == 16 && hi == 17,
+        NodeKind::Buy {
             good: 18,
             units: 19,
-            lo: 20,
-            hi: 21,
-        } => true,
-        Line::Sell {
+        } => lo == 20 && hi == 21,
+        NodeKind::Sell {
             good: 22,
             units: 23,
-            lo: 24,
-            hi: 25,
-        } => true,
+        } => lo == 24 && hi == 25,
+        _ => false,
+    }
+}
+
+/// Is the record the one of its form, among those of groups and logs.
+fn is_meant_of_log(line: &Line) -> bool {
+    match line {
         Line::Assign => true,
         Line::Settle { number: 7 } => true,
         Line::Final { value: 31 } => true,
@@ -194,16 +208,24 @@ fn is_meant(line: &Line) -> bool {
         } => true,
         Line::Leaf(multipliers) => multipliers.as_slice() == [38, 39].as_slice(),
         Line::Dead { bidder: 30 } => true,
-        Line::Near(changes) => match changes.as_slice() {
-            [first, second] => {
-                first.good == 8
-                    && first.multiplier == 9
-                    && second.good == 10
-                    && second.multiplier == 11
-            }
-            _ => false,
-        },
+        Line::Near(changes) => are_meant_changes(changes),
         Line::Regret { amount: 40 } => true,
+        _ => false,
+    }
+}
+
+fn are_meant_changes(changes: &[Change]) -> bool {
+    match changes {
+        [first, second] => {
+            first.good == 8 && first.multiplier == 9 && second.good == 10 && second.multiplier == 11
+        }
+        _ => false,
+    }
+}
+
+/// Is the record the one of its form, among those of prices, rounds and settlements, ends and refusals.
+fn is_meant_of_session(line: &Line) -> bool {
+    match line {
         Line::Prices(prices) => prices.den() == 41 && prices.nums() == [42, 43].as_slice(),
         Line::Accuracy {
             violation: 44,
@@ -247,6 +269,11 @@ fn is_meant(line: &Line) -> bool {
         Line::Unread { file: 13 } => true,
         _ => false,
     }
+}
+
+/// Is the record the one of its form.
+fn is_meant(line: &Line) -> bool {
+    is_meant_of_exchange(line) || is_meant_of_log(line) || is_meant_of_session(line)
 }
 
 /// Each number, name and set stands in its own field.

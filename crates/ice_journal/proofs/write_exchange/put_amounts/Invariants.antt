@@ -1,6 +1,6 @@
 use Rattle.std.proofs.Common.{◌≡◌, ◌+◌, ◌*◌, ◌≤◌, length, map, decimal, drop}
 use Rattle.ice_line.specs.Writing.{with_fields}
-use Rattle.ice_journal.proofs.write.put_amounts.Given as goal
+use Rattle.ice_journal.proofs.write_exchange.put_amounts.Given as goal
 
 abbrev pub invariant-loop-amount : goal.invariant-loop-amount
 invariant-loop-amount l =

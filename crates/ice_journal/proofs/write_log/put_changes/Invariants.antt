@@ -3,7 +3,7 @@ use Rattle.std.specs.List.{flat_map}
 use Rattle.ice_line.specs.Writing.{with_fields}
 use Rattle.ice_journal.specs.Spelling.{change_fields}
 use Rattle.ice_journal.specs.Lines.{change_of}
-use Rattle.ice_journal.proofs.write.put_changes.Given as goal
+use Rattle.ice_journal.proofs.write_log.put_changes.Given as goal
 
 abbrev pub invariant-loop-change : goal.invariant-loop-change
 invariant-loop-change l =

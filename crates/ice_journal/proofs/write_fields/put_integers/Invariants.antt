@@ -1,7 +1,7 @@
 use Rattle.std.proofs.Common.{◌≡◌, ◌+◌, ◌*◌, ◌≤◌, length, map, drop}
 use Rattle.std.specs.Fmt.{signed_decimal}
 use Rattle.ice_line.specs.Writing.{with_fields}
-use Rattle.ice_journal.proofs.write.put_integers.Given as goal
+use Rattle.ice_journal.proofs.write_fields.put_integers.Given as goal
 
 abbrev pub invariant-loop-number : goal.invariant-loop-number
 invariant-loop-number l =

@@ -2,7 +2,7 @@ use Rattle.std.proofs.Common.{◌≡◌, rules}
 use Rattle.std.specs.Fmt.{signed_decimal}
 use Rattle.ice_line.specs.Writing.{with_field}
 use Rattle.ice_journal.proofs.Joined.{value_length}
-use Rattle.ice_journal.proofs.write.put_value.Goals as goal
+use Rattle.ice_journal.proofs.write_session.put_value.Goals as goal
 
 pub returns-clause-len : goal.returns-clause-len
 returns-clause-len c =

@@ -3,7 +3,7 @@ use Rattle.std.specs.Fmt.{signed_decimal}
 use Rattle.std.specs.List.{AllByRecursion}
 use Rattle.ice_line.specs.Writing.{with_fields}
 use Rattle.ice_journal.specs.Ranges.{IsValue}
-use Rattle.ice_journal.proofs.write.put_values.Given as goal
+use Rattle.ice_journal.proofs.write_session.put_values.Given as goal
 
 abbrev pub invariant-loop-value : goal.invariant-loop-value
 invariant-loop-value l =
