@@ -10,9 +10,9 @@ use Rattle.ice_defs.specs.Set.{weight_of}
 use Rattle.ice_defs.specs.Exchange.{Good, Bidder, Exchange}
 use Rattle.ice_defs.specs.Session.{Proved, Settlement, Regretted}
 use Rattle.ice_journal.specs.Records.{Record, version_1, regret_kind, regret_end}
+use Rattle.ice_journal.specs.Nodes.{node_record}
 use Rattle.ice_journal.specs.Records as line
 use Rattle.ice_section.specs.Section.{good_record}
-use Rattle.ice_journal.specs.Nodes.{node_record}
 use Rattle.ice_section.specs.Described.{bidder_records, section_records}
 use Rattle.ice_check.specs.Written.{proved_records, regret_records, regretted_records}
 

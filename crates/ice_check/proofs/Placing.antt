@@ -1,8 +1,7 @@
 -- What the stages of the checker make of a record.
-use Rattle.std.proofs.Common.{◌≡◌, ◌≢◌, ◌<◌, ◌≤◌, ◌+◌, ◌^◌, ℕ, suc, false, [], ◌∷◌, ◌++◌, length, map, take, set, replicate, pos, refl, sym, ◌∙◌, ap, subst, arith, ◌⊎◌, inl, inr}
-use Rattle.std.specs.Prelude.{◌&&◌, Some}
-use Rattle.std.proofs.lemmas.Bool.{cases_order, false≢true}
-use Rattle.std.proofs.lemmas.Option.{none-some}
+use Rattle.std.proofs.Common.{◌≡◌, ◌<◌, ◌≤◌, ◌+◌, ◌^◌, ℕ, suc, false, [], length, map, take, set, replicate, refl, sym, ◌∙◌, ap, subst, arith, ◌⊎◌, inl, inr}
+use Rattle.std.specs.Prelude.{◌&&◌, Option, Some, None, IfSome, Err}
+use Rattle.std.proofs.lemmas.Bool.{cases_order}
 use Rattle.std.proofs.lemmas.List.{get_or-set_other, get_or-set_same, get_or-map, length-set, length-map, length-replicate, length-take-le}
 use Rattle.ice_defs.specs.declared.SatRule.{SatRule}
 use Rattle.ice_defs.specs.declared.SatRule.TheVariants.{Parent, Few, Many}
@@ -15,7 +14,7 @@ use Rattle.ice_defs.specs.declared.Group.{Group}
 use Rattle.ice_tree.proofs.Satisfied.{set_fault-none}
 use Rattle.ice_journal.specs.Records.{Record}
 use Rattle.ice_journal.specs.Records as line
-use Rattle.ice_section.specs.Section.{Section, take_record, may_end}
+use Rattle.ice_section.specs.Section.{Section, maker, take_record, may_end}
 use Rattle.ice_section.specs.Refusal.{IsRefusal}
 use Rattle.ice_section.specs.declared.faults.SectionFault.{SectionFault}
 use Rattle.ice_section.specs.declared.faults.SectionFault.TheVariants as fault
@@ -30,9 +29,10 @@ use Rattle.ice_check.specs.Next.{go_to}
 use Rattle.ice_check.specs.Tests.{is_refusal, HasLeftOut}
 use Rattle.ice_check.specs.Progress.{passing, failed, other_kind, TakesOn, IsAfter, next_line}
 use Rattle.ice_check.specs.Assigning.{describing, Stating, rule_of, AreStated}
-use Rattle.ice_check.specs.Stages.{progress_of, IsNumber, Halts, IsBroken, section_halt}
+use Rattle.ice_check.specs.Stages.{progress_of, IsNumber, Halts, IsBroken, numbered_halt, section_halt}
 use Rattle.ice_check.proofs.Places.{section_refused, section_misplaced}
 use Rattle.ice_check.proofs.Sets.{set_miscounted, set_unsatisfied, IsFit}
+use Rattle.ice_trade.specs.Fault.{make_fault_number}
 
 -- what a section refuses
 pub section_halts : (h : Head) (s : Section) (r : Record) (why : SectionFault) → (may_end s && ends_section h r) ≡ false → IsRefusal (take_record s r) why
@@ -40,7 +40,12 @@ pub section_halts : (h : Head) (s : Section) (r : Record) (why : SectionFault) �
 section_halts h s r fault.Order more taken = λ n. section_misplaced h n s r taken more
 section_halts h s r fault.Count more taken = λ n. section_refused (version_of_head h) (kind_of_head h) n s r (ap is_refusal taken)
 section_halts h s r fault.NoGood more taken = λ n. section_refused (version_of_head h) (kind_of_head h) n s r (ap is_refusal taken)
-section_halts h s r (fault.Maker k) more taken = λ n. section_refused (version_of_head h) (kind_of_head h) n s r (ap is_refusal taken)
+section_halts h s r (fault.Tree refusal) more taken = λ n. section_refused (version_of_head h) (kind_of_head h) n s r (ap is_refusal taken)
+section_halts h s r (fault.Make refusal) more taken = by (make_fault_number refusal) taken
+  where
+    by : (o : Option ℕ) → IfSome o (λ number. take_record s r ≡ Err (maker number)) → Halts (λ n. passing (describing (version_of_head h) (kind_of_head h) n s)) r (numbered_halt o)
+    by None taken = tt
+    by (Some number) taken = λ n. section_refused (version_of_head h) (kind_of_head h) n s r (ap is_refusal taken)
 section_halts h s r fault.NoMemory more taken = tt
 
 -- the rule of a set that isn't satisfied

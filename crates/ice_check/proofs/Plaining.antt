@@ -14,10 +14,10 @@ use Rattle.ice_defs.specs.Bound.{Multipliers}
 use Rattle.ice_defs.specs.Steps.{Step, branch, leaf, dead}
 use Rattle.ice_defs.specs.Exchange.{Good, Bidder, Exchange, exact_of}
 use Rattle.ice_journal.specs.Records.{Record, Version, version_1, version_2, Kind, Change}
+use Rattle.ice_journal.specs.Nodes.{node_record}
 use Rattle.ice_journal.specs.Records as line
 use Rattle.ice_journal.specs.Plain.{changed, goods_in, all_zero, plain_records, plain}
 use Rattle.ice_section.specs.Section.{good_record}
-use Rattle.ice_journal.specs.Nodes.{node_record}
 use Rattle.ice_section.specs.Described.{node_records, bidder_records, section_records}
 use Rattle.ice_refute.specs.Code.{CountsGoods}
 use Rattle.ice_check.specs.Fields.{step_in, counted_step, unchanged_step, multipliers_after}

@@ -15,9 +15,9 @@ use Rattle.ice_defs.specs.Exchange.{Good, Bidder, opening_bounds}
 use Rattle.ice_defs.specs.Lawful.{IsBidder}
 use Rattle.ice_defs.specs.Session.{Assigned}
 use Rattle.ice_journal.specs.Records.{Record, assign_end}
+use Rattle.ice_journal.specs.Nodes.{node_record}
 use Rattle.ice_journal.specs.Records as line
 use Rattle.ice_section.specs.Section.{good_record}
-use Rattle.ice_journal.specs.Nodes.{node_record}
 use Rattle.ice_section.specs.Described.{bidder_records}
 use Rattle.ice_check.specs.Written.{assigned_records}
 use Rattle.ice_check.specs.Theorems.{IsRightAssigned}

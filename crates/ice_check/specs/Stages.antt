@@ -17,6 +17,7 @@ use Rattle.ice_check.specs.Progress.{Progress, nothing, other_kind, passing, fai
 use Rattle.ice_check.specs.Assigning.{describing, HasSettings, rule_of}
 use Rattle.ice_check.specs.Heads.{version_of_head, kind_of_head}
 use Rattle.ice_check.specs.Groups.{state_of, AreKept, IsReady}
+use Rattle.ice_trade.specs.Fault.{make_fault_number}
 
 -- the progress at this stage, where this line is next
 abbrev pub progress_of : ℕ → Stage → Progress
@@ -38,8 +39,8 @@ IsKept (stage.Describing head section) = HasSettings section.value
 IsKept (stage.Behind groups) = AreKept groups.value × IsReady groups.value groups.value.next
 IsKept other = Unit {0}
 
-abbrev pub IsWithin : ℕ → Stage → Type 0
-IsWithin line s = IsNumber line s × IsKept s
+abbrev pub IsAtLine : ℕ → Stage → Type 0
+IsAtLine line s = IsNumber line s × IsKept s
 
 -- a record leads from one stage to the next, whichever line it stands in
 pub record LeadsTo (s : Stage) (r : Record) (next : Stage) : Type 0 where
@@ -62,10 +63,16 @@ IsBroken t s None = IsSatisfied t s
 IsBroken t s (Some rule.Count) = length s ≢ length t
 IsBroken t s (Some other) = (length s ≡ length t) × (k : SatRule) × (set_fault t s ≡ Some k) × (other ≡ rule_of k)
 
+-- want of memory alone has no number
+abbrev pub numbered_halt : Option ℕ → Halt
+numbered_halt (Some number) = halt.Fails rule.Exchange
+numbered_halt None = halt.NoMemory
+
 -- why the tests don't go on where the section refuses a record
 abbrev pub section_halt : SectionFault → Halt
 section_halt fault.Order = halt.Fails rule.Order
 section_halt fault.Count = halt.Fails rule.Exchange
 section_halt fault.NoGood = halt.Fails rule.Exchange
-section_halt (fault.Maker number) = halt.Fails rule.Exchange
+section_halt (fault.Tree refusal) = halt.Fails rule.Exchange
+section_halt (fault.Make refusal) = numbered_halt (make_fault_number refusal)
 section_halt fault.NoMemory = halt.NoMemory

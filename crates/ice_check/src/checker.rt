@@ -23,13 +23,13 @@ pub struct Checker {
 
 impl Model for Checker {
     ghost use Rattle.ice_check.specs.Progress.{Progress};
-    ghost use Rattle.ice_check.specs.Stages.{progress_of, IsWithin};
+    ghost use Rattle.ice_check.specs.Stages.{progress_of, IsAtLine};
 
     ghost Value = { Progress };
 
     ghost view = { λ c. progress_of c.next_line c.stage };
 
-    ghost invariant = { λ c. IsWithin c.next_line c.stage };
+    ghost invariant = { λ c. IsAtLine c.next_line c.stage };
 }
 
 impl Checker {

@@ -41,9 +41,13 @@ fn section_halt(fault: SectionFault) -> Halt
 {
     match fault {
         SectionFault::Order => Halt::Fails(Rule::Order),
-        SectionFault::Count | SectionFault::NoGood | SectionFault::Maker { .. } => {
+        SectionFault::Count | SectionFault::NoGood | SectionFault::Tree(_) => {
             Halt::Fails(Rule::Exchange)
         }
+        SectionFault::Make(refusal) => match refusal.number() {
+            Some(_) => Halt::Fails(Rule::Exchange),
+            None => Halt::NoMemory,
+        },
         SectionFault::NoMemory => Halt::NoMemory,
     }
 }

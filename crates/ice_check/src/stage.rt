@@ -4,7 +4,7 @@ ghost use Rattle.ice_journal.specs.Lines.{record_of};
 ghost use Rattle.ice_journal.specs.Ranges.{IsRecord};
 ghost use Rattle.ice_check.specs.Progress.{out_of_memory, is_ready, IsAfter};
 ghost use Rattle.ice_check.specs.Answers.{EndsWith};
-ghost use Rattle.ice_check.specs.Stages.{progress_of, IsWithin, IsKept, LeadsOn};
+ghost use Rattle.ice_check.specs.Stages.{progress_of, IsAtLine, IsKept, LeadsOn};
 
 use crate::answer::{Answer, CheckEnd};
 use crate::describing::{begin, describe};
@@ -65,11 +65,11 @@ impl Stage {
 
     /// The stage after a record, which stands in the line with this number.
     pub(crate) fn after(self, alloc: Global, number: u64, line: &Line) -> Result<Stage, AllocError>
-        requires within { IsWithin number self }
+        requires within { IsAtLine number self }
         requires lawful { IsRecord (record_of line.now) }
         ensures after { IfOk result (λ next. IsAfter (progress_of number self)
             (record_of line.now) (progress_of (suc number) next)) }
-        ensures within { IfOk result (λ next. IsWithin (suc number) next) }
+        ensures within { IfOk result (λ next. IsAtLine (suc number) next) }
         ensures ready { IsTrue (is_ready (progress_of number self)) → IsOk result }
         ensures stopped { progress_of number self ≡ out_of_memory → IsErr result }
     {

@@ -4,6 +4,7 @@ use Rattle.ice_edge.specs.Told.{Told}
 use Rattle.ice_defs.specs.Prices.{Prices}
 use Rattle.ice_defs.specs.Exchange.{Exchange}
 use Rattle.ice_defs.specs.FileFault.{FileFault, Read}
+use Rattle.ice_section.specs.FaultNumbers.{line_cause_number}
 use Rattle.ice_section.specs.LineFile.{IsExchangeOfLines, IsPricesOfLines}
 use Rattle.ice_section.specs.declared.faults.LineFileFault.{LineFileFault}
 use Rattle.ice_section.specs.declared.faults.LineFileFault.TheVariants as fault
@@ -44,9 +45,14 @@ HoldsExchange shelf name exchange = OfTold file_limit (λ bytes. IsExchangeOf by
 abbrev pub HoldsPrices : Told → List ℕ → ℕ → Prices → Type 0
 HoldsPrices shelf name goods prices = OfTold file_limit (λ bytes. IsPricesOfLines goods bytes (Ok prices)) (shelf.holds name)
 
+-- a fault with this number at a line of the file; want of memory has no number
+abbrev pub IsRefusalAt : ℕ → Option ℕ → ℕ → Refusal → Type 0
+IsRefusalAt file (Some number) line refusal = refusal ≡ File file (AtLine number line)
+IsRefusalAt file None line refusal = refusal ≡ NoMemory
+
 -- a fault that a reader of lines found in the file with this number
 abbrev pub IsLineRefusal : ℕ → LineFileFault → Refusal → Type 0
-IsLineRefusal file (fault.Fault number line) refusal = refusal ≡ File file (AtLine number line)
+IsLineRefusal file (fault.Fault cause line) refusal = IsRefusalAt file (line_cause_number cause) line refusal
 IsLineRefusal file fault.NoMemory refusal = refusal ≡ NoMemory
 
 -- a fault that the reader of JSON found in the file with this number: every number has its place; want of memory has no number

@@ -45,7 +45,11 @@ fn best_set(
 }
 
 /// The best sets of all bidders, in order.
-fn best_sets(alloc: Global, exchange: &Exchange, prices: &Prices) -> Result<Vec<BestSet>, AllocError>
+fn best_sets(
+    alloc: Global,
+    exchange: &Exchange,
+    prices: &Prices,
+) -> Result<Vec<BestSet>, AllocError>
     ensures { IfOk result (λ sets.
         AreBestSets exchange.now prices.now 0 (names_of exchange.now) sets.items) }
 {

@@ -57,9 +57,12 @@ fn line_refusal(file: u8, fault: LineFileFault) -> Refusal
     ensures { IsLineRefusal file fault result }
 {
     match fault {
-        LineFileFault::Fault { number, line } => Refusal::File {
-            file,
-            fault: FileFault::AtLine { number, line },
+        LineFileFault::Fault { cause, line } => match cause.number() {
+            Some(number) => Refusal::File {
+                file,
+                fault: FileFault::AtLine { number, line },
+            },
+            None => Refusal::NoMemory,
         },
         LineFileFault::NoMemory => Refusal::NoMemory,
     }

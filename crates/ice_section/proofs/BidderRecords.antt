@@ -12,9 +12,9 @@ use Rattle.ice_defs.specs.Making.{node_refusal, bidder_refusal}
 use Rattle.ice_defs.specs.Lawful.{IsBidder}
 use Rattle.ice_defs.specs.Exchange.{Settings, Good, Bidder}
 use Rattle.ice_journal.specs.Records.{Record}
+use Rattle.ice_journal.specs.Nodes.{node_record}
 use Rattle.ice_journal.specs.Records as line
 use Rattle.ice_section.specs.Section.{SectionFault, OpenNode, Draft, Section, unless_refused, parent_under, with_node, add_bidder, go_on, open_after, unless_unmade, take_node_of, take_record}
-use Rattle.ice_journal.specs.Nodes.{node_record}
 use Rattle.ice_section.specs.Described.{bidder_records}
 use Rattle.ice_section.specs.Taking.{unless_fault, take_records}
 use Rattle.ice_section.proofs.NewNode.{with_last}

@@ -20,10 +20,10 @@ use Rattle.ice_defs.proofs.Lists.{all-append, all_middle}
 use Rattle.ice_defs.proofs.Naming.{AreNamed, new_among}
 use Rattle.ice_trade.proofs.Passing.{good_passes, bidder_passes, owned_lawful}
 use Rattle.ice_journal.specs.Records.{Record}
+use Rattle.ice_journal.specs.Nodes.{node_record}
 use Rattle.ice_journal.specs.Records as line
 use Rattle.ice_journal.specs.Ranges.{IsRecord, IsValue}
 use Rattle.ice_section.specs.Section.{Section, no_section, unless_refused, take_good, take_record, good_record}
-use Rattle.ice_journal.specs.Nodes.{node_record}
 use Rattle.ice_section.specs.Described.{bidder_records}
 use Rattle.ice_section.specs.Taking.{take_records, section_of}
 use Rattle.ice_section.specs.Laws.{DescribedAreRecords, DescribedAreTaken}

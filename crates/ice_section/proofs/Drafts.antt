@@ -1,7 +1,6 @@
 -- A bidder whose tree is not complete, and the records that were taken of it.
-use Rattle.std.proofs.Common.{ℕ, zero, suc, ◌<◌, ◌≤◌, ◌≡◌, Bool, true, false, cond, ◌&&◌, not, ltb, leb, List, [], ◌∷◌, ◌++◌, map, length, ℤ, ◌≤ℤ◌, Option, Some, None, Ok, refl, arith, ap, sym, ◌∙◌}
-use Rattle.std.specs.Prelude.{int_le, int_lt}
-use Rattle.std.proofs.lemmas.Int.{ints}
+use Rattle.std.proofs.Common.{ℕ, zero, suc, ◌<◌, ◌≤◌, ◌≡◌, true, ◌&&◌, not, ltb, leb, List, [], ◌∷◌, ◌++◌, map, length, ℤ, None, Ok, refl, arith, ap, sym, ◌∙◌}
+use Rattle.std.specs.Prelude.{int_lt}
 use Rattle.std.proofs.lemmas.Bool.{ltb-true, ltb-false, leb-true, leb-false, and_parts, not-false}
 use Rattle.std.proofs.lemmas.List.{map-append}
 use Rattle.std.proofs.Math.Numerals.{add-one}
@@ -18,9 +17,9 @@ use Rattle.ice_defs.specs.Exchange.{Bidder}
 use Rattle.ice_defs.proofs.Integers.{int_le-true, int_lt-false}
 use Rattle.ice_defs.proofs.Choices.{some_refused}
 use Rattle.ice_journal.specs.Records.{Record}
+use Rattle.ice_journal.specs.Nodes.{node_record}
 use Rattle.ice_journal.specs.Records as line
 use Rattle.ice_section.specs.Section.{OpenNode, parent_under, with_node, open_after}
-use Rattle.ice_journal.specs.Nodes.{node_record}
 use Rattle.ice_section.specs.Described.{bidder_records}
 use Rattle.ice_section.proofs.NewNode.{with_last, at_last, before_last, length_grown, old_kind, last_kind, old_weight, last_weight, IsShaped, IsNodeValue, IsShaped-grown, none_yet}
 use Rattle.ice_section.proofs.OpenNodes.{AreWaiting, AreClosed, IsLeafCount, place_of_next, opened_after, IsTree-closed}

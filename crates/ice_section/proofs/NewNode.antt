@@ -1,18 +1,13 @@
 -- A tree that grows by one node: what holds of a tree whose last nodes are still to come.
-use Rattle.std.proofs.Common.{ℕ, suc, ◌+◌, ◌<◌, ◌≤◌, ◌≡◌, ◌≢◌, true, cond, ◌&&◌, eqb, ltb, [], ◌∷◌, ◌++◌, length, get_or, ℤ, pos, neg_ℤ, ◌≤ℤ◌, refl, arith, ap, sym, ◌∙◌, ◌⊎◌, inl, inr, subst, length-append}
-use Rattle.std.proofs.lemmas.Bool.{cases_lt, cases_eq, and_right, lt-ltb, eq-eqb, ne_eqb}
-use Rattle.std.proofs.lemmas.List.{get_or_append_left, get_or_at, append-nil}
-use Rattle.std.proofs.lemmas.List.Elements.{filter-append}
-use Rattle.std.specs.List.{filter}
-use Rattle.std.proofs.Math.Numerals.{add-one}
+use Rattle.std.proofs.Common.{ℕ, suc, ◌+◌, ◌<◌, ◌≤◌, ◌≡◌, true, cond, ◌&&◌, eqb, ltb, [], ◌∷◌, ◌++◌, length, get_or, ℤ, pos, neg_ℤ, ◌≤ℤ◌, arith, ap, sym, ◌∙◌, ◌⊎◌, inl, inr, subst, length-append}
+use Rattle.std.proofs.lemmas.Bool.{cases_lt, cases_eq, lt-ltb, eq-eqb, ne_eqb}
+use Rattle.std.proofs.lemmas.List.{get_or_append_left, get_or_at}
 use Rattle.ice_defs.specs.declared.Node.{Node}
 use Rattle.ice_defs.specs.declared.NodeKind.{NodeKind}
-use Rattle.ice_defs.specs.Sum.{numbers_below}
-use Rattle.ice_defs.specs.Tree.{Tree, kind_of, parent_of, is_child, children_of, no_node}
+use Rattle.ice_defs.specs.Tree.{Tree, kind_of, parent_of, children_of, no_node}
 use Rattle.ice_defs.specs.Set.{Weights, weight_of}
 use Rattle.ice_defs.specs.Bounds.{Bounds}
 use Rattle.ice_defs.specs.Lawful.{IsLimitedKind, IsDepth, AreBounds}
-use Rattle.ice_defs.proofs.Below.{filter-same}
 use Rattle.ice_tree.proofs.MoreNodes.{children_of-past, old_node, children_of-new}
 
 -- ---- a number per node, with one more

@@ -1,6 +1,6 @@
 -- A section takes a node as its two makers do.
 use Rattle.std.proofs.Common.{ℕ, suc, ◌<◌, ◌≤◌, ◌≡◌, ◌≢◌, false, List, [], ◌∷◌, length, ℤ, Option, Some, None, Result, Ok, Err, refl, arith, ap, sym, ◌∙◌, subst}
-use Rattle.std.specs.Prelude.{OnOk, OnErr}
+use Rattle.std.specs.Prelude.{IfSome, OnOk, OnErr}
 use Rattle.std.specs.List.{AllByRecursion}
 use Rattle.std.proofs.lemmas.Bool.{cond-false}
 use Rattle.std.proofs.lemmas.List.{length_push}
@@ -9,11 +9,12 @@ use Rattle.ice_defs.specs.declared.NodeKind.TheVariants.{Choose, Buy, Sell}
 use Rattle.ice_defs.specs.Making.{node_refusal, bidder_refusal}
 use Rattle.ice_defs.specs.Exchange.{Bidder, Exchange}
 use Rattle.ice_trade.specs.Parts.{with_bidder}
+use Rattle.ice_trade.specs.Fault.{make_fault_number}
 use Rattle.ice_journal.specs.Ranges.{IsRecord}
+use Rattle.ice_journal.specs.Nodes.{node_record}
 use Rattle.ice_section.specs.declared.faults.SectionFault.{SectionFault as Fault}
 use Rattle.ice_section.specs.declared.faults.SectionFault.TheVariants as fault
 use Rattle.ice_section.specs.Section.{SectionFault, maker, OpenNode, Draft, Section, unless_refused, parent_under, with_node, add_bidder, go_on, open_after, names_no_good, unless_unmade, take_node_at, take_node, take_record}
-use Rattle.ice_journal.specs.Nodes.{node_record}
 use Rattle.ice_section.specs.Refusal.{IsRefusal, IsMakerRefusal}
 use Rattle.ice_section.specs.Kept.{Drafting, section_from, IsReached, IsDrafting, IsHeld, node_made, draft_after}
 use Rattle.ice_section.proofs.Ranges.{IsDraftOwned}
@@ -145,8 +146,13 @@ module _ (made : Option Exchange) (d : Drafting) (held : IsHeld made (Some d)) w
         whole_refused fault.Order r = absurd r
         whole_refused fault.Count r = absurd r
         whole_refused fault.NoGood r = absurd r
-        whole_refused (fault.Maker number) r = last_refused ex is none number r
-        whole_refused fault.NoMemory r = tt
+        whole_refused (fault.Tree refusal) r = absurd r
+        whole_refused (fault.Make refusal) r = by (make_fault_number refusal) r.0
+          where
+            by : (o : Option ℕ) → bidder_refusal (length ex.goods) ex.bidders next.draft.bidder ≡ o → IfSome o (λ number. take_node (section_from made (Some d)) kind children lo hi ≡ Err (maker number))
+            by None e = tt
+            by (Some number) e = last_refused ex is none number e
+        whole_refused fault.NoMemory r = absurd r
 
         pub held_whole : {X E : Type 0} (r : Result X E) → IsRecord (node_record kind children lo hi)
             → OnOk r ((bidder_refusal (length ex.goods) ex.bidders next.draft.bidder ≡ None) × (after ≡ with_bidder ex next.draft.bidder)) → OnErr r (after ≡ ex) → IsHeld (Some after) None

@@ -18,9 +18,9 @@ use Rattle.ice_defs.proofs.Lists.{all_push}
 use Rattle.ice_defs.proofs.Choices.{is_none-true, is_some-false, some_refused}
 use Rattle.ice_defs.proofs.Naming.{AreNamed, named_push}
 use Rattle.ice_journal.specs.Records.{Record}
+use Rattle.ice_journal.specs.Nodes.{node_record}
 use Rattle.ice_journal.specs.Records as line
 use Rattle.ice_section.specs.Section.{SectionFault, order, count, no_good, OpenNode, Draft, Section, no_section, may_end, settings_in, exchange_in, take_settings, unless_refused, take_good, take_bidder, with_node, add_bidder, go_on, open_after, names_no_good, unless_unmade, take_node_of, take_node_at, take_node, take_record, good_record}
-use Rattle.ice_journal.specs.Nodes.{node_record}
 use Rattle.ice_section.specs.Described.{bidder_records, section_records}
 use Rattle.ice_section.specs.Taking.{unless_fault, take_records}
 use Rattle.ice_section.proofs.NewNode.{with_last}

@@ -1,26 +1,12 @@
 -- Exchange and prices files in line form, record by record.
-use Rattle.std.specs.Prelude.{ℕ, suc, ◌<◌, ◌≡◌, Bool, true, false, List, [], ◌∷◌, ◌++◌, length, Contains, Option, Some, None, Result, Ok, Err}
+use Rattle.std.specs.Prelude.{ℕ, suc, ◌≡◌, Bool, true, false, List, [], ◌∷◌, Option, Some, None, Result, Ok, Err}
 use Rattle.ice_defs.specs.FileFault.{FileFault, at_line}
 use Rattle.ice_defs.specs.Exchange.{Exchange}
 use Rattle.ice_defs.specs.Prices.{Prices}
 use Rattle.ice_journal.specs.Records.{Record, version_1, exchange_kind, prices_kind, prices_end}
 use Rattle.ice_journal.specs.Records as line
-use Rattle.ice_journal.specs.Journal.{IsNoRecord}
 use Rattle.ice_section.specs.Section.{Section, no_section}
 use Rattle.ice_section.specs.LineFile.{exchange_from, ended, exchange_of_records, prices_from, prices_ended, prices_of_records}
-
--- a line at fault: no record, or without a newline
-pub data BadLine : Type 0 where
-  no_record not_ended : BadLine
-
-abbrev pub IsBadLine : List ℕ → BadLine → Type 0
-IsBadLine bytes no_record = (text : List ℕ) × (after : List ℕ) × (bytes ≡ text ++ 10 ∷ after) × ¬ Contains text 10 × IsNoRecord text
-IsBadLine bytes not_ended = (0 < length bytes) × ¬ Contains bytes 10
-
--- its fault
-abbrev pub bad_line_number : BadLine → ℕ
-bad_line_number no_record = 50
-bad_line_number not_ended = 51
 
 -- ---- exchange files
 

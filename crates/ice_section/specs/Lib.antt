@@ -3,6 +3,7 @@ pub mod Described
 pub mod Taking
 pub mod Laws
 pub mod Kept
+pub mod FaultNumbers
 pub mod Refusal
 pub mod LineFile
 pub mod FileSteps

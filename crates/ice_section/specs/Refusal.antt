@@ -1,5 +1,7 @@
 -- The faults that the code answers, and when each is due.
-use Rattle.std.specs.Prelude.{ℕ, ◌≡◌, Option, Some, Result, Err}
+use Rattle.std.specs.Prelude.{ℕ, ◌≡◌, Option, IfSome, IsSome, Result, Err}
+use Rattle.ice_tree.specs.Fault.{tree_fault_number}
+use Rattle.ice_trade.specs.Fault.{make_fault_number}
 use Rattle.ice_section.specs.declared.faults.SectionFault.{SectionFault}
 use Rattle.ice_section.specs.declared.faults.SectionFault.TheVariants as fault
 use Rattle.ice_section.specs.Section.{Section, order, count, no_good, maker}
@@ -10,7 +12,8 @@ abbrev pub IsRefusal : Result Section told.SectionFault → SectionFault → Typ
 IsRefusal found fault.Order = found ≡ Err order
 IsRefusal found fault.Count = found ≡ Err count
 IsRefusal found fault.NoGood = found ≡ Err no_good
-IsRefusal found (fault.Maker number) = found ≡ Err (maker number)
+IsRefusal found (fault.Tree refusal) = found ≡ Err (maker (tree_fault_number refusal))
+IsRefusal found (fault.Make refusal) = IfSome (make_fault_number refusal) (λ number. found ≡ Err (maker number))
 IsRefusal found fault.NoMemory = Unit {0}
 
 -- the fault of a refusal by the exchange's maker, which has a number
@@ -18,5 +21,6 @@ abbrev pub IsMakerRefusal : Option ℕ → SectionFault → Type 0
 IsMakerRefusal due fault.Order = ⊥
 IsMakerRefusal due fault.Count = ⊥
 IsMakerRefusal due fault.NoGood = ⊥
-IsMakerRefusal due (fault.Maker number) = due ≡ Some number
-IsMakerRefusal due fault.NoMemory = Unit {0}
+IsMakerRefusal due (fault.Tree refusal) = ⊥
+IsMakerRefusal due (fault.Make refusal) = (due ≡ make_fault_number refusal) × IsSome due
+IsMakerRefusal due fault.NoMemory = ⊥

@@ -5,28 +5,27 @@ ghost use Rattle.ice_journal.specs.Lines.{record_of};
 ghost use Rattle.ice_journal.specs.Ranges.{IsRecord};
 ghost use Rattle.ice_section.specs.LineFile.{is_exchange_end, IsExchangeOfLines};
 ghost use Rattle.ice_section.specs.FileSteps.{is_exchange_head, IsBegun, exchange_after};
-ghost use Rattle.ice_section.specs.FileStates.{so_far, IsNumberOf, IsFaultOf, IsFaultFrom};
+ghost use Rattle.ice_section.specs.FileStates.{so_far, IsNumbered, IsFaultOf, IsFaultFrom};
 
-use crate::faults::{LineFileFault, SectionFault};
-use crate::record_lines::next_record;
+use crate::faults::{LineCause, LineFileFault, bad_line, misplaced};
 use crate::section::Section;
-use ice_journal::{EndWord, Kind, Line, Version};
+use ice_journal::{EndWord, Kind, Line, Version, next_record};
 use ice_trade::Exchange;
 use std::alloc::{AllocError, Global};
 
 /// What of an exchange file was read.
 #[derive(Clone, Copy)]
-pub(crate) enum Stage {
+pub(crate) enum SoFar {
     Head,
     Section,
     End,
-    Failed { number: u8, line: u64 },
+    Failed { cause: LineCause, line: u64 },
 }
 
 /// An exchange file, as far as its records were taken.
 #[derive(Drop)]
 pub(crate) struct ExchangeFile {
-    pub(crate) stage: Stage,
+    pub(crate) reached: SoFar,
     pub(crate) section: Section,
 }
 
@@ -48,87 +47,71 @@ fn is_exchange_end(line: &Line) -> bool
     matches!(line, Line::End(EndWord::Exchange))
 }
 
-// The number of a fault of the section, and None for want of memory.
-fn fault_number(fault: SectionFault) -> Option<u8>
-    ensures { IsNumberOf fault result }
-{
-    match fault {
-        SectionFault::Order | SectionFault::Count => Some(50),
-        SectionFault::NoGood => Some(5),
-        SectionFault::Maker { number } => Some(number),
-        SectionFault::NoMemory => None,
-    }
-}
-
 impl ExchangeFile {
     // Takes the next record, after so many lines. Want of memory alone ends it: a fault is kept, since a later line at fault comes before it.
     fn take(&mut self, lines: u64, next: &Line) -> Result<(), AllocError>
         requires few { lines < 2 ^ 63 }
         requires lawful { IsRecord (record_of next.now) }
         requires begun { IsBegun lines (so_far self.old) self.old.section }
+        requires numbered { IsNumbered self.old.reached }
         ensures begun { OnOk result (IsBegun (suc lines) (so_far self.new) self.new.section) }
+        ensures numbered { OnOk result (IsNumbered self.new.reached) }
         ensures taken { OnOk result ((rest : List Record) → exchange_after lines (so_far self.old) (record_of next.now ∷ rest) ≡ exchange_after (suc lines) (so_far self.new) rest) }
     {
         let line = lines + 1;
-        match self.stage {
-            Stage::Head => {
-                self.stage = if is_exchange_head(next) {
-                    Stage::Section
+        match self.reached {
+            SoFar::Head => {
+                self.reached = if is_exchange_head(next) {
+                    SoFar::Section
                 } else {
-                    Stage::Failed {
-                        number: 50,
+                    SoFar::Failed {
+                        cause: LineCause::Misplaced,
                         line: 1,
                     }
                 };
             }
-            Stage::Section => {
+            SoFar::Section => {
                 if is_exchange_end(next) {
-                    self.stage = Stage::End;
+                    self.reached = SoFar::End;
                 } else if let Err(fault) = self.section.take(next) {
-                    let Some(number) = fault_number(fault) else {
+                    if fault.number().is_none() {
                         return Err(AllocError);
-                    };
-                    self.stage = Stage::Failed { number, line };
+                    }
+                    let cause = LineCause::Section(fault);
+                    self.reached = SoFar::Failed { cause, line };
                 }
             }
-            Stage::End => {
+            SoFar::End => {
                 let line = if self.section.may_end() { line } else { lines };
-                self.stage = Stage::Failed { number: 50, line };
+                let cause = LineCause::Misplaced;
+                self.reached = SoFar::Failed { cause, line };
             }
-            Stage::Failed { .. } => {}
+            SoFar::Failed { .. } => {}
         }
         Ok(())
     }
 
     // What the file gives where it ends after so many lines.
     fn finish(self, lines: u64) -> Result<Exchange, LineFileFault>
-        requires { lines < 2 ^ 63 }
+        requires few { lines < 2 ^ 63 }
+        requires numbered { IsNumbered self.reached }
         ensures exchange { IfOk result (λ exchange. exchange_after lines (so_far self) [] ≡ Found exchange) }
         ensures fault { IfErr result (IsFaultOf (exchange_after lines (so_far self) [])) }
     {
-        let ExchangeFile { stage, section } = self;
-        match stage {
-            Stage::Head => Err(LineFileFault::Fault {
-                number: 50,
-                line: 1,
-            }),
-            Stage::Section => Err(LineFileFault::Fault {
-                number: 50,
-                line: lines + 1,
-            }),
-            Stage::End => {
+        let ExchangeFile { reached, section } = self;
+        match reached {
+            SoFar::Head => Err(misplaced(1)),
+            SoFar::Section => Err(misplaced(lines + 1)),
+            SoFar::End => {
                 if !section.may_end() {
-                    return Err(LineFileFault::Fault {
-                        number: 50,
-                        line: lines,
-                    });
+                    return Err(misplaced(lines));
                 }
                 match section.finish() {
                     Ok(exchange) => Ok(exchange),
                     Err(AllocError) => Err(LineFileFault::NoMemory),
                 }
             }
-            Stage::Failed { number, line } => Err(LineFileFault::Fault { number, line }),
+            SoFar::Failed { cause, line } => Err(LineFileFault::Fault { cause, line }),
         }
     }
 }
@@ -144,7 +127,7 @@ pub fn read_exchange_lines(alloc: Global, bytes: &[u8]) -> Result<Exchange, Line
         return Err(LineFileFault::NoMemory);
     };
     let mut file = ExchangeFile {
-        stage: Stage::Head,
+        reached: SoFar::Head,
         section,
     };
     let mut rest = bytes;
@@ -152,7 +135,7 @@ pub fn read_exchange_lines(alloc: Global, bytes: &[u8]) -> Result<Exchange, Line
     while !rest.is_empty() {
         let (record, after) = match next_record(rest) {
             Ok(next) => next,
-            Err(bad) => return Err(bad.at(lines + 1)),
+            Err(bad) => return Err(bad_line(bad, lines + 1)),
         };
         let Ok(()) = file.take(lines, &record) else {
             return Err(LineFileFault::NoMemory);

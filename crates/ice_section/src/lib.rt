@@ -6,11 +6,10 @@ mod exchange_file;
 mod faults;
 pub mod laws;
 mod prices_file;
-mod record_lines;
 mod section;
 
 pub use exchange_file::read_exchange_lines;
-pub use faults::{LineFileFault, SectionFault};
+pub use faults::{LineCause, LineFileFault, SectionFault};
 pub use prices_file::read_prices_lines;
 pub use section::Section;
 

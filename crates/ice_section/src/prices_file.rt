@@ -6,9 +6,8 @@ ghost use Rattle.ice_section.specs.LineFile.{prices_from, IsPricesOfLines};
 ghost use Rattle.ice_section.specs.FileSteps.{is_prices_head, is_prices_end, ended_where, prices_after};
 ghost use Rattle.ice_section.specs.FileStates.{prices_so_far, IsFaultOf, IsFaultFrom};
 
-use crate::faults::LineFileFault;
-use crate::record_lines::next_record;
-use ice_journal::{EndWord, Kind, Line, Version};
+use crate::faults::{LineFileFault, bad_line, misplaced};
+use ice_journal::{EndWord, Kind, Line, Version, next_record};
 use ice_terms::Prices;
 
 /// A prices file, as far as its records were taken.
@@ -90,20 +89,11 @@ impl PricesFile {
         ensures fault { IfErr result (λ fault. ((goods : ℕ) → IsFaultOf (prices_after goods (prices_so_far self) []) fault) × (fault ≢ LineFileFault.NoMemory)) }
     {
         match self {
-            PricesFile::Head => Err(LineFileFault::Fault {
-                number: 50,
-                line: 1,
-            }),
-            PricesFile::Prices => Err(LineFileFault::Fault {
-                number: 50,
-                line: 2,
-            }),
-            PricesFile::End(_) => Err(LineFileFault::Fault {
-                number: 50,
-                line: 3,
-            }),
+            PricesFile::Head => Err(misplaced(1)),
+            PricesFile::Prices => Err(misplaced(2)),
+            PricesFile::End(_) => Err(misplaced(3)),
             PricesFile::Done(prices) => Ok(prices),
-            PricesFile::Failed { line } => Err(LineFileFault::Fault { number: 50, line }),
+            PricesFile::Failed { line } => Err(misplaced(line)),
         }
     }
 }
@@ -121,7 +111,7 @@ pub fn read_prices_lines(bytes: &[u8], goods: u8) -> Result<Prices, LineFileFaul
     while !rest.is_empty() {
         let (record, after) = match next_record(rest) {
             Ok(next) => next,
-            Err(bad) => return Err(bad.at(lines + 1)),
+            Err(bad) => return Err(bad_line(bad, lines + 1)),
         };
         file = file.after(goods, record);
         lines += 1;

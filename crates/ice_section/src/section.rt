@@ -4,7 +4,6 @@ ghost use Rattle.ice_defs.specs.Exchange.{AreSettings};
 ghost use Rattle.ice_defs.specs.Lawful.{IsBidder, IsExchange};
 ghost use Rattle.ice_defs.specs.Making.{good_refusal, bidder_refusal};
 ghost use Rattle.ice_trade.specs.Parts.{with_good, with_bidder};
-ghost use Rattle.ice_trade.specs.Fault.{make_fault_number};
 ghost use Rattle.ice_journal.specs.Lines.{record_of};
 ghost use Rattle.ice_journal.specs.Nodes.{node_record};
 ghost use Rattle.ice_journal.specs.Records as line;
@@ -19,7 +18,7 @@ use arrayvec::ArrayVec;
 use ice_defs::NodeKind;
 use ice_journal::Line;
 use ice_terms::{Name, Settings};
-use ice_trade::{Exchange, ExchangeMaker, MakeFault};
+use ice_trade::{Exchange, ExchangeMaker};
 use std::alloc::{AllocError, Global};
 use std::marker::Model;
 
@@ -43,16 +42,6 @@ impl Model for Section {
     ghost invariant = { λ s. IsHeld s.maker s.draft };
 }
 
-// The fault of a refusal by the exchange's maker.
-fn fault_of(fault: MakeFault) -> SectionFault
-    ensures { IsMakerRefusal (make_fault_number fault) result }
-{
-    match fault.number() {
-        Some(number) => SectionFault::Maker { number },
-        None => SectionFault::NoMemory,
-    }
-}
-
 fn add_good(maker: &mut ExchangeMaker, name: &Name, exact: bool) -> Result<(), SectionFault>
     ensures made { OnOk result ((good_refusal maker.old.goods maker.old.bidders name.now ≡ None) × (maker.new ≡ with_good maker.old (record { name = name.now; exact = exact }))) }
     ensures refused { IfErr result (IsMakerRefusal (good_refusal maker.old.goods maker.old.bidders name.now)) }
@@ -66,7 +55,7 @@ fn add_good(maker: &mut ExchangeMaker, name: &Name, exact: bool) -> Result<(), S
     };
     match made {
         Ok(_) => Ok(()),
-        Err(fault) => Err(fault_of(fault)),
+        Err(fault) => Err(SectionFault::Make(fault)),
     }
 }
 
@@ -83,7 +72,7 @@ fn add_bidder(maker: &mut ExchangeMaker, draft: Draft) -> Result<(), SectionFaul
     let (name, own, tree, bounds) = draft.finish();
     match maker.bidder(name.text(), own.as_slice(), tree, bounds) {
         Ok(_) => Ok(()),
-        Err(fault) => Err(fault_of(fault)),
+        Err(fault) => Err(SectionFault::Make(fault)),
     }
 }
 
@@ -201,9 +190,7 @@ impl Section {
         }
         if let Err(fault) = draft.node(kind, children, lo, hi) {
             self.draft = None;
-            return Err(SectionFault::Maker {
-                number: fault.number(),
-            });
+            return Err(SectionFault::Tree(fault));
         }
         if !draft.is_closed() {
             return Ok(());
@@ -216,7 +203,7 @@ impl Section {
 
     /// Takes the next record, whose numbers are in the ranges of their fields.
     ///
-    /// It refuses, in this order, where the record may not stand here (`Order`), where the owned amounts of a bidder are not as many as the goods (`Count`), where a node is of a good that is not there (`NoGood`), and where a maker refuses it with a number (`Maker`): the exchange's maker a good or a bidder with its whole tree, and the tree's maker a node, or the close of a node with its last child. Want of memory comes with the settings alone.
+    /// It refuses, in this order, where the record may not stand here (`Order`), where the owned amounts of a bidder are not as many as the goods (`Count`), where a node is of a good that is not there (`NoGood`), where the tree's maker refuses a node, or the close of a node with its last child (`Tree`), and where the exchange's maker refuses a good, or a bidder with its whole tree (`Make`). Want of memory comes with the settings alone.
     pub fn take(&mut self, line: &Line) -> Result<(), SectionFault>
         requires { IsRecord (record_of line.now) }
         ensures taken { OnOk result (take_record self.old (record_of line.now) ≡ Found self.new) }

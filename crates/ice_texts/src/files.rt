@@ -1,6 +1,6 @@
 //! One table for each type of fault of files.
 use ice_read::{ReadCause, ReadFault, read_round};
-use ice_section::{LineFileFault, SectionFault};
+use ice_section::{LineCause, LineFileFault, SectionFault};
 use ice_trade::MakeFault;
 use ice_tree::TreeFault;
 use std::alloc::Global;
@@ -87,7 +87,7 @@ fn faults_with_places(rt: HostRuntime) -> Result<(), Fail> {
     Ok(())
 }
 
-const SECTION_FAULTS: [(SectionFault, &str); 5] = [
+const SECTION_FAULTS: [(SectionFault, &str); 6] = [
     (SectionFault::Order, "this record may not stand here"),
     (
         SectionFault::Count,
@@ -95,19 +95,33 @@ const SECTION_FAULTS: [(SectionFault, &str); 5] = [
     ),
     (SectionFault::NoGood, "the node names no good"),
     (
-        SectionFault::Maker { number: 14 },
-        "refused with the number 14",
+        SectionFault::Tree(TreeFault::TooDeep),
+        "the tree is too deep",
+    ),
+    (
+        SectionFault::Make(MakeFault::DuplicateGood),
+        "a good of this name is there already",
     ),
     (SectionFault::NoMemory, "no memory is left"),
+];
+
+const LINE_CAUSES: [(LineCause, &str); 4] = [
+    (LineCause::NoRecord, "this line is no record"),
+    (LineCause::NotEnded, "this line has no newline"),
+    (LineCause::Misplaced, "another record belongs here"),
+    (
+        LineCause::Section(SectionFault::NoGood),
+        "the node names no good",
+    ),
 ];
 
 const LINE_FILE_FAULTS: [(LineFileFault, &str); 2] = [
     (
         LineFileFault::Fault {
-            number: 50,
+            cause: LineCause::Misplaced,
             line: 7,
         },
-        "line 7 is refused with the number 50",
+        "line 7: another record belongs here",
     ),
     (LineFileFault::NoMemory, "no memory is left"),
 ];
@@ -116,6 +130,9 @@ const LINE_FILE_FAULTS: [(LineFileFault, &str); 2] = [
 fn lines(rt: HostRuntime) -> Result<(), Fail> {
     for (fault, text) in SECTION_FAULTS {
         assert_eq!(rt; fault.to_string(rt.alloc())?.as_str(), text);
+    }
+    for (cause, text) in LINE_CAUSES {
+        assert_eq!(rt; cause.to_string(rt.alloc())?.as_str(), text);
     }
     for (fault, text) in LINE_FILE_FAULTS {
         assert_eq!(rt; fault.to_string(rt.alloc())?.as_str(), text);

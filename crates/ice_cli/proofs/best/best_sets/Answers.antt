@@ -14,5 +14,5 @@ loop-bidder-preserved c =
     let named : i < length names = omega (arith, length-names ex, few) in
     let le : i ≤ length names = omega (arith, named) in
     let here : i ≡ 0 + length (take i names) = omega (arith, length-take-le i names le) in
-    rw (take_more names i [] named, c.in-Ok.ensures.items)
+    rw (take_more names i [] named, c.in_ok-push.ensures.items)
     (AreBestSets-append ex c.args.prices.now 0 i (take i names) c.loop-bidder.sets.items (get_or names i []) c.best_set-best.result c.loop-bidder.invariant here c.best_set-best.ensures.name c.best_set-best.ensures.best)

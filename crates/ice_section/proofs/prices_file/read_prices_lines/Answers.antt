@@ -5,14 +5,14 @@ use Rattle.ice_journal.specs.Lines.{record_of}
 use Rattle.ice_section.specs.declared.faults.LineFileFault.TheVariants.{NoMemory}
 use Rattle.ice_section.specs.LineFile.{prices_of_records, IsPricesOfLines}
 use Rattle.ice_section.specs.FileSteps.{prices_after}
-use Rattle.ice_section.specs.FileStates.{IsFaultFrom, bad_line_of, prices_so_far}
+use Rattle.ice_section.specs.FileStates.{IsFaultFrom, prices_so_far}
 use Rattle.ice_section.proofs.Files.{read_more, read_all, read_fault, read_bad}
 use Rattle.ice_section.proofs.prices_file.read_prices_lines.Goals as goal
 
 pub returns-in-Err-clause-fault : goal.returns-in-Err-clause-fault
 returns-in-Err-clause-fault c =
-    subst (λ f. IsFaultFrom (IsPricesOfLines c.args.goods c.args.bytes.now) f × (f ≡ NoMemory → ⊥)) (sym c.at.ensures) (
-      read_bad (prices_of_records c.args.goods) c.args.bytes.now (prices_after c.args.goods (prices_so_far c.loop-rest.file)) c.loop-rest.rest.now c.loop-rest.lines (bad_line_of c.in-Err.bad) c.loop-rest.invariant c.in-Err.ensures.bad,
+    subst (λ f. IsFaultFrom (IsPricesOfLines c.args.goods c.args.bytes.now) f × (f ≡ NoMemory → ⊥)) (sym c.bad_line.ensures) (
+      read_bad (prices_of_records c.args.goods) c.args.bytes.now (prices_after c.args.goods (prices_so_far c.loop-rest.file)) c.loop-rest.rest.now c.loop-rest.lines c.in-Err.bad c.loop-rest.invariant c.in-Err.ensures.bad,
       λ e. absurd cc,
     )
 

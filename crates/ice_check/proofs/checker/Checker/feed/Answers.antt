@@ -2,7 +2,7 @@ use Rattle.std.proofs.Common.{◌≡◌, ◌∙◌, ◌<◌, ◌^◌, suc, sym, 
 use Rattle.ice_journal.specs.Lines.{record_of}
 use Rattle.ice_check.specs.declared.stage.Stage.{Stage}
 use Rattle.ice_check.specs.Progress.{Progress, IsAfter, next_line}
-use Rattle.ice_check.specs.Stages.{progress_of, IsWithin}
+use Rattle.ice_check.specs.Stages.{progress_of, IsAtLine}
 use Rattle.ice_check.proofs.Placing.{same_progress}
 use Rattle.ice_check.proofs.checker.Checker.feed.Goals as goal
 
@@ -14,7 +14,7 @@ returns-clause-after c =
     let next = c.in_ok-next.next in
     let r = record_of c.args.line.now in
     let view : progress_of n old ≡ c.args.self.now = ap (progress_of n) c.replace-stage.ensures.value ∙ c.self.view_is in
-    let within : IsWithin n old = subst (IsWithin n) (sym c.replace-stage.ensures.value) c.self.invariant in
+    let within : IsAtLine n old = subst (IsAtLine n) (sym c.replace-stage.ensures.value) c.self.invariant in
     let few : next_line (progress_of n old) < 2 ^ 63 = subst (λ (p : Progress). next_line p < 2 ^ 63) (sym view) c.requires.few in
     let same = λ (l : n < 2 ^ 63). (let e : m ≡ suc n = omega (arith, l, c.saturating_add-self-inside.ensures) in e) in
     subst (λ (st : Stage). IsAfter c.args.self.now r (progress_of m st)) (sym c.replace.ensures.after)

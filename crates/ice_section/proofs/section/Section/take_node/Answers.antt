@@ -31,8 +31,8 @@ returns-in-Err-clause-refused c =
     let goods : c.goods-goods.result ≡ length (section_from c.self.inside.maker (Some c.in-Some.draft)).goods = c.goods-goods.ensures.value ∙ ap (λ s. length s.goods) (sym view) in
     let known = ap (λ n. names_no_good c.args.kind n) (sym goods) ∙ sym c.names_no_good.ensures ∙ c.if-names_no_good.false in
     let refused = simp to_z-of_z at c.in-Err.ensures.refused in
-    subst (λ s. take_node s c.args.kind c.args.children c.args.lo c.args.hi ≡ Err (maker c.number.result)) view (
-    node_refused made d held c.args.kind c.args.children c.args.lo c.args.hi known (tree_fault_number c.in-Err.fault) refused ∙ ap (λ n. Err (maker n)) (sym c.number.ensures))
+    subst (λ s. take_node s c.args.kind c.args.children c.args.lo c.args.hi ≡ Err (maker (tree_fault_number c.in-Err.fault))) view (
+    node_refused made d held c.args.kind c.args.children c.args.lo c.args.hi known (tree_fault_number c.in-Err.fault) refused)
 
 pub invariant_of-self-then-not-is_closed : goal.invariant_of-self-then-not-is_closed
 invariant_of-self-then-not-is_closed c =
