@@ -25,6 +25,3 @@ pub use laws::{line_form_is_no_json, written_is_read};
 pub use place::Place;
 pub use round::read_round;
 pub use write::write_exchange;
-
-#[cfg(test)]
-mod exchange_tests;

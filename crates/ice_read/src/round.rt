@@ -145,6 +145,3 @@ pub fn read_round(alloc: Global, bytes: &[u8]) -> Result<Vec<Bid>, ReadFault>
     let file = value_of(alloc, bytes)?;
     bids_of(alloc, &file)
 }
-
-#[cfg(test)]
-mod tests;

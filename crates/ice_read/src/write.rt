@@ -185,6 +185,3 @@ pub fn write_exchange(alloc: Global, ex: &Exchange) -> Result<Vec<u8>, AllocErro
     let value = exchange_value(alloc, ex)?;
     Ok(value.to_vec(alloc)?)
 }
-
-#[cfg(test)]
-mod tests;

@@ -12,6 +12,3 @@ pub use exchange_file::read_exchange_lines;
 pub use faults::{LineCause, LineFileFault, SectionFault};
 pub use prices_file::read_prices_lines;
 pub use section::Section;
-
-#[cfg(test)]
-mod tests;

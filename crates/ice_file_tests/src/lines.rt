@@ -1,5 +1,6 @@
-use crate::{LineFileFault, Section, read_exchange_lines, read_prices_lines};
+//! Exchange and prices files in line form, and the section of an exchange.
 use ice_journal::read_record;
+use ice_section::{LineFileFault, Section, read_exchange_lines, read_prices_lines};
 use std::alloc::Global;
 use std::test::Fail;
 

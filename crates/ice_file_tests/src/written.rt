@@ -1,7 +1,8 @@
+//! Exchanges written in JSON.
 ghost use Rattle.std.specs.Prelude.{◌≡◌, IfOk, length};
 ghost use Rattle.ice_defs.specs.Lawful.{IsLimitedTree, AreBounds};
 
-use super::write_exchange;
+use ice_read::write_exchange;
 use ice_terms::Settings;
 use ice_trade::ExchangeMaker;
 use ice_tree::{Bounds, NodeKind, Tree, TreeMaker};

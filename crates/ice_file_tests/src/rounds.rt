@@ -1,5 +1,5 @@
-use super::read_round;
-use crate::fault::ReadFault;
+//! Round files in JSON.
+use ice_read::{ReadFault, read_round};
 use std::alloc::Global;
 use std::test::Fail;
 
