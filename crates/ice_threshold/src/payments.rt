@@ -5,7 +5,7 @@ ghost use Rattle.ice_defs.specs.Fraction.{IsFraction, Equals, whole, less, sum_o
 ghost use Rattle.ice_defs.specs.Threshold.{IsThreshold, ArePayments, IsSurplus};
 ghost use Rattle.ice_defs.specs.Cut.{IsCut, cut_sum};
 ghost use Rattle.ice_threshold.specs.CutOff.{cut_num, IsCutDown, AreCutDown, IsPaid, ArePaid};
-ghost use Rattle.ice_threshold.specs.Limits.{IsVickreyLimit, IsValueLimit, IsSmall, AreSmall};
+ghost use Rattle.ice_threshold.specs.Limits.{IsVickreyLimit, IsValueLimit, IsShort, AreShort};
 ghost use Rattle.ice_frac.specs.Lowest.{IsLowest};
 
 use crate::cut::least_cut;
@@ -60,7 +60,7 @@ fn sum_cut_off(vickrey: &[i128], num: i128, den: u64) -> i128
 fn discount_at(vickrey: i128, cut: Ratio) -> Frac
     requires { IsVickreyLimit vickrey }
     ensures cut_down { IsCutDown cut result vickrey }
-    ensures small { IsSmall result }
+    ensures small { IsShort result }
 {
     fraction(cut_off(vickrey, cut.num, cut.den), cut.den)
 }
@@ -70,7 +70,7 @@ fn payment_at(value: i128, vickrey: i128, cut: Ratio) -> Frac
     requires valued { IsValueLimit value }
     requires limited { IsVickreyLimit vickrey }
     ensures paid { IsPaid cut result value vickrey }
-    ensures small { IsSmall result }
+    ensures small { IsShort result }
 {
     let paid = scaled(value, cut.den) - cut_off(vickrey, cut.num, cut.den);
     fraction(paid, cut.den)
@@ -94,7 +94,7 @@ fn surplus_at(vickrey: &[i128], total: i128, cut: Ratio) -> Frac
 fn discounts_at(alloc: Global, vickrey: &[i128], cut: Ratio) -> Result<Vec<Frac>, AllocError>
     requires limited { All IsVickreyLimit vickrey.now }
     ensures cut_down { IfOk result (λ discounts. AreCutDown cut discounts.items vickrey.now) }
-    ensures small { IfOk result (λ discounts. All IsSmall discounts.items) }
+    ensures small { IfOk result (λ discounts. All IsShort discounts.items) }
 {
     let mut discounts = Vec::with_capacity(alloc, vickrey.len())?;
     for discount in vickrey {
@@ -114,7 +114,7 @@ fn payments_at(
     requires valued { All IsValueLimit values.now }
     requires limited { All IsVickreyLimit vickrey.now }
     ensures paid { IfOk result (λ payments. ArePaid cut payments.items values.now vickrey.now) }
-    ensures small { IfOk result (λ payments. All IsSmall payments.items) }
+    ensures small { IfOk result (λ payments. All IsShort payments.items) }
 {
     let mut payments = Vec::with_capacity(alloc, values.len())?;
     for i in 0..values.len() {
@@ -147,7 +147,7 @@ pub fn threshold(
     ensures payments { IfOk result (λ p. ArePayments values.now p.discounts.items p.payments.items) }
     ensures surplus { IfOk result (λ p. IsSurplus total p.discounts.items p.surplus) }
     ensures balance { IfOk result (λ p. Equals (sum_of p.payments.items) p.surplus) }
-    ensures small { IfOk result (λ p. AreSmall p.cut p.surplus p.discounts.items p.payments.items) }
+    ensures small { IfOk result (λ p. AreShort p.cut p.surplus p.discounts.items p.payments.items) }
 {
     let cut = least_cut(vickrey, total);
     let discounts = discounts_at(alloc, vickrey, cut)?;

@@ -2,7 +2,7 @@
 ghost use Rattle.std.specs.Prelude.{◌≡◌, ◌<◌, ◌≤◌, ◌*◌, ◌^◌, ◌*ℤ◌, pos, unsigned_abs};
 ghost use Rattle.ice_defs.specs.Fraction.{Fraction, AtMost, IsFraction, Equals};
 ghost use Rattle.ice_frac.specs.Lowest.{IsLowest};
-ghost use Rattle.ice_threshold.specs.Limits.{IsSmall};
+ghost use Rattle.ice_threshold.specs.Limits.{IsShort};
 
 use ice_frac::Frac;
 use std::marker::Model;
@@ -69,7 +69,7 @@ impl Ratio {
     pub(crate) fn reduced(self) -> Frac
         ensures equal { Equals result self }
         ensures proper { IsFraction result }
-        ensures small { IsSmall result }
+        ensures small { IsShort result }
     {
         fraction(self.num, self.den)
     }

@@ -1,7 +1,7 @@
 use Rattle.std.proofs.Common.{◌≡◌, List, [], ◌∷◌, ◌++◌, pos, rules, subst, sym, get_or, take, All, ◌+◌}
 use Rattle.ice_defs.specs.Fraction.{Fraction}
 use Rattle.ice_threshold.specs.CutOff.{IsCutDown, AreCutDown}
-use Rattle.ice_threshold.specs.Limits.{IsSmall}
+use Rattle.ice_threshold.specs.Limits.{IsShort}
 use Rattle.ice_threshold.proofs.Paid.{AreCutDown-more, All-more}
 use Rattle.ice_threshold.proofs.payments.discounts_at.Goals as goal
 
@@ -13,5 +13,5 @@ loop-discount-preserved c =
     record {
       cut_down = subst (λ (ds : List Fraction). AreCutDown c.args.cut ds (take (i + 1) c.args.vickrey.now)) (sym pushed)
           (AreCutDown-more c.args.cut c.loop-discount.discounts.items c.args.vickrey.now i c.discount_at.result c.loop-discount-test.true c.loop-discount.invariant.cut_down here);
-      small = subst (λ (ds : List Fraction). All IsSmall ds) (sym pushed) (All-more c.loop-discount.discounts.items c.discount_at.result c.loop-discount.invariant.small c.discount_at.ensures.small);
+      small = subst (λ (ds : List Fraction). All IsShort ds) (sym pushed) (All-more c.loop-discount.discounts.items c.discount_at.result c.loop-discount.invariant.small c.discount_at.ensures.small);
     }

@@ -1,7 +1,7 @@
 use Rattle.std.proofs.Common.{◌≡◌, ℕ, ◌+◌, ◌<◌, List, [], ◌∷◌, ◌++◌, pos, rules, subst, sym, length, slice_index_or, All}
 use Rattle.ice_defs.specs.Fraction.{Fraction, fraction_at}
 use Rattle.ice_threshold.specs.CutOff.{IsPaid}
-use Rattle.ice_threshold.specs.Limits.{IsSmall}
+use Rattle.ice_threshold.specs.Limits.{IsShort}
 use Rattle.ice_threshold.proofs.Paid.{ArePaid-more, All-more}
 use Rattle.ice_threshold.proofs.payments.payments_at.Goals as goal
 
@@ -14,5 +14,5 @@ loop-i-preserved c =
       same_length = more;
       each = subst (λ (ps : List Fraction). (k : ℕ) → k < c.loop-i.i + 1 → IsPaid c.args.cut (fraction_at ps k) (slice_index_or c.args.values.now k (pos 0)) (slice_index_or c.args.vickrey.now k (pos 0))) (sym pushed)
           (ArePaid-more c.args.cut c.loop-i.payments.items c.args.values.now c.args.vickrey.now c.loop-i.i c.payment_at.result c.loop-i.invariant.same_length c.loop-i.invariant.each here);
-      small = subst (λ (ps : List Fraction). All IsSmall ps) (sym pushed) (All-more c.loop-i.payments.items c.payment_at.result c.loop-i.invariant.small c.payment_at.ensures.small);
+      small = subst (λ (ps : List Fraction). All IsShort ps) (sym pushed) (All-more c.loop-i.payments.items c.payment_at.result c.loop-i.invariant.small c.payment_at.ensures.small);
     }
