@@ -3,8 +3,8 @@ ghost use Rattle.std.specs.Prelude.{◌≡◌, length, IfOk};
 ghost use Rattle.ice_defs.specs.Lawful.{AreBounds};
 
 use crate::{
-    AllWeights, Assignment, Bounds, BoundsFault, NodeKind, NodeSet, SatFault, SatRule,
-    Tree, TreeFault, TreeMaker,
+    AllWeights, Assignment, Bounds, BoundsFault, NodeKind, NodeSet, SatFault, SatRule, Tree,
+    TreeFault, TreeMaker,
 };
 use std::alloc::{AllocError, Global};
 
