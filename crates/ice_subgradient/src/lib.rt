@@ -1,0 +1,14 @@
+//! Heuristics of a search: multipliers that make the bound of a side small, the assignments that come up on the way, and
+//! nodes to split a side at. What they achieve is measured and not proved; what they answer is lawful.
+#![tactic(auto)]
+
+mod candidates;
+mod incumbent;
+mod level;
+mod openness;
+mod tally;
+
+pub use candidates::{Candidate, Candidates, pick};
+pub use incumbent::Incumbent;
+pub use level::{Evaluated, polish};
+pub use tally::Tally;
