@@ -3,6 +3,7 @@
 #![tactic(auto)]
 
 mod candidates;
+mod course;
 mod incumbent;
 mod level;
 mod openness;

@@ -1,0 +1,5 @@
+use Rattle.ice_bound.specs.Conditions.{AreMultipliersOf}
+use Rattle.ice_subgradient.proofs.course.go.Given as goal
+
+abbrev pub invariant-loop-good : goal.invariant-loop-good
+invariant-loop-good l = AreMultipliersOf l.kept.exact l.m
