@@ -8,6 +8,8 @@ mod incumbent;
 mod level;
 mod openness;
 mod tally;
+#[cfg(test)]
+mod tests;
 
 pub use candidates::{Candidate, Candidates, pick};
 pub use incumbent::Incumbent;
