@@ -2,6 +2,8 @@
 pub mod Threshold
 -- the greedy choice is greatest
 pub mod Greedy
+-- where as many children are possible as must be taken, all of them are taken
+pub mod Whole
 -- picks among the children of a node, as sums over all nodes
 pub mod Children
 -- the root's entry of a table bounds every satisfied set that meets the fixing
