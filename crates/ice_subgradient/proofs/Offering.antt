@@ -1,19 +1,16 @@
 -- Offers of relaxed sets.
-use Rattle.std.proofs.Common.{ℕ, ◌<◌, ◌≡◌, Bool, List, length, ℤ, ◌<ℤ◌, arith, ap, sym, ◌∙◌, subst, inl, inr}
+use Rattle.std.proofs.Common.{ℕ, ◌<◌, ◌≡◌, length, ℤ, ◌<ℤ◌, arith, ap, sym, ◌∙◌, subst, inl, inr}
 use Rattle.std.proofs.lemmas.Int.{ints}
-use Rattle.ice_defs.specs.Tree.{Tree}
-use Rattle.ice_defs.specs.Set.{Weights}
 use Rattle.ice_defs.specs.Trade.{tree_of, set_of, fixing_of, total_value, IsFeasible, MeetsAll}
 use Rattle.ice_defs.specs.Bound.{IsOpen}
-use Rattle.ice_defs.specs.Steps.{Side}
 use Rattle.ice_defs.specs.Sweep.{IsLive}
 use Rattle.ice_bound.specs.Kept.{Standing, AreRelaxedSets}
 use Rattle.ice_subgradient.specs.declared.incumbent.Incumbent.{Incumbent}
+use Rattle.ice_subgradient.specs.Laws.{OffersAreOne}
 use Rattle.ice_subgradient.specs.Offers.{AreCovered, IsRaised, IsOffered}
 
 -- several offers at one side are one
-pub offered_again : (ts : List Tree) (exact : List Bool) (ws : List Weights) (side : Side) (a b c : Incumbent)
-    → IsOffered ts exact ws side a b → IsOffered ts exact ws side b c → IsOffered ts exact ws side a c
+pub offered_again : OffersAreOne
 offered_again ts exact ws side a b c (inl same) offer = subst (λ x. IsOffered ts exact ws side x c) same offer
 offered_again ts exact ws side a b c (inr raised) (inl same) = inr (subst (IsRaised ts exact ws side a.value) (sym same) raised)
 offered_again ts exact ws side a b c (inr raised) (inr more) = inr (record {

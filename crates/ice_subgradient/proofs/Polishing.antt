@@ -1,5 +1,5 @@
 -- What holds at each step of a polish.
-use Rattle.std.proofs.Common.{ℕ, ◌≡◌, List, length, ℤ, ◌≤ℤ◌, ◌<ℤ◌, refl, arith, ap, sym, ◌∙◌, subst, ◌⊎◌, inl, inr}
+use Rattle.std.proofs.Common.{◌≡◌, length, ℤ, ◌≤ℤ◌, ◌<ℤ◌, arith, ap, sym, ◌∙◌, subst, inl, inr}
 use Rattle.std.proofs.lemmas.Int.{ints, by_lt_z}
 use Rattle.ice_defs.specs.Bound.{Multipliers, IsNetSum}
 use Rattle.ice_defs.specs.Trade.{total_value}

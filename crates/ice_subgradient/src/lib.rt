@@ -5,6 +5,7 @@
 mod candidates;
 mod course;
 mod incumbent;
+mod laws;
 mod level;
 mod openness;
 mod tally;
@@ -13,5 +14,6 @@ mod tests;
 
 pub use candidates::{Candidate, Candidates, pick};
 pub use incumbent::Incumbent;
+pub use laws::offers_are_one;
 pub use level::{Evaluated, polish};
 pub use tally::Tally;

@@ -1,9 +1,9 @@
-use Rattle.std.proofs.Common.{rules, refl, sym, ◌∙◌, subst, ap}
+use Rattle.std.proofs.Common.{rules, refl, sym, ◌∙◌, subst}
 use Rattle.std.proofs.lemmas.Int.{to_z-of_z}
 use mir.Syntax.{w128}
 use mir.Val.{SFits}
 use Rattle.ice_bound.specs.Conditions.{AreMultipliersOf}
-use Rattle.ice_subgradient.proofs.Polishing.{IsSameSide, IsPolished, begun, still_live, one_more}
+use Rattle.ice_subgradient.proofs.Polishing.{IsSameSide, begun, still_live, one_more}
 use Rattle.ice_subgradient.proofs.level.polish.Goals as goal
 
 pub loop-step-init : goal.loop-step-init
