@@ -62,7 +62,7 @@ struct Level {
 }
 
 impl Level {
-    /// A first level, as deep as the closing sum is.
+    /// No level yet: it is deeper than any, and the first aim raises it.
     fn new() -> Level {
         Level {
             depth: WIDEST,
