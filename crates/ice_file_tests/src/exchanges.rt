@@ -1,6 +1,7 @@
 //! Exchange files in JSON.
 use ice_read::{ReadFault, read_exchange};
 use std::alloc::Global;
+use std::process::Abort;
 use std::test::Fail;
 
 const BASE: &str =
@@ -29,8 +30,7 @@ const ACCEPTED: [(&str, &str); 3] = [
 // What stands in a file, what stands there instead, and the number and the place of the fault.
 type Change = (&'static str, &'static str, u8, &'static str);
 
-const FAULTS: [Change; 65] = [
-    // Whole.
+const WHOLE_FAULTS: [Change; 8] = [
     (BASE, "", 1, "-"),
     (BASE, "{", 1, "-"),
     (BASE, "ice 1 exchange", 1, "-"),
@@ -39,7 +39,9 @@ const FAULTS: [Change; 65] = [
     (r#""goods":["A"],"#, r#""goods":["A"],"x":1,"#, 2, "-"),
     (r#""cap":100"#, r#""cap":1e400"#, 1, "-"),
     (BIDDERS, "[]", 16, "-"),
-    // Settings.
+];
+
+const SETTINGS_FAULTS: [Change; 16] = [
     (SETTINGS, "7", 2, "settings"),
     (r#""weight":50,"#, "", 2, "settings"),
     (r#""weight":50,"#, r#""weight":50,"x":1,"#, 2, "settings"),
@@ -86,7 +88,9 @@ const FAULTS: [Change; 65] = [
         3,
         "settings.branches",
     ),
-    // Goods.
+];
+
+const GOODS_FAULTS: [Change; 7] = [
     (r#"["A"]"#, r#""A""#, 2, "goods"),
     (r#"["A"]"#, "[1]", 2, "goods.0"),
     (r#"["A"]"#, r#"[{"exact":"A","x":1}]"#, 2, "goods.0"),
@@ -99,7 +103,9 @@ const FAULTS: [Change; 65] = [
         "goods.1",
     ),
     (r#"["A"]"#, r#"["A","A"]"#, 10, "goods.1"),
-    // Bidders.
+];
+
+const BIDDERS_FAULTS: [Change; 7] = [
     (BIDDERS, "7", 2, "bidders"),
     (BIDDERS, "[7]", 2, "bidders.0"),
     (r#""name":"s","#, "", 2, "bidders.0"),
@@ -107,7 +113,9 @@ const FAULTS: [Change; 65] = [
     (r#""name":"s""#, r#""name":"s s""#, 13, "bidders.0"),
     (r#""name":"b""#, r#""name":"s""#, 11, "bidders.1"),
     (r#"{"A":1}"#, r#"{"A":0}"#, 14, "bidders.0"),
-    // Owned.
+];
+
+const OWNED_FAULTS: [Change; 7] = [
     (r#"["A"]"#, "[]", 5, "bidders.0.own"),
     (r#"{"A":1}"#, "[]", 2, "bidders.0.own"),
     (r#"{"A":1}"#, r#"{"A":"x"}"#, 2, "bidders.0.own.A"),
@@ -115,7 +123,9 @@ const FAULTS: [Change; 65] = [
     (r#"{"A":1}"#, r#"{"A":-1}"#, 4, "bidders.0.own.A"),
     (r#"{"A":1}"#, r#"{"A":1000001}"#, 4, "bidders.0.own.A"),
     (r#"{"A":1}"#, r#"{"B":1}"#, 5, "bidders.0.own"),
-    // Leaves.
+];
+
+const LEAVES_FAULTS: [Change; 8] = [
     (r#""lo":-10"#, r#""lo":-10.5"#, 3, "bidders.0.tree.lo"),
     (r#""lo":-10"#, r#""lo":-9"#, 21, "bidders.0.tree"),
     (r#""hi":30"#, r#""hi":1000000001"#, 4, "bidders.1.tree.hi"),
@@ -139,7 +149,9 @@ const FAULTS: [Change; 65] = [
         4,
         "bidders.1.tree.units",
     ),
-    // Nodes.
+];
+
+const NODES_FAULTS: [Change; 12] = [
     (SELLS, "5", 2, "bidders.0.tree"),
     (
         BUYS,
@@ -233,15 +245,50 @@ fn accepted(rt: HostRuntime) -> Result<(), Fail> {
     Ok(())
 }
 
-#[test]
-fn faults(rt: HostRuntime) -> Result<(), Fail> {
-    for (old, new, number, place) in FAULTS {
-        let text = changed(rt.alloc(), old, new)?;
-        let fault = fault_of(rt.alloc(), text.as_str())?;
-        assert_eq!(rt; fault.number(), Some(number), "{new}");
-        assert_eq!(rt; fault.place.text(), place, "{new}");
+// Each change is refused with its number at its place.
+fn check_faults(rt: &impl Abort, alloc: Global, changes: &[Change]) -> Result<(), Fail> {
+    for (old, new, number, place) in changes {
+        let text = changed(alloc, old, new)?;
+        let fault = fault_of(alloc, text.as_str())?;
+        assert_eq!(rt; fault.number(), Some(*number), "{new}");
+        assert_eq!(rt; fault.place.text(), *place, "{new}");
     }
     Ok(())
+}
+
+#[test]
+fn whole(rt: HostRuntime) -> Result<(), Fail> {
+    check_faults(&rt, rt.alloc(), &WHOLE_FAULTS)
+}
+
+#[test]
+fn settings(rt: HostRuntime) -> Result<(), Fail> {
+    check_faults(&rt, rt.alloc(), &SETTINGS_FAULTS)
+}
+
+#[test]
+fn goods(rt: HostRuntime) -> Result<(), Fail> {
+    check_faults(&rt, rt.alloc(), &GOODS_FAULTS)
+}
+
+#[test]
+fn bidders(rt: HostRuntime) -> Result<(), Fail> {
+    check_faults(&rt, rt.alloc(), &BIDDERS_FAULTS)
+}
+
+#[test]
+fn owned(rt: HostRuntime) -> Result<(), Fail> {
+    check_faults(&rt, rt.alloc(), &OWNED_FAULTS)
+}
+
+#[test]
+fn leaves(rt: HostRuntime) -> Result<(), Fail> {
+    check_faults(&rt, rt.alloc(), &LEAVES_FAULTS)
+}
+
+#[test]
+fn nodes(rt: HostRuntime) -> Result<(), Fail> {
+    check_faults(&rt, rt.alloc(), &NODES_FAULTS)
 }
 
 // The file with these values in the place of its bidders.
