@@ -1,0 +1,12 @@
+pub mod Following
+pub mod Looking
+pub mod Splitting
+pub mod Placing
+pub mod Standing
+pub mod Opened
+pub mod Ranges
+pub mod Offering
+pub mod Turning
+pub mod Beginning
+pub mod Finishing
+pub mod Choosing

@@ -1,0 +1,12 @@
+use Rattle.std.proofs.Common.{subst, ap, ◌∙◌, ◌≡◌}
+use Rattle.std.specs.Prelude.{IfNone}
+use Rattle.ice_searching.specs.Nodes.{HasNoNode}
+use Rattle.ice_search.proofs.progress.Progress.find_node.Goals as goal
+use Rattle.ice_search.proofs.progress.Progress.find_node.Goals.{in-Some+else-splits, in_default}
+
+pub returns-clause-none : goal.returns-clause-none
+returns-clause-none c =
+    let same : c.match-first_candidate.self-inside.space ≡ c.self.inside.space =
+    elim c.match-first_candidate.branch [ in-Some+else-splits w ↦ ap (λ i. i.space) w.self-inside-is ∙ w.splits.ensures.same | in_default w ↦ ap (λ i. i.space) w.self-inside-is ] in
+    subst (λ t. IfNone c.find_node.result (HasNoNode t.instance.trees t.side)) c.self.view_is
+    (subst (λ l. IfNone c.find_node.result (HasNoNode l.instance.trees l.side)) same c.find_node.ensures.none)

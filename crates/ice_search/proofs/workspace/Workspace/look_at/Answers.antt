@@ -1,0 +1,34 @@
+use Rattle.std.proofs.Common.{get_or, sym, ◌∙◌, subst}
+use Rattle.ice_bound.specs.Conditions.{AreFixingsOf, AreMultipliersOf}
+use Rattle.ice_assembly.specs.Code.{parts_of}
+use Rattle.ice_search.specs.Instance.{IsSearchOf}
+use Rattle.ice_search.proofs.Following.{fixings_at, multipliers_at}
+use Rattle.ice_search.proofs.workspace.Workspace.look_at.Goals as goal
+
+pub put_side-requires-2-clause-marks : goal.put_side-requires-2-clause-marks
+put_side-requires-2-clause-marks c =
+    let x = c.self.inside.problem in
+    let is = subst (λ l. IsSearchOf l.instance (parts_of c.args.parts.now)) (sym c.self.view_is) c.requires.search in
+    subst (λ ts. AreFixingsOf ts c.put_side.new.marks) (sym c.self.invariant.trees)
+    (subst (AreFixingsOf x.trees) (sym c.put_side.ensures) (fixings_at x c.args.parts.now c.args.number c.self.invariant.instance is c.requires.there))
+
+pub put_side-requires-2-clause-multipliers : goal.put_side-requires-2-clause-multipliers
+put_side-requires-2-clause-multipliers c =
+    let x = c.self.inside.problem in
+    let is = subst (λ l. IsSearchOf l.instance (parts_of c.args.parts.now)) (sym c.self.view_is) c.requires.search in
+    subst (λ e. AreMultipliersOf e (get_or c.args.parts.now c.args.number c.index-parts-number.result).m) (sym c.self.invariant.exact)
+    (subst (λ p. AreMultipliersOf x.exact p.m) c.index-parts-number.is (multipliers_at x c.args.parts.now c.args.number c.index-parts-number.result is c.requires.there c.index-parts-number.is))
+
+pub invariant_of-self : goal.invariant_of-self
+invariant_of-self c =
+    let x = c.self.inside.problem in
+    let is = subst (λ l. IsSearchOf l.instance (parts_of c.args.parts.now)) (sym c.self.view_is) c.requires.search in
+    record {
+      instance = c.self.invariant.instance;
+      trees = c.put_side-2.ensures.trees ∙ c.self.invariant.trees;
+      weights = c.put_side-2.ensures.weights ∙ c.self.invariant.weights;
+      exact = c.put_side-2.ensures.exact ∙ c.self.invariant.exact;
+      desk = subst (AreFixingsOf x.trees) (sym c.put_side.ensures) (fixings_at x c.args.parts.now c.args.number c.self.invariant.instance is c.requires.there);
+      room = c.self.invariant.room;
+      tally = c.self.invariant.tally;
+    }

@@ -1,0 +1,38 @@
+use Rattle.std.proofs.Common.{refl, ap, sym, ◌∙◌, ◌≡◌, subst}
+use Rattle.ice_defs.specs.Steps.{with_mark}
+use Rattle.ice_defs.specs.Log.{IsFreeNode}
+use Rattle.ice_bound.specs.Conditions.{AreFixingsOf}
+use Rattle.ice_search.proofs.Splitting.{live_there}
+use Rattle.ice_search.proofs.Standing.{bound_there, taken_back}
+use Rattle.ice_search.proofs.workspace.Workspace.polish_child.Goals as goal
+
+pub polish-polished-requires-clause-live : goal.polish-polished-requires-clause-live
+polish-polished-requires-clause-live c =
+    let now = c.args.self.now in
+    let place = c.args.candidate in
+    live_there c.self.inside.problem.trees now.instance.trees (with_mark now.side place.bidder place.node c.args.mark) c.put_multipliers.new.self.marks
+    (sym (ap (λ l. l.instance.trees) c.self.view_is))
+    (ap (λ xs. with_mark xs place.bidder place.node c.args.mark) (sym (ap (λ l. l.side) c.self.view_is)) ∙ sym c.mark.ensures.marks ∙ sym c.put_multipliers.ensures.marks) c.requires.live
+
+pub returns-clause-side : goal.returns-clause-side
+returns-clause-side c =
+    let kept = c.self.inside.kept in
+    let now = c.args.self.now in
+    let place = c.args.candidate in
+    let marked : c.self-2.inside.kept.marks ≡ with_mark kept.marks place.bidder place.node c.args.mark =
+    ap (λ l. l.side) c.self-2.view_is ∙ c.polish-polished.ensures.side ∙ c.put_multipliers.ensures.marks ∙ c.mark.ensures.marks in
+    let seen : kept.marks ≡ now.side = ap (λ l. l.side) c.self.view_is in
+    let trees : now.instance.trees ≡ c.self.inside.problem.trees = sym (ap (λ l. l.instance.trees) c.self.view_is) in
+    let free = subst (λ ts. IsFreeNode ts kept.marks place.bidder place.node) trees (subst (λ xs. IsFreeNode now.instance.trees xs place.bidder place.node) (sym seen) c.requires.free) in
+    let fit = subst (λ ts. AreFixingsOf ts kept.marks) trees (subst (AreFixingsOf now.instance.trees) (sym seen) c.requires.fit) in
+    c.mark-2.ensures.marks ∙ taken_back c.self.inside.problem.trees kept.marks c.self-2.inside.kept.marks place.bidder place.node c.args.mark fit free marked ∙ seen
+
+pub returns-clause-bound : goal.returns-clause-bound
+returns-clause-bound c =
+    let now = c.args.self.now in
+    let place = c.args.candidate in
+    let problem = c.self.inside.problem in
+    let m = c.polish-polished.result.bounded.m in
+    bound_there now.instance.trees problem.trees now.instance.weights problem.weights m m c.put_multipliers.new.self.marks (with_mark now.side place.bidder place.node c.args.mark)
+    c.polish-polished.result.bounded.key (ap (λ l. l.instance.trees) c.self.view_is) (ap (λ l. l.instance.weights) c.self.view_is) refl
+    (c.put_multipliers.ensures.marks ∙ c.mark.ensures.marks ∙ ap (λ xs. with_mark xs place.bidder place.node c.args.mark) (ap (λ l. l.side) c.self.view_is)) c.polish-polished.ensures.bound

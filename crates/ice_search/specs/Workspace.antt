@@ -1,0 +1,27 @@
+-- The workspace of a search: what is asked, and the side that is looked at.
+use Rattle.std.specs.Prelude.{ℕ, ◌≡◌, Bool, List, length}
+use Rattle.ice_defs.specs.Fixing.{Fixing}
+use Rattle.ice_defs.specs.Steps.{Side}
+use Rattle.ice_bound.specs.Conditions.{AreFixingsOf}
+use Rattle.ice_bound.specs.Kept.{Standing}
+use Rattle.ice_subgradient.specs.declared.incumbent.Incumbent.{Incumbent}
+use Rattle.ice_subgradient.specs.Offers.{IsOffered}
+use Rattle.ice_search.specs.Instance.{Instance, IsInstance}
+
+pub record Looking : Type 0 where
+  pub instance : Instance
+  pub side : Side
+
+-- kept bounds are of the instance, and so are the marks of the desk, the goods that it knows, and the trees that are tallied
+pub record IsWorkspace (x : Instance) (kept : Standing) (marks : List Fixing) (goods : List Bool) (tallied : ℕ) : Type 0 where
+  pub instance : IsInstance x
+  pub trees : kept.trees ≡ x.trees
+  pub weights : kept.weights ≡ x.weights
+  pub exact : kept.exact ≡ x.exact
+  pub desk : AreFixingsOf x.trees marks
+  pub room : goods ≡ x.exact
+  pub tally : tallied ≡ length x.trees
+
+-- the incumbent is as it was, or a better one that meets the side
+abbrev pub IsOfferedAt : Instance → Side → Incumbent → Incumbent → Type 0
+IsOfferedAt x side old new = IsOffered x.trees x.exact x.weights side old new

@@ -1,0 +1,110 @@
+//! The children of the side that is looked at.
+ghost use Rattle.std.specs.Prelude.{◌≡◌, length, pos, ◌+ℤ◌, ◌*ℤ◌, ◌≤ℤ◌, ◌<ℤ◌};
+ghost use Rattle.ice_defs.specs.Log.{IsFreeNode};
+ghost use Rattle.ice_defs.specs.Steps.{with_mark};
+ghost use Rattle.ice_defs.specs.Sweep.{IsLive};
+ghost use Rattle.ice_bound.specs.Conditions.{AreFixingsOf, AreMultipliersOf};
+ghost use Rattle.ice_search.specs.Instance.{IsBoundAt};
+ghost use Rattle.ice_search.specs.Workspace.{IsOfferedAt};
+
+use crate::sweep::Bounded;
+use crate::workspace::Workspace;
+use ice_best::Mark;
+use ice_bound::{Multipliers, floor_64th};
+use ice_subgradient::{Candidate, Candidates, Evaluated, Incumbent, pick, polish};
+
+/// A side with multipliers, their bound and nodes to split it at.
+#[derive(Drop)]
+pub(crate) struct Polished {
+    pub(crate) bounded: Bounded,
+    pub(crate) candidates: Candidates,
+}
+
+/// The multipliers of an evaluation, with the bound at them.
+fn bounded(evaluated: Evaluated) -> Bounded
+    ensures multipliers { result.m ≡ evaluated.m }
+    ensures low { (pos 64 *ℤ result.key) ≤ℤ evaluated.total }
+    ensures high { evaluated.total <ℤ (pos 64 *ℤ result.key +ℤ pos 64) }
+{
+    Bounded {
+        m: evaluated.m,
+        key: floor_64th(evaluated.total),
+    }
+}
+
+impl<'a> Workspace<'a> {
+    /// Steps from the multipliers that are kept. The relaxed sets of each step are offered.
+    pub(crate) fn polish(&mut self, incumbent: &mut Incumbent, steps: u16) -> Polished
+        requires live { IsLive self.old.instance.trees self.old.side }
+        requires sets { length incumbent.old.sets ≡ length self.old.instance.trees }
+        ensures instance { self.new.instance ≡ self.old.instance }
+        ensures side { self.new.side ≡ self.old.side }
+        ensures multipliers { AreMultipliersOf self.old.instance.exact result.bounded.m }
+        ensures bound { IsBoundAt self.old.instance result.bounded.m self.old.side result.bounded.key }
+        ensures sets { length incumbent.new.sets ≡ length self.old.instance.trees }
+        ensures offered { IsOfferedAt self.old.instance self.old.side incumbent.old incumbent.new }
+    {
+        let evaluated = polish(&mut self.kept, incumbent, &mut self.tally, steps);
+        let candidates = pick(
+            self.problem.trees(),
+            self.problem.weights(),
+            self.kept.marks(),
+            &self.tally,
+        );
+        Polished {
+            bounded: bounded(evaluated),
+            candidates,
+        }
+    }
+
+    /// Steps from the multipliers that are given. The relaxed sets of each step are offered.
+    pub(crate) fn polish_from(
+        &mut self,
+        from: &Multipliers,
+        incumbent: &mut Incumbent,
+        steps: u16,
+    ) -> Polished
+        requires live { IsLive self.old.instance.trees self.old.side }
+        requires from { AreMultipliersOf self.old.instance.exact from.now }
+        requires sets { length incumbent.old.sets ≡ length self.old.instance.trees }
+        ensures instance { self.new.instance ≡ self.old.instance }
+        ensures side { self.new.side ≡ self.old.side }
+        ensures multipliers { AreMultipliersOf self.old.instance.exact result.bounded.m }
+        ensures bound { IsBoundAt self.old.instance result.bounded.m self.old.side result.bounded.key }
+        ensures sets { length incumbent.new.sets ≡ length self.old.instance.trees }
+        ensures offered { IsOfferedAt self.old.instance self.old.side incumbent.old incumbent.new }
+    {
+        self.kept.put_multipliers(from);
+        self.polish(incumbent, steps)
+    }
+
+    /// Looks at a child for some steps from the multipliers that are given.
+    pub(crate) fn polish_child(
+        &mut self,
+        candidate: Candidate,
+        mark: Mark,
+        from: &Multipliers,
+        incumbent: &mut Incumbent,
+        steps: u16,
+    ) -> Polished
+        requires fit { AreFixingsOf self.old.instance.trees self.old.side }
+        requires free { IsFreeNode self.old.instance.trees self.old.side candidate.bidder candidate.node }
+        requires live { IsLive self.old.instance.trees (with_mark self.old.side candidate.bidder candidate.node mark) }
+        requires from { AreMultipliersOf self.old.instance.exact from.now }
+        requires sets { length incumbent.old.sets ≡ length self.old.instance.trees }
+        ensures instance { self.new.instance ≡ self.old.instance }
+        ensures side { self.new.side ≡ self.old.side }
+        ensures multipliers { AreMultipliersOf self.old.instance.exact result.bounded.m }
+        ensures bound { IsBoundAt self.old.instance result.bounded.m
+            (with_mark self.old.side candidate.bidder candidate.node mark) result.bounded.key }
+        ensures sets { length incumbent.new.sets ≡ length self.old.instance.trees }
+        ensures offered { IsOfferedAt self.old.instance (with_mark self.old.side
+            candidate.bidder candidate.node mark) incumbent.old incumbent.new }
+    {
+        self.kept.mark(candidate.bidder, candidate.node, mark);
+        self.kept.put_multipliers(from);
+        let polished = self.polish(incumbent, steps);
+        self.kept.mark(candidate.bidder, candidate.node, Mark::Free);
+        polished
+    }
+}

@@ -1,0 +1,115 @@
+//! The calls of a search.
+ghost use Rattle.std.specs.Prelude.{◌≡◌, ◌+◌, ◌^◌, ◌<◌, ◌≤◌, ◌∷◌, List, length, IfOk, IfErr};
+ghost use Rattle.ice_defs.specs.Exchange.{trees_of, exact_of};
+ghost use Rattle.ice_defs.specs.Steps.{Step as PlainStep, branch_count};
+ghost use Rattle.ice_defs.specs.Trade.{IsFeasible, MeetsAll, IsBest};
+ghost use Rattle.ice_bound.specs.Conditions.{AreWeightsOf, AreFixingsOf, AreMultipliersOf};
+ghost use Rattle.ice_refute.specs.Code.{step_of};
+ghost use Rattle.ice_search.specs.Instance.{instance_of};
+ghost use Rattle.ice_search.specs.Results.{IsFoundBy, IsEnd};
+
+use crate::problem::Problem;
+use crate::progress::Progress;
+use crate::results::{Found, SearchEnd};
+use crate::run::{Ended, run};
+use ice_best::Fixings;
+use ice_bound::Multipliers;
+use ice_refute::{Log, Step};
+use ice_trade::Exchange;
+use ice_tree::{AllWeights, Assignment};
+use std::alloc::Global;
+
+/// 1 for a branch step.
+fn branches_of(step: &Step) -> u32
+    ensures { (rest : List PlainStep) → branch_count (step_of step.now ∷ rest) ≡ branch_count rest + result }
+{
+    match step {
+        Step::Branch { .. } => 1,
+        Step::Leaf { .. } => 0,
+        Step::Dead { .. } => 0,
+    }
+}
+
+/// How many branch steps the log has.
+fn count_branches(log: &Log) -> u32
+    requires { branch_count log.now < 2 ^ 32 }
+    ensures { result ≡ branch_count log.now }
+{
+    let mut count = 0;
+    for step in log.steps() {
+        count += branches_of(step);
+    }
+    count
+}
+
+/// `search` from multipliers for the first bound, one for each good: those of a search before. They change the time, and
+/// which log is found.
+pub fn search_from(
+    alloc: Global,
+    exchange: &Exchange,
+    weights: &AllWeights,
+    start: &Fixings,
+    first: &Assignment,
+    from: &Multipliers,
+    branches: &mut u32,
+) -> Result<Found, SearchEnd>
+    requires weights { AreWeightsOf (trees_of exchange.now) weights.now }
+    requires start { AreFixingsOf (trees_of exchange.now) start.now }
+    requires feasible { IsFeasible (trees_of exchange.now) (exact_of exchange.now) first.now }
+    requires meets { MeetsAll first.now start.now }
+    requires from { AreMultipliersOf (exact_of exchange.now) from.now }
+    requires branches { branches.old ≤ 50000 }
+    ensures found { IfOk result (IsFoundBy (instance_of exchange.now weights.now start.now first.now)) }
+    ensures best { IfOk result (λ f. IsBest (trees_of exchange.now) (exact_of exchange.now) weights.now start.now f.value) }
+    ensures branches { IfOk result (λ f. branches.new + branch_count f.log ≡ branches.old) }
+    ensures end { IfErr result (IsEnd (instance_of exchange.now weights.now start.now first.now) branches.old branches.new) }
+{
+    let problem = Problem::new(exchange, weights, start, first);
+    let mut progress = Progress::begin(alloc, problem, from)?;
+    let mut left = *branches;
+    match run(&mut progress, &mut left)? {
+        Ended::Whole => {
+            let found = progress.found(alloc)?;
+            *branches -= count_branches(&found.log);
+            Ok(found)
+        }
+        Ended::Spent { number, node } => {
+            let spent = progress.spent(alloc, number, node)?;
+            *branches = 0;
+            Err(SearchEnd::Spent(spent))
+        }
+    }
+}
+
+/// The best feasible assignment that meets the start, with a log that refutes every greater one. The branches fall by the
+/// log's branch steps.
+///
+/// `Spent` comes only where all branches were used: then no branch is left, and the log refutes what is above its bound,
+/// which is above the value that was found. `NoMemory` may come at any time, and leaves no more branches than there were.
+///
+/// Each branch step of a log is earned: both its sides are live, and the bound that one sweep gives of the side that it
+/// splits is above the first assignment's value and no less than the best. The log of a spent search leaves such a step.
+///
+/// Weights are at most 100,000,000,000 in size, the first assignment is feasible and meets the start, and there are at most
+/// 50,000 branches.
+pub fn search(
+    alloc: Global,
+    exchange: &Exchange,
+    weights: &AllWeights,
+    start: &Fixings,
+    first: &Assignment,
+    branches: &mut u32,
+) -> Result<Found, SearchEnd>
+    requires weights { AreWeightsOf (trees_of exchange.now) weights.now }
+    requires start { AreFixingsOf (trees_of exchange.now) start.now }
+    requires feasible { IsFeasible (trees_of exchange.now) (exact_of exchange.now) first.now }
+    requires meets { MeetsAll first.now start.now }
+    requires branches { branches.old ≤ 50000 }
+    ensures found { IfOk result (IsFoundBy (instance_of exchange.now weights.now start.now first.now)) }
+    ensures best { IfOk result (λ f. IsBest (trees_of exchange.now) (exact_of exchange.now) weights.now start.now f.value) }
+    ensures branches { IfOk result (λ f. branches.new + branch_count f.log ≡ branches.old) }
+    ensures end { IfErr result (IsEnd (instance_of exchange.now weights.now start.now first.now) branches.old branches.new) }
+{
+    let zeros = Multipliers::zero(exchange.goods());
+    search_from(alloc, exchange, weights, start, first, &zeros, branches)
+}

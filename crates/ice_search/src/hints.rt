@@ -1,0 +1,53 @@
+//! Hints: what makes a part's sweep and its split quick. What they say decides nothing.
+ghost use Rattle.std.specs.Prelude.{◌+◌, ◌≤◌, vec_len, vec_capacity};
+
+use ice_bound::Multipliers;
+use ice_subgradient::{Candidate, Candidates};
+
+/// A hint for a part.
+#[derive(Drop)]
+pub(crate) struct Hint {
+    /// The multipliers that a sweep made of the part, or of the part above it.
+    pub(crate) near: Multipliers,
+    /// Nodes to split it at, the best first.
+    pub(crate) candidates: Candidates,
+}
+
+/// The multipliers that a sweep of the part may come near to.
+pub(crate) fn near(hints: &[Hint], number: u32) -> Multipliers {
+    match hints.get(number as usize) {
+        Some(hint) => hint.near.copy(),
+        None => Multipliers::zero(0),
+    }
+}
+
+/// Keeps what a sweep made of the part.
+pub(crate) fn keep_near(hints: &mut Vec<Hint>, number: u32, near: &Multipliers) {
+    if let Some(hint) = hints.get_mut(number as usize) {
+        hint.near = near.copy();
+    }
+}
+
+/// The node to split the part at.
+pub(crate) fn first_candidate(hints: &[Hint], number: u32) -> Option<Candidate> {
+    hints.get(number as usize)?.candidates.first().copied()
+}
+
+/// Hints for the two children of a part, for which there is room.
+pub(crate) fn push_hints(hints: &mut Vec<Hint>, number: u32, must: Candidates, never: Candidates)
+    requires { vec_len hints.old + 2 ≤ vec_capacity hints.old }
+{
+    let above = near(hints, number);
+    hints
+        .push(Hint {
+            near: above.copy(),
+            candidates: must,
+        })
+        .unwrap();
+    hints
+        .push(Hint {
+            near: above,
+            candidates: never,
+        })
+        .unwrap();
+}

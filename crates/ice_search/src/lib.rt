@@ -1,0 +1,22 @@
+//! Branch and bound: the best feasible assignment with a log that refutes every greater one, or what was found when the
+//! branches were spent.
+#![tactic(auto)]
+
+mod begin;
+mod child;
+mod entry;
+mod finish;
+mod frontier;
+mod hints;
+mod node;
+mod parts;
+mod problem;
+mod progress;
+mod results;
+mod run;
+mod sides;
+mod sweep;
+mod workspace;
+
+pub use entry::{search, search_from};
+pub use results::{Found, SearchEnd, Spent};

@@ -1,0 +1,84 @@
+//! What a search is asked.
+ghost use Rattle.std.specs.Prelude.{◌≡◌, ◌≤◌, length};
+ghost use Rattle.ice_defs.specs.Exchange.{trees_of, exact_of};
+ghost use Rattle.ice_defs.specs.Trade.{IsFeasible, MeetsAll};
+ghost use Rattle.ice_bound.specs.Conditions.{AreWeightsOf, AreFixingsOf};
+ghost use Rattle.ice_search.specs.Instance.{instance_of};
+
+use ice_best::Fixings;
+use ice_trade::Exchange;
+use ice_tree::{AllWeights, Assignment, Tree};
+use std::marker::Model;
+
+/// What a search is asked: the trees and goods of an exchange, weights, the marks to start from, and a feasible assignment
+/// that meets them.
+#[derive(Drop)]
+pub(crate) struct Problem<'a> {
+    exchange: &'a Exchange,
+    weights: &'a AllWeights,
+    pub(crate) start: &'a Fixings,
+    pub(crate) first: &'a Assignment,
+}
+
+impl<'a> Model for Problem<'a> {
+    ghost use Rattle.ice_search.specs.Instance.{Instance, instance_of, IsInstance};
+
+    ghost Value = { Instance };
+
+    ghost view = { λ p. instance_of p.exchange.now p.weights.now p.start.now p.first.now };
+
+    ghost invariant = { λ p. IsInstance (instance_of p.exchange.now p.weights.now p.start.now p.first.now) };
+}
+
+impl<'a> Problem<'a> {
+    /// The weights and the marks are of the exchange's trees, and the first assignment is feasible and meets the marks.
+    pub(crate) fn new(
+        exchange: &'a Exchange,
+        weights: &'a AllWeights,
+        start: &'a Fixings,
+        first: &'a Assignment,
+    ) -> Problem<'a>
+        requires weights { AreWeightsOf (trees_of exchange.now) weights.now }
+        requires start { AreFixingsOf (trees_of exchange.now) start.now }
+        requires feasible { IsFeasible (trees_of exchange.now) (exact_of exchange.now) first.now }
+        requires meets { MeetsAll first.now start.now }
+        ensures { result ≡ instance_of exchange.now weights.now start.now first.now }
+    {
+        let _bidders = exchange.bidders();
+        Problem {
+            exchange,
+            weights,
+            start,
+            first,
+        }
+    }
+
+    /// The trees.
+    pub(crate) fn trees(&self) -> &'a [Tree]
+        ensures { result.now ≡ self.now.trees }
+    {
+        self.exchange.trees()
+    }
+
+    /// The weights.
+    pub(crate) fn weights(&self) -> &'a AllWeights
+        ensures { result.now ≡ self.now.weights }
+    {
+        self.weights
+    }
+
+    /// For each good whether what is bought of it must equal what is sold.
+    pub(crate) fn exact(&self) -> &'a [bool]
+        ensures { result.now ≡ self.now.exact }
+    {
+        self.exchange.exact()
+    }
+
+    /// The number of goods.
+    pub(crate) fn goods(&self) -> u8
+        ensures value { result ≡ length self.now.exact }
+        ensures fits { result ≤ 32 }
+    {
+        self.exchange.goods()
+    }
+}

@@ -1,0 +1,155 @@
+//! A search as it goes on.
+ghost use Rattle.std.specs.Prelude.{◌≡◌, ◌+◌, ◌<◌, ◌≤◌, length, slice_index, true, false, IfNone, IfSome, OnOk};
+ghost use Rattle.std.specs.List.{Contains};
+ghost use Rattle.ice_searching.specs.Parts.{part_at, side_at};
+ghost use Rattle.ice_searching.specs.Searching.{IsAboveWhole, IsNext, AreOpen};
+ghost use Rattle.ice_searching.specs.Nodes.{HasNoNode};
+ghost use Rattle.ice_search.specs.Nodes.{IsSplitNode};
+ghost use Rattle.ice_search.specs.Open.{IsGreatestOpen};
+ghost use Rattle.ice_search.specs.State.{unswept_count, LooksAt};
+
+use crate::frontier::{greatest, open_children, take_out};
+use crate::hints::{Hint, first_candidate, keep_near, near, push_hints};
+use crate::parts::{is_open, lower, push_children};
+use crate::workspace::Workspace;
+use ice_assembly::Part;
+use ice_best::Mark;
+use ice_subgradient::{Candidate, Incumbent};
+use std::alloc::AllocError;
+use std::marker::Model;
+
+/// So many steps are taken at a child.
+const CHILD_STEPS: u16 = 60;
+
+/// A search as it goes on: its parts with a hint for each, the best assignment so far, and the open parts.
+#[derive(Drop)]
+pub(crate) struct Progress<'a> {
+    pub(crate) space: Workspace<'a>,
+    pub(crate) incumbent: Incumbent,
+    pub(crate) parts: Vec<Part>,
+    pub(crate) hints: Vec<Hint>,
+    pub(crate) open_parts: Vec<u32>,
+}
+
+impl<'a> Model for Progress<'a> {
+    ghost use Rattle.ice_search.specs.State.{State, IsState, state_of};
+
+    ghost Value = { State };
+
+    ghost view = { λ p. state_of p.space p.incumbent p.parts.items p.open_parts.items };
+
+    ghost invariant = { λ p. IsState (state_of p.space p.incumbent p.parts.items p.open_parts.items) };
+}
+
+impl<'a> Progress<'a> {
+    /// The place of an open part of the greatest bound, where that is above the value.
+    pub(crate) fn next(&self) -> Option<usize>
+        ensures none { IfNone result (IsAboveWhole self.now.parts self.now.value) }
+        ensures some { IfSome result (IsGreatestOpen self.now.parts self.now.open_parts self.now.value) }
+        ensures opened { AreOpen self.now.parts self.now.value self.now.open_parts }
+    {
+        greatest(&self.parts, &self.open_parts, self.incumbent.value)
+    }
+
+    /// Looks at an open part.
+    pub(crate) fn look_at(&mut self, place: usize) -> u32
+        requires { place < length self.old.open_parts }
+        ensures number { result ≡ slice_index self.old.open_parts place }
+        ensures looks { LooksAt self.new result }
+        ensures rest { self.new ≡ record self.old { side = self.new.side } }
+    {
+        let number = self.open_parts[place];
+        self.space.look_at(&self.parts, number);
+        number
+    }
+
+    /// Whether the part is swept.
+    pub(crate) fn is_swept(&self, number: u32) -> bool
+        requires { number < length self.now.parts }
+        ensures { result ≡ (part_at self.now.parts number).swept }
+    {
+        self.parts[number as usize].swept
+    }
+
+    /// Sweeps a part that is looked at.
+    pub(crate) fn sweep(&mut self, number: u32)
+        requires looks { LooksAt self.old number }
+        requires listed { Contains self.old.open_parts number }
+        requires unswept { (part_at self.old.parts number).swept ≡ false }
+        ensures instance { self.new.instance ≡ self.old.instance }
+        ensures open_parts { self.new.open_parts ≡ self.old.open_parts }
+        ensures count { length self.new.parts ≡ length self.old.parts }
+        ensures fewer { unswept_count self.new.parts + 1 ≡ unswept_count self.old.parts }
+    {
+        let near = near(&self.hints, number);
+        let swept = self.space.sweep(&near, &mut self.incumbent);
+        keep_near(&mut self.hints, number, &swept.m);
+        lower(&mut self.parts, number, swept);
+    }
+
+    /// A node to split a part at that is looked at.
+    pub(crate) fn find_node(&mut self, number: u32) -> Option<Candidate>
+        ensures none { IfNone result (HasNoNode self.old.instance.trees self.old.side) }
+        ensures some { IfSome result (λ node. IsSplitNode self.old.instance.trees self.old.side node.bidder node.node) }
+        ensures same { self.new ≡ self.old }
+    {
+        if let Some(candidate) = first_candidate(&self.hints, number) {
+            if self.space.splits(candidate) {
+                return Some(candidate);
+            }
+        }
+        self.space.find_node()
+    }
+
+    /// Closes a swept part that is looked at and has no node to be split at.
+    pub(crate) fn close(&mut self, place: usize, number: u32)
+        requires place { place < length self.old.open_parts }
+        requires number { number ≡ slice_index self.old.open_parts place }
+        requires looks { LooksAt self.old number }
+        requires swept { (part_at self.old.parts number).swept ≡ true }
+        requires none { HasNoNode self.old.instance.trees self.old.side }
+        ensures instance { self.new.instance ≡ self.old.instance }
+        ensures parts { self.new.parts ≡ self.old.parts }
+        ensures fewer { length self.new.open_parts + 1 ≡ length self.old.open_parts }
+    {
+        self.space.offer(&mut self.incumbent);
+        take_out(&mut self.open_parts, place);
+    }
+
+    /// Splits the next part, which is looked at.
+    pub(crate) fn split(
+        &mut self,
+        place: usize,
+        number: u32,
+        node: Candidate,
+    ) -> Result<(), AllocError>
+        requires place { place < length self.old.open_parts }
+        requires number { number ≡ slice_index self.old.open_parts place }
+        requires looks { LooksAt self.old number }
+        requires next { IsNext self.old.parts self.old.value number }
+        requires node { IsSplitNode self.old.instance.trees self.old.side node.bidder node.node }
+        requires few { length self.old.parts < 1000000 }
+        ensures instance { self.new.instance ≡ self.old.instance }
+        ensures count { OnOk result (length self.new.parts ≡ length self.old.parts + 2) }
+        ensures unswept { OnOk result (unswept_count self.new.parts ≡ unswept_count self.old.parts + 2) }
+        ensures open_parts { OnOk result (length self.new.open_parts ≤ length self.old.open_parts + 1) }
+    {
+        self.parts.reserve(2)?;
+        self.hints.reserve(2)?;
+        self.open_parts.reserve(2)?;
+        let from = self.parts[number as usize].m.copy();
+        let must = self
+            .space
+            .polish_child(node, Mark::Must, &from, &mut self.incumbent, CHILD_STEPS);
+        let never = self
+            .space
+            .polish_child(node, Mark::Never, &from, &mut self.incumbent, CHILD_STEPS);
+        let first = self.parts.len() as u32;
+        let opens_must = is_open(&must.bounded, &self.incumbent);
+        let opens_never = is_open(&never.bounded, &self.incumbent);
+        open_children(&mut self.open_parts, place, first, opens_must, opens_never);
+        push_hints(&mut self.hints, number, must.candidates, never.candidates);
+        push_children(&mut self.parts, number, node, must.bounded, never.bounded);
+        Ok(())
+    }
+}

@@ -1,0 +1,66 @@
+//! The workspace of a search: the side that is looked at, with its kept bounds, and the room that sweeps need.
+ghost use Rattle.std.specs.Prelude.{◌≡◌, ◌<◌, length, IfOk};
+ghost use Rattle.ice_searching.specs.Parts.{side_at};
+ghost use Rattle.ice_assembly.specs.Code.{parts_of};
+ghost use Rattle.ice_search.specs.Instance.{IsSearchOf};
+
+use crate::problem::Problem;
+use crate::sides::put_side;
+use ice_assembly::Part;
+use ice_bound::{Desk, Kept, Multipliers};
+use ice_subgradient::Tally;
+use std::alloc::{AllocError, Global};
+use std::marker::Model;
+
+/// The workspace of a search. It is seen as what is asked and the side that is looked at. Only `new` takes memory.
+#[derive(Drop)]
+pub(crate) struct Workspace<'a> {
+    pub(crate) problem: Problem<'a>,
+    pub(crate) kept: Kept<'a>,
+    pub(crate) desk: Desk,
+    pub(crate) tally: Tally,
+}
+
+impl<'a> Model for Workspace<'a> {
+    ghost use Rattle.ice_search.specs.Workspace.{Looking, IsWorkspace};
+
+    ghost Value = { Looking };
+
+    ghost view = { λ w. record { instance = w.problem; side = w.kept.marks } };
+
+    ghost invariant = { λ w. IsWorkspace w.problem w.kept w.desk.marks w.desk.room w.tally };
+}
+
+impl<'a> Workspace<'a> {
+    /// A workspace that looks at the start.
+    pub(crate) fn new(alloc: Global, problem: Problem<'a>) -> Result<Workspace<'a>, AllocError>
+        ensures instance { IfOk result (λ w. w.instance ≡ problem.entry) }
+        ensures side { IfOk result (λ w. w.side ≡ problem.entry.start) }
+    {
+        let trees = problem.trees();
+        let exact = problem.exact();
+        let mut kept = Kept::new(alloc, trees, problem.weights(), exact)?;
+        let zeros = Multipliers::zero(problem.goods());
+        kept.put_side(problem.start, &zeros);
+        let desk = Desk::new(alloc, trees, exact)?;
+        let tally = Tally::new(alloc, trees)?;
+        Ok(Workspace {
+            problem,
+            kept,
+            desk,
+            tally,
+        })
+    }
+
+    /// Looks at the side of a part, at its multipliers.
+    pub(crate) fn look_at(&mut self, parts: &[Part], number: u32)
+        requires search { IsSearchOf self.old.instance (parts_of parts.now) }
+        requires there { number < length parts.now }
+        ensures instance { self.new.instance ≡ self.old.instance }
+        ensures side { self.new.side ≡ side_at self.old.instance.start (parts_of parts.now) number }
+    {
+        put_side(&self.problem, parts, number, &mut self.desk.marks);
+        self.kept
+            .put_side(&self.desk.marks, &parts[number as usize].m);
+    }
+}
