@@ -1,0 +1,54 @@
+-- From the best assignment at perturbed values to the regret.
+use Rattle.std.proofs.Common.{◌≡◌, sym, subst, ◌<◌, List, [], length, replicate, arith, ℤ, ◌-ℤ◌}
+use Rattle.std.proofs.lemmas.List.{get_or-map}
+use Rattle.ice_defs.specs.declared.Mark.TheVariants.{Free}
+use Rattle.ice_defs.specs.Tree.{Tree}
+use Rattle.ice_defs.specs.Fixing.{Meets}
+use Rattle.ice_defs.specs.Set.{Weights}
+use Rattle.ice_defs.specs.Trade.{Assignment, set_of, tree_of, IsFeasible, MeetsAll, total_value, IsBest, IsBestOfAll}
+use Rattle.ice_defs.specs.Bounds.{Bounds}
+use Rattle.ice_defs.specs.Group.{free_side}
+use Rattle.ice_defs.specs.Weighing.{lower_weights, perturbed_weights}
+use Rattle.ice_defs.specs.Regret.{IsRegret}
+use Rattle.ice_defs.specs.Searched.{IsFound}
+use Rattle.ice_defs.specs.Exchange.{Exchange, trees_of, exact_of, market_of}
+use Rattle.ice_defs.proofs.NodeSets.{meets_free}
+use Rattle.ice_laws.proofs.Perturbed.{perturbed_gives_regret, perturbed_attains}
+use Rattle.ice_laws.proofs.Trades.{regret_bounds_trades}
+use Rattle.ice_bound.specs.Conditions.{AreBoundsOf}
+use Rattle.ice_search.specs.Results.{AreWritten}
+use Rattle.ice_regret.specs.Regretted.{IsRegretOf, proved_rival}
+use Rattle.ice_regret.specs.declared.lead.Regret.{Regret}
+
+-- where all nodes are free, every assignment meets the marks
+pub meets_free_side : (ts : List Tree) (a : Assignment) → length a ≡ length ts → MeetsAll a (free_side ts)
+meets_free_side ts a same b inside =
+    let few : b < length ts = omega (arith, inside, same) in
+    subst (Meets (set_of a b)) (sym (get_or-map (λ (t : Tree). replicate (length t) Free) ts b [] [] few)) (meets_free (set_of a b) (length (tree_of ts b)))
+
+best_of_all : (ex : Exchange) (ws : List Weights) (v : ℤ) → IsBest (trees_of ex) (exact_of ex) ws (free_side (trees_of ex)) v → IsBestOfAll (trees_of ex) (exact_of ex) ws v
+best_of_all ex ws v best = record {
+  attained = (best.attained.0, best.attained.1.0, best.attained.2);
+  bound = λ a feasible. best.bound a (feasible, meets_free_side (trees_of ex) a feasible.same_length);
+}
+
+pub rival_gives_regret : (ex : Exchange) (bounds : List Bounds) (chosen : Assignment) (r : Regret) → AreBoundsOf (trees_of ex) bounds → IsFeasible (trees_of ex) (exact_of ex) chosen
+    → IsFound (trees_of ex) (exact_of ex) (perturbed_weights chosen bounds) (free_side (trees_of ex)) chosen (proved_rival r) → AreWritten (length (exact_of ex)) r.log
+    → IsBest (trees_of ex) (exact_of ex) (perturbed_weights chosen bounds) (free_side (trees_of ex)) r.value → r.amount ≡ (r.value -ℤ total_value chosen (lower_weights bounds))
+    → IsRegretOf ex bounds chosen r
+rival_gives_regret ex bounds chosen r are feasible found written best amount =
+    let market = market_of ex in
+    let ws = perturbed_weights chosen bounds in
+    let all = best_of_all ex ws r.value best in
+    let regret : IsRegret market bounds chosen r.amount =
+    subst (IsRegret market bounds chosen) (sym amount) (perturbed_gives_regret market bounds chosen r.value are.same_length are.each feasible all) in
+    let attains = perturbed_attains market bounds chosen r.rival r.amount are.same_length are.each feasible regret (subst (IsBestOfAll (trees_of ex) (exact_of ex) ws) (sym found.attained.has) all) in
+    record {
+      regret = regret;
+      difference = amount;
+      found = found;
+      written = written;
+      inside = attains.0;
+      attained = attains.1;
+      trades = regret_bounds_trades market bounds chosen r.amount feasible regret;
+    }
