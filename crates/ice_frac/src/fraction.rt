@@ -8,7 +8,7 @@ ghost use Rattle.ice_frac.specs.Lowest.{IsLowest};
 ghost use Rattle.ice_frac.specs.Order.{order_of};
 
 use crate::euclid::common_divisor;
-use crate::narrow::{Wide, den_product, product, quotient, sum, with_sign_of};
+use crate::narrow::{Wide, den_product, product, quotient, size_quotient, sum, with_sign_of};
 use std::cmp::Ordering;
 use std::marker::Model;
 
@@ -40,7 +40,7 @@ fn reduce(num: i128, den: u128) -> Frac
     let shared = common_divisor(num.unsigned_abs(), den);
     Frac {
         num: quotient(num, shared),
-        den: den / shared,
+        den: size_quotient(den, shared),
     }
 }
 
@@ -126,10 +126,10 @@ impl Frac {
         ensures lowest { IfOk result IsLowest }
     {
         let shared = common_divisor(self.den, other.den);
-        let left = product(self.num, (other.den / shared) as i128)?;
-        let right = product(other.num, (self.den / shared) as i128)?;
+        let left = product(self.num, size_quotient(other.den, shared) as i128)?;
+        let right = product(other.num, size_quotient(self.den, shared) as i128)?;
         let num = sum(left, right)?;
-        let den = den_product(self.den, other.den / shared)?;
+        let den = den_product(self.den, size_quotient(other.den, shared))?;
         Ok(reduce(num, den))
     }
 
@@ -151,7 +151,10 @@ impl Frac {
         let left = common_divisor(self.num.unsigned_abs(), other.den);
         let right = common_divisor(other.num.unsigned_abs(), self.den);
         let num = product(quotient(self.num, left), quotient(other.num, right))?;
-        let den = den_product(self.den / right, other.den / left)?;
+        let den = den_product(
+            size_quotient(self.den, right),
+            size_quotient(other.den, left),
+        )?;
         Ok(Frac { num, den })
     }
 

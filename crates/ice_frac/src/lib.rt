@@ -6,6 +6,7 @@ mod fraction;
 mod laws;
 mod narrow;
 
+pub use euclid::common_divisor;
 pub use fraction::Frac;
 pub use laws::{equality_laws, field_laws, lowest_is_unique, order_laws};
 pub use narrow::Wide;

@@ -1,18 +1,32 @@
 //! Whole arithmetic that stays within 2^127 - 1 in size.
-ghost use Rattle.std.specs.Prelude.{◌≡◌, ◌<◌, ◌^◌, ◌*◌, pos, ◌*ℤ◌, ◌+ℤ◌, neg_ℤ, int_lt, if◌then◌else◌, int_div, is_ok, IfOk, unsigned_abs};
+ghost use Rattle.std.specs.Prelude.{◌≡◌, ◌<◌, ◌^◌, ◌*◌, ◌/◌, pos, ◌*ℤ◌, ◌+ℤ◌, neg_ℤ, int_lt, if◌then◌else◌, int_div, is_ok, IfOk, unsigned_abs};
 ghost use Rattle.ice_defs.specs.Frac.{num_fits, den_fits};
 
 /// The exact result doesn't fit 128 bits.
 #[derive(Clone, Copy, Debug, PartialEq, Eq)]
 pub struct Wide;
 
-/// The quotient, rounded toward 0.
+/// The quotient, rounded toward 0. It takes no division where the divisor is 1.
 pub(crate) fn quotient(n: i128, divisor: u128) -> i128
     requires positive { 0 < divisor }
     requires below { divisor < 2 ^ 127 }
     ensures { result ≡ int_div n (pos divisor) }
 {
+    if divisor == 1 {
+        return n;
+    }
     n / divisor as i128
+}
+
+/// The quotient of two sizes, rounded down. It takes no division where the divisor is 1.
+pub(crate) fn size_quotient(size: u128, divisor: u128) -> u128
+    requires { 0 < divisor }
+    ensures { result ≡ size / divisor }
+{
+    if divisor == 1 {
+        return size;
+    }
+    size / divisor
 }
 
 /// The size with the sign of a number: negative where the number is.

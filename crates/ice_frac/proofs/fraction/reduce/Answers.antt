@@ -1,4 +1,4 @@
-use Rattle.std.proofs.Common.{◌≡◌, ◌/◌, sym, subst, rules, to_z, of_z}
+use Rattle.std.proofs.Common.{◌≡◌, sym, subst, rules, to_z, of_z}
 use mir.Syntax.{w128}
 use Rattle.ice_defs.specs.Fraction.{Fraction}
 use Rattle.ice_defs.specs.Frac.{lowest}
@@ -8,7 +8,7 @@ use Rattle.ice_frac.proofs.fraction.reduce.Goals as goal
 
 pub invariant_of-result : goal.invariant_of-result
 invariant_of-result c =
-    let made : Fraction = record { num = to_z w128 (of_z w128 c.quotient.result); den = c.args.den / c.common_divisor-shared.result } in
+    let made : Fraction = record { num = to_z w128 (of_z w128 c.quotient.result); den = c.size_quotient.result } in
     let e : made ≡ lowest c.args.num c.args.den = search rules in
     subst IsLowest (sym e) (IsLowest-lowest c.args.num c.args.den c.requires.sized c.requires.positive c.requires.below)
 

@@ -1,6 +1,6 @@
 use Rattle.std.proofs.Common.{◌≡◌}
 use Rattle.ice_defs.specs.Frac.{gcd}
-use Rattle.ice_frac.proofs.euclid.common_divisor.Given as goal
+use Rattle.ice_frac.proofs.euclid.short_divisor.Given as goal
 
 abbrev pub invariant-loop-y : goal.invariant-loop-y
 invariant-loop-y l = gcd l.x l.y ≡ gcd l.fn.a l.fn.b
