@@ -1,2 +1,2 @@
-mod Worths
-mod Equality
+pub mod Worths
+pub mod Equality

@@ -8,4 +8,4 @@ mod sums;
 mod tests;
 
 pub use gains::{Excess, Scratch, best_excess};
-pub use sums::RowSums;
+pub use sums::{RowSums, units_above, worth_above};

@@ -45,8 +45,8 @@ fn by_weight(weight: u64, number: i128) -> i128
     i128::from(weight) * number
 }
 
-/// What a set is worth above another one.
-fn worth_above(tree: &Tree, weights: &Weights, own: &NodeSet, set: &NodeSet) -> i128
+/// What a set is worth above another one of the same tree. Each weight is at most 1,000,000,000,000 in size.
+pub fn worth_above(tree: &Tree, weights: &Weights, own: &NodeSet, set: &NodeSet) -> i128
     requires own { length own.now ≡ length tree.now }
     requires set { length set.now ≡ length tree.now }
     requires nodes { length weights.now ≡ length tree.now }
@@ -59,8 +59,8 @@ fn worth_above(tree: &Tree, weights: &Weights, own: &NodeSet, set: &NodeSet) -> 
     tree.value(set, weights) - tree.value(own, weights)
 }
 
-/// How many more units of a good there are than others.
-fn units_above(units: &Units, own: &Units, good: u8) -> i128
+/// How many more units of a good, a number below 32, there are than others.
+pub fn units_above(units: &Units, own: &Units, good: u8) -> i128
     requires { good < 32 }
     ensures value { result ≡ weight_of units.now good -ℤ weight_of own.now good }
     ensures low { neg_ℤ (pos (2 ^ 19)) ≤ℤ result }

@@ -1,0 +1,5 @@
+pub mod Violations
+pub mod Divisors
+pub mod Summing
+pub mod Numerators
+pub mod Weighing

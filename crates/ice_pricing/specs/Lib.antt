@@ -1,0 +1,6 @@
+pub mod Provisional
+pub mod Priced
+pub mod Bounding
+pub use Rattle.ice_certificate.specs.Excess
+pub use Rattle.ice_net.specs.Net
+pub use Rattle.ice_rows.specs.Laws

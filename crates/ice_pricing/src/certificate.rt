@@ -1,0 +1,53 @@
+//! Certificates of prices.
+use ice_terms::Prices;
+use ice_tree::NodeSet;
+use std::marker::Model;
+
+/// A satisfied set of a bidder, with a weight.
+#[derive(Drop)]
+pub struct CertificateRow {
+    /// The bidder's number.
+    pub bidder: u8,
+    /// The weight, over the certificate's denominator.
+    pub weight: u64,
+    /// The set.
+    pub set: NodeSet,
+}
+
+impl Model for CertificateRow {
+    ghost use Rattle.ice_defs.specs.Rows.{Row};
+
+    ghost Value = { Row };
+
+    ghost view = { λ r. record { bidder = r.bidder; weight = r.weight; set = r.set } };
+}
+
+/// Weighted sets, over one denominator, that show how good prices are.
+#[derive(Drop)]
+pub struct Certificate {
+    /// The denominator of the weights.
+    pub den: u64,
+    /// The sets.
+    pub rows: Vec<CertificateRow>,
+}
+
+impl Model for Certificate {
+    ghost use Rattle.ice_defs.specs.Rows.{Certificate as Rows};
+
+    ghost Value = { Rows };
+
+    ghost view = { λ c. record { den = c.den; rows = c.rows.items } };
+}
+
+/// Prices with their violation and what shows that they are accurate and balanced.
+#[derive(Drop)]
+pub struct Pricing {
+    /// The prices.
+    pub prices: Prices,
+    /// Their violation, in hundredths and times their denominator.
+    pub delta: i128,
+    /// What shows that no prices have a smaller violation.
+    pub accuracy: Certificate,
+    /// What shows that no prices of this violation have a smaller greatest price.
+    pub balance: Certificate,
+}

@@ -1,0 +1,15 @@
+//! Prices of a provisional trade: by how much they are off, and whether certificates show them accurate and balanced.
+#![tactic(auto)]
+
+mod certificate;
+mod check;
+mod limits;
+mod provisional;
+mod rows;
+mod weights;
+
+pub use certificate::{Certificate, CertificateRow, Pricing};
+pub use check::check_pricing;
+pub use ice_certificate::{Excess, Scratch};
+pub use provisional::Provisional;
+pub use weights::weighted_values;
