@@ -18,10 +18,10 @@ use Rattle.ice_pricing_laws.proofs.Accuracy.{bound_is_point, prices-within}
 use Rattle.ice_pricing_laws.proofs.Balanced.{violation-balance_point, balance-within}
 
 -- prices of 0
-free : ℕ → Prices
+unfoldable pub free : ℕ → Prices
 free goods = record { den = 1; nums = replicate goods (pos 0) }
 
-free-within : (goods : ℕ) (cap : ℤ) → pos 0 ≤ℤ cap → ArePrices goods cap (free goods)
+pub free-within : (goods : ℕ) (cap : ℤ) → pos 0 ≤ℤ cap → ArePrices goods cap (free goods)
 unfolding free
 free-within goods cap some = record {
   positive = omega arith;

@@ -35,15 +35,15 @@ accuracy_moves ts ws sets goods cap p q v w c hp same passes = record {
 
 -- ---- weights
 
-abs-is : (z : ℤ) → pos 0 ≤ℤ z → pos (unsigned_abs z) ≡ z
+pub abs-is : (z : ℤ) → pos 0 ≤ℤ z → pos (unsigned_abs z) ≡ z
 abs-is (pos n) h = refl
 abs-is (negsuc n) h = absurd (omega (arith, ints, h))
 
-num-low : (d : ℕ) (f : Fraction) → pos 0 ≤ℤ f.num → pos 0 ≤ℤ num_over d f
+pub num-low : (d : ℕ) (f : Fraction) → pos 0 ≤ℤ f.num → pos 0 ≤ℤ num_over d f
 num-low d f h = let some = times-le (d / f.den) (pos 0) f.num h in omega (arith, ints, some, *ℤ-zero (pos (d / f.den)), *ℤ_comm f.num (pos (d / f.den)))
 
 -- a multiple in lowest terms isn't below 0
-multiple-low : (factor : ℕ) (f : Fraction) → IsFraction f → AtMost (whole (pos 0)) f → pos 0 ≤ℤ (lowest_of (times (whole (pos factor)) f)).num
+pub multiple-low : (factor : ℕ) (f : Fraction) → IsFraction f → AtMost (whole (pos 0)) f → pos 0 ≤ℤ (lowest_of (times (whole (pos factor)) f)).num
 multiple-low factor f is low =
     let t : Fraction = times (whole (pos factor)) f in
     let some : pos 0 ≤ℤ t.num = (let more = times-le factor (pos 0) f.num (omega (arith, ints, low, zero-*ℤ (pos f.den))) in omega (arith, ints, more, *ℤ-zero (pos factor))) in

@@ -1,0 +1,69 @@
+-- The program of a stage, row by row.
+use Rattle.std.proofs.Common.{ℕ, suc, ◌+◌, ◌≡◌, List, [], ◌∷◌, ◌++◌, length, map, pos, refl, ap, sym, ◌∙◌, arith, add-one, append_assoc, ℤ, ◌-ℤ◌, ◌*ℤ◌}
+use Rattle.std.proofs.lemmas.List.{map-append, append-nil, length-append, length-map}
+use Rattle.ice_defs.specs.Sum.{numbers_below}
+use Rattle.ice_defs.specs.Set.{units}
+use Rattle.ice_defs.specs.Trade.{tree_of, set_of}
+use Rattle.ice_defs.specs.Program.{Constraint, Program}
+use Rattle.ice_defs.specs.PricingLimit.{Stage, accuracy_stage, balance_stage, fairness_stage}
+use Rattle.ice_defs.specs.PricingRun.{Member, StageAt, only_at}
+use Rattle.ice_defs.proofs.Below.{length-numbers_below}
+use Rattle.ice_pricing_laws.proofs.Lists.{length-only_at}
+use Rattle.ice_pricing.specs.Provisional.{ProvisionalTrade}
+use Rattle.ice_price.specs.Programs.{good_row, member_row, program_over}
+
+module _ (t : ProvisionalTrade) (at : StageAt) where
+  -- the rows of the first goods, and of some members
+  abbrev pub made_of : ℕ → List Member → Program
+  made_of g pool = record { costs = only_at (suc t.goods) t.goods (pos 1); rows = map (good_row t at) (numbers_below g) ++ map (member_row t at) pool }
+
+  abbrev pub with_one : Program → Constraint → Program
+  with_one p row = record { costs = p.costs; rows = p.rows ++ row ∷ [] }
+
+  pub made-columns : (g : ℕ) (pool : List Member) → length (made_of g pool).costs ≡ t.goods + 1
+  made-columns g pool = omega (arith, length-only_at (suc t.goods) t.goods (pos 1))
+
+  pub made-rows : (g : ℕ) (pool : List Member) → length (made_of g pool).rows ≡ g + length pool
+  made-rows g pool =
+      omega (
+        arith,
+        length-append (map (good_row t at) (numbers_below g)) (map (member_row t at) pool),
+        length-map (numbers_below g) (good_row t at),
+        length-map pool (member_row t at),
+        length-numbers_below g,
+      )
+
+  abbrev of_rows : List Constraint → Program
+  of_rows rows = record { costs = only_at (suc t.goods) t.goods (pos 1); rows = rows }
+
+  pub good-more : (g : ℕ) → with_one (made_of g []) (good_row t at g) ≡ made_of (g + 1) []
+  good-more g =
+      let f = good_row t at in
+      ap of_rows (
+      ap (λ xs. xs ++ f g ∷ []) (append-nil (map f (numbers_below g)))
+      ∙ sym (map-append f (numbers_below g) (g ∷ []))
+      ∙ ap (λ n. map f (numbers_below n)) (sym (add-one g))
+      ∙ sym (append-nil (map f (numbers_below (g + 1))))
+      )
+
+  pub member-more : (g : ℕ) (front : List Member) (m : Member) → with_one (made_of g front) (member_row t at m) ≡ made_of g (front ++ m ∷ [])
+  member-more g front m =
+      let f = member_row t at in
+      let goods : List Constraint = map (good_row t at) (numbers_below g) in
+      ap of_rows (append_assoc goods (map f front) (f m ∷ []) ∙ ap (λ xs. goods ++ xs) (sym (map-append f front (m ∷ []))))
+
+-- it is the stage's program
+pub program-is : (t : ProvisionalTrade) (at : StageAt) (pool : List Member) → made_of t at t.goods pool ≡ program_over t at pool
+program-is t at pool = by at.stage at.delta at.den
+  where
+    by : (s : Stage) (delta : ℤ) (den : ℕ) → made_of t (record { stage = s; delta = delta; den = den }) t.goods pool ≡ program_over t (record { stage = s; delta = delta; den = den }) pool
+    by accuracy_stage delta den = refl
+    by balance_stage delta den = refl
+    by fairness_stage delta den = refl
+
+-- a member's units of a good above those of the bidder's own set, times a factor
+abbrev pub unit_of : ProvisionalTrade → ℕ → Member → ℕ → ℤ
+unit_of t factor m g = pos factor *ℤ (units (tree_of t.trees m.bidder) m.set g -ℤ units (tree_of t.trees m.bidder) (set_of t.sets m.bidder) g)
+
+pub map_below-more : (f : ℕ → ℤ) (n : ℕ) → map f (numbers_below (n + 1)) ≡ map f (numbers_below n) ++ f n ∷ []
+map_below-more f n = ap (λ k. map f (numbers_below k)) (add-one n) ∙ map-append f (numbers_below n) (n ∷ [])

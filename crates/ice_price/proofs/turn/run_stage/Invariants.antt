@@ -1,0 +1,9 @@
+use Rattle.std.proofs.Common.{◌-◌, vec_len}
+use Rattle.ice_price.specs.Runs.{IsState}
+use Rattle.ice_price.proofs.turn.run_stage.Given as goal
+
+abbrev pub invariant-turns : goal.invariant-turns
+invariant-turns l = IsState l.trade l.at l.pool.items
+
+abbrev pub decreases-turns : goal.decreases-turns
+decreases-turns l = 200 - vec_len l.pool

@@ -1,0 +1,39 @@
+-- How a pricing run ends.
+use Rattle.std.specs.Prelude.{List}
+use Rattle.ice_defs.specs.PricingRun.{Member, StageAt, IsAtLimit, EndsAtLimit}
+use Rattle.ice_pricing.specs.Provisional.{ProvisionalTrade}
+use Rattle.ice_pricing.specs.Priced.{IsLimited, PassesTests, AreBalanced}
+use Rattle.ice_pricing.specs.declared.certificate.Pricing.{Pricing}
+use Rattle.ice_price.specs.Stages.{stage_of, limit_of}
+use Rattle.ice_price.specs.declared.ends.PriceLimit.{PriceLimit}
+use Rattle.ice_price.specs.declared.ends.PriceEnd.{PriceEnd}
+use Rattle.ice_price.specs.declared.ends.PriceEnd.TheVariants.{Limit, NoMemory}
+use Rattle.ice_price.specs.declared.ends.Stop.{Stop}
+use Rattle.ice_price.specs.declared.ends.Stop.TheVariants.{AtLimit, WithoutMemory}
+
+-- the stage of a limit, with the violation of the accuracy stage over its denominator
+abbrev pub stage_at : PriceLimit → StageAt
+stage_at limit = record { stage = stage_of limit.stage; delta = limit.delta; den = limit.den }
+
+module _ (t : ProvisionalTrade) where
+  -- a turn is stopped by a limit; want of memory has no cause
+  abbrev pub IsStopped : StageAt → List Member → Stop → Type 0
+  IsStopped at pool (AtLimit kind) = IsAtLimit t.trees t.weights t.sets t.goods t.cap (limit_of kind) at pool
+  IsStopped at pool WithoutMemory = Unit {0}
+
+  -- so is a run
+  abbrev pub IsRunStopped : StageAt → List Member → Stop → Type 0
+  IsRunStopped at pool (AtLimit kind) = EndsAtLimit t.trees t.weights t.sets t.goods t.cap (limit_of kind) at pool
+  IsRunStopped at pool WithoutMemory = Unit {0}
+
+  -- the run of the exchange's prices ends at this limit
+  abbrev pub IsPriceEnd : PriceEnd → Type 0
+  IsPriceEnd (Limit limit) = EndsAtLimit t.trees t.weights t.sets t.goods t.cap (limit_of limit.kind) (stage_at limit) limit.pool.items
+  IsPriceEnd NoMemory = Unit {0}
+
+  -- the prices pass all tests, and are balanced; each certificate has at most 200 rows
+  pub record IsPriced (p : Pricing) : Type 0 where
+    pub passes : PassesTests t p.prices p.delta p.accuracy p.balance
+    pub balanced : AreBalanced t p.prices
+    pub accuracy_limited : IsLimited p.accuracy
+    pub balance_limited : IsLimited p.balance

@@ -1,0 +1,9 @@
+pub mod Stages
+pub mod Programs
+pub mod Runs
+pub mod Ends
+pub mod Large
+pub use Rattle.ice_pricing.specs.Bounding
+pub mod Scans
+pub use Rattle.ice_pricing.specs.Provisional
+pub use Rattle.ice_pricing.specs.Priced

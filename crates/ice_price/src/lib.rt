@@ -1,0 +1,16 @@
+//! Accurate, then balanced prices of a provisional trade, with the certificates that show them to be so.
+#![tactic(auto)]
+
+mod ends;
+mod fractions;
+mod pricing;
+mod program;
+mod scan;
+mod solution;
+mod stages;
+mod turn;
+mod weighing;
+
+pub use ends::{LimitKind, PoolMember, PriceEnd, PriceLimit, Stage};
+pub use ice_pricing::{Certificate, CertificateRow, Pricing};
+pub use pricing::price;

@@ -1,0 +1,79 @@
+//! Prices of an exchange for the provisional sets of its bidders.
+ghost use Rattle.std.specs.Prelude.{ℕ, ◌≡◌, ◌<◌, length, IfOk, IfErr};
+ghost use Rattle.ice_defs.specs.Exchange.{trees_of};
+ghost use Rattle.ice_defs.specs.Weighing.{weighted_weights};
+ghost use Rattle.ice_rows.specs.Laws.{AreSatisfied};
+ghost use Rattle.ice_pricing.specs.Provisional.{provisional_of};
+ghost use Rattle.ice_price.specs.Ends.{IsPriceEnd, IsPriced, IsRunStopped};
+ghost use Rattle.ice_pricing.specs.Bounding.{AreBoundsOf};
+
+use crate::ends::{PoolMember, PriceEnd, Stop};
+use crate::stages::StageAt;
+use crate::turn::run_stage;
+use ice_pricing::{Pricing, Provisional, weighted_values};
+use ice_trade::Exchange;
+use ice_tree::{Assignment, Bounds};
+use std::alloc::Global;
+
+/// The end of a run that stopped in this stage with this pool.
+fn end_of(stop: Stop, at: &StageAt, pool: Vec<PoolMember>, trade: &Provisional<'_>) -> PriceEnd
+    requires { IsRunStopped trade.now at.now pool.items stop }
+    ensures { IsPriceEnd trade.now result }
+{
+    match stop {
+        Stop::AtLimit(kind) => PriceEnd::Limit(at.limit(kind, pool)),
+        Stop::WithoutMemory => PriceEnd::NoMemory,
+    }
+}
+
+/// The prices of a provisional trade.
+fn run(alloc: Global, trade: &Provisional<'_>) -> Result<Pricing, PriceEnd>
+    ensures priced { IfOk result (IsPriced trade.now) }
+    ensures ended { IfErr result (IsPriceEnd trade.now) }
+{
+    let _goods = trade.goods();
+    let mut pool = Vec::new(alloc);
+    let first = StageAt::accuracy();
+    let accuracy = match run_stage(alloc, trade, &first, &mut pool) {
+        Ok(end) => end,
+        Err(stop) => return Err(end_of(stop, &first, pool, trade)),
+    };
+    let second = StageAt::balance(accuracy.violation, accuracy.prices.den() as u64);
+    let balance = match run_stage(alloc, trade, &second, &mut pool) {
+        Ok(end) => end,
+        Err(stop) => return Err(end_of(stop, &second, pool, trade)),
+    };
+    Ok(Pricing {
+        prices: balance.prices,
+        delta: balance.violation,
+        accuracy: accuracy.certificate,
+        balance: balance.certificate,
+    })
+}
+
+/// Prices for the provisional sets of an exchange's bidders at their bounds, one satisfied set and one bounds a bidder.
+///
+/// The prices are one a good, from 0 to the cap, over their least common denominator. No prices within the cap have a
+/// smaller violation, which is the most, in hundredths of weighted value, that a bidder gains by another satisfied set
+/// than its own. Of those with that violation, none have a smaller greatest price. Two certificates of at most 200 rows
+/// each show it, as `check_pricing` tests.
+///
+/// `Limit` comes only where the stated run of pricing ends at a limit: a program is too wide or takes too many pivots, 200
+/// sets don't suffice, or a denominator or a weight is above 2^32. `NoMemory` comes at any time.
+pub fn price(
+    alloc: Global,
+    exchange: &Exchange,
+    bounds: &[Bounds],
+    sets: &Assignment,
+) -> Result<Pricing, PriceEnd>
+    requires bounds { AreBoundsOf exchange.now bounds.now }
+    requires count { length sets.now ≡ length exchange.now.bidders }
+    requires satisfied { AreSatisfied (trees_of exchange.now) sets.now }
+    ensures priced { let ws = weighted_weights exchange.now.settings.weight bounds.now in
+        IfOk result (IsPriced (provisional_of exchange.now ws sets.now)) }
+    ensures ended { let ws = weighted_weights exchange.now.settings.weight bounds.now in
+        IfErr result (IsPriceEnd (provisional_of exchange.now ws sets.now)) }
+{
+    let weights = weighted_values(alloc, exchange, bounds)?;
+    run(alloc, &Provisional::of(exchange, &weights, sets))
+}

@@ -1,0 +1,226 @@
+//! Where a pricing run stands, apart from its pool.
+ghost use Rattle.std.specs.Prelude.{suc, replicate, vec_len, All, IfOk, ◌+◌, ◌≡◌, ◌*◌, ◌≤◌, ◌<◌, ◌^◌, length, slice_index_or, pos, neg_ℤ, ◌≤ℤ◌, ℤ, ◌-ℤ◌, ◌*ℤ◌};
+ghost use Rattle.ice_defs.specs.Fraction.{Equals, IsFraction, whole};
+ghost use Rattle.ice_defs.specs.PricingRun.{StageAt as RunStageAt, first_stage, only_at};
+ghost use Rattle.ice_lp.specs.Limits.{IsNumber};
+ghost use Rattle.ice_pricing_laws.specs.Laws.{balance_at};
+ghost use Rattle.ice_price.specs.Programs.{no_price, dual_factor, allowed_excess, unit_factor, last_factor, member_least, good_least};
+ghost use Rattle.ice_price.specs.Stages.{IsSizedStage, stage_of};
+
+use crate::ends::{LimitKind, PoolMember, PriceLimit, Stage};
+use ice_frac::Frac;
+use ice_pricing::Certificate;
+use ice_terms::Prices;
+use std::alloc::{AllocError, Global};
+use std::marker::Model;
+
+/// The stage, with the violation of the accuracy stage over its denominator where that stage is past.
+#[derive(Drop)]
+pub(crate) struct StageAt {
+    stage: Stage,
+    delta: i128,
+    den: u64,
+}
+
+impl Model for StageAt {
+    ghost use Rattle.ice_defs.specs.PricingRun.{StageAt as RunStageAt};
+
+    ghost Value = { RunStageAt };
+
+    ghost use Rattle.ice_price.specs.Stages.{IsSizedStage, stage_of};
+
+    ghost view = { λ s. record { stage = stage_of s.stage; delta = s.delta; den = s.den } };
+
+    ghost invariant = { λ s. IsSizedStage (record {
+      stage = stage_of s.stage;
+      delta = s.delta;
+      den = s.den;
+    }) };
+}
+
+/// What a stage ends with: prices, their violation times their denominator, and the stage's certificate.
+#[derive(Drop)]
+pub(crate) struct StageEnd {
+    pub(crate) prices: Prices,
+    pub(crate) violation: i128,
+    pub(crate) certificate: Certificate,
+}
+
+/// A number by a denominator, less another.
+fn scaled_less(den: u64, number: i128, less: i128) -> i128
+    requires den { den ≤ 2 ^ 32 }
+    requires low { neg_ℤ (pos (2 ^ 49)) ≤ℤ number }
+    requires high { number ≤ℤ pos (2 ^ 49) }
+    requires less_low { pos 0 ≤ℤ less }
+    requires less_high { less ≤ℤ pos (2 ^ 81) }
+    ensures value { result ≡ (pos den *ℤ number) -ℤ less }
+    ensures low { neg_ℤ (pos (2 ^ 82)) ≤ℤ result }
+    ensures high { result ≤ℤ pos (2 ^ 82) }
+{
+    i128::from(den) * number - less
+}
+
+/// The fraction of a number of at most 2^81 over a denominator.
+fn over(num: i128, den: u64) -> Frac
+    requires low { pos 0 ≤ℤ num }
+    requires high { num ≤ℤ pos (2 ^ 81) }
+    requires positive { 0 < den }
+    ensures proper { IsFraction result }
+    ensures equal { Equals result (record { num = num; den = den }) }
+{
+    match Frac::new(num, i128::from(den)) {
+        Some(fraction) => fraction,
+        None => unreachable!(),
+    }
+}
+
+/// A 0 for each price, and one more.
+fn zeros(alloc: Global, goods: u8) -> Result<Vec<i128>, AllocError>
+    ensures value { IfOk result (λ made. made.items ≡ replicate (suc goods) (pos 0)) }
+    ensures len { IfOk result (λ made. vec_len made ≡ goods + 1) }
+    ensures sized { IfOk result (λ made. All IsNumber made.items) }
+{
+    vec![in alloc; 0i128; usize::from(goods) + 1]
+}
+
+/// A 0 for each price, and then 1: the costs of a stage's program.
+pub(crate) fn last_alone(alloc: Global, goods: u8) -> Result<Vec<i128>, AllocError>
+    ensures value { IfOk result (λ made. made.items ≡ only_at (suc goods) goods (pos 1)) }
+    ensures len { IfOk result (λ made. vec_len made ≡ goods + 1) }
+    ensures sized { IfOk result (λ made. All IsNumber made.items) }
+    ensures low { IfOk result (λ made. All (λ c. pos 0 ≤ℤ c) made.items) }
+{
+    let mut made = zeros(alloc, goods)?;
+    made[usize::from(goods)] = 1;
+    Ok(made)
+}
+
+impl StageAt {
+    /// The accuracy stage.
+    pub(crate) fn accuracy() -> StageAt
+        ensures { result ≡ first_stage }
+    {
+        StageAt {
+            stage: Stage::Accuracy,
+            delta: 0,
+            den: 1,
+        }
+    }
+
+    /// The balance stage, after an accuracy stage that ended with this violation over this denominator.
+    pub(crate) fn balance(delta: i128, den: u64) -> StageAt
+        requires { IsSizedStage (balance_at delta den) }
+        ensures { result ≡ balance_at delta den }
+    {
+        StageAt {
+            stage: Stage::Balance,
+            delta,
+            den,
+        }
+    }
+
+    /// The limit at which the stage ends with this pool.
+    pub(crate) fn limit(&self, kind: LimitKind, pool: Vec<PoolMember>) -> PriceLimit
+        ensures stage { record { stage = stage_of result.stage; delta = result.delta; den = result.den }
+            ≡ self.now }
+        ensures kind { result.kind ≡ kind }
+        ensures pool { result.pool.items ≡ pool.items }
+    {
+        PriceLimit {
+            stage: self.stage,
+            kind,
+            delta: self.delta,
+            den: self.den,
+            pool,
+        }
+    }
+
+    /// The least of a good's row.
+    pub(crate) fn good_least(&self, cap: i64) -> i128
+        requires low { pos 0 ≤ℤ cap }
+        requires high { cap ≤ℤ pos 1000000000 }
+        ensures value { result ≡ good_least self.now.stage cap }
+        ensures low { neg_ℤ (pos 1000000000) ≤ℤ result }
+        ensures high { result ≤ℤ pos 0 }
+    {
+        match self.stage {
+            Stage::Accuracy => -i128::from(cap),
+            Stage::Balance => 0,
+        }
+    }
+
+    /// What a good's row has beside the price of the good: a coefficient for each price, and one more.
+    pub(crate) fn no_price(&self, alloc: Global, goods: u8) -> Result<Vec<i128>, AllocError>
+        ensures value { IfOk result (λ made. made.items ≡ no_price self.now.stage goods) }
+        ensures len { IfOk result (λ made. vec_len made ≡ goods + 1) }
+        ensures sized { IfOk result (λ made. All IsNumber made.items) }
+    {
+        match self.stage {
+            Stage::Accuracy => zeros(alloc, goods),
+            Stage::Balance => last_alone(alloc, goods),
+        }
+    }
+
+    /// What a unit of a good counts in a member's row.
+    pub(crate) fn unit_factor(&self) -> u64
+        ensures value { result ≡ unit_factor self.now.stage self.now.den }
+        ensures high { result ≤ 100 * 2 ^ 32 }
+    {
+        match self.stage {
+            Stage::Accuracy => 100,
+            Stage::Balance => 100 * self.den,
+        }
+    }
+
+    /// What the last column counts in a member's row.
+    pub(crate) fn last_factor(&self) -> i128
+        ensures value { result ≡ last_factor self.now.stage }
+        ensures low { pos 0 ≤ℤ result }
+        ensures high { result ≤ℤ pos 1 }
+    {
+        match self.stage {
+            Stage::Accuracy => 1,
+            Stage::Balance => 0,
+        }
+    }
+
+    /// The least of the row of a member of this worth.
+    pub(crate) fn member_least(&self, worth: i128) -> i128
+        requires low { neg_ℤ (pos (2 ^ 49)) ≤ℤ worth }
+        requires high { worth ≤ℤ pos (2 ^ 49) }
+        ensures value { result ≡ member_least self.now.stage self.now.delta self.now.den worth }
+        ensures low { neg_ℤ (pos (2 ^ 82)) ≤ℤ result }
+        ensures high { result ≤ℤ pos (2 ^ 82) }
+    {
+        match self.stage {
+            Stage::Accuracy => worth,
+            Stage::Balance => scaled_less(self.den, worth, self.delta),
+        }
+    }
+
+    /// By what a dual is multiplied to make it a weight.
+    pub(crate) fn weight_factor(&self) -> u64
+        ensures value { result ≡ dual_factor self.now.stage self.now.den }
+        ensures high { result ≤ 100 * 2 ^ 32 }
+    {
+        match self.stage {
+            Stage::Accuracy => 1,
+            Stage::Balance => 100 * self.den,
+        }
+    }
+
+    /// The excess that the stage allows: the last number of the solution, or the violation of the accuracy stage.
+    pub(crate) fn allowed(&self, last: &Frac) -> Frac
+        ensures proper { IsFraction result }
+        ensures own { IsFraction (allowed_excess self.now.stage
+            (record { num = self.now.delta; den = self.now.den }) last.now) }
+        ensures equal { Equals result (allowed_excess self.now.stage
+            (record { num = self.now.delta; den = self.now.den }) last.now) }
+    {
+        let _lowest = last.num();
+        match self.stage {
+            Stage::Accuracy => *last,
+            Stage::Balance => over(self.delta, self.den),
+        }
+    }
+}

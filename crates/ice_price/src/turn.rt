@@ -1,0 +1,137 @@
+//! The turns of a stage.
+ghost use Rattle.std.specs.Prelude.{◌≡◌, ◌<◌, ◌≤◌, ◌*◌, ◌^◌, length, drop, IfOk, IfErr, IfSome, IfNone, pos, ◌≤ℤ◌};
+ghost use Rattle.ice_defs.specs.PricingRun.{solution_prices};
+ghost use Rattle.ice_defs.specs.Prices.{ArePrices};
+ghost use Rattle.ice_defs.specs.Program.{AreNonNegative};
+ghost use Rattle.ice_pricing_laws.specs.Weights.{weights_of_duals};
+ghost use Rattle.ice_defs.specs.Rows.{HasCommonDivisor};
+ghost use Rattle.ice_price.specs.Ends.{IsStopped, IsRunStopped};
+ghost use Rattle.ice_price.specs.Large.{AreLarge, IsStoppedBy};
+ghost use Rattle.ice_price.specs.Runs.{IsState, IsTurn, IsEndWith, IsStageEnd};
+
+use crate::ends::{LimitKind, PoolMember, Stop};
+use crate::fractions::{common_den, prices_over};
+use crate::scan::{Scan, scan_bidders};
+use crate::solution::solve_stage;
+use crate::stages::{StageAt, StageEnd};
+use crate::weighing::certified;
+use ice_frac::Frac;
+use ice_pricing::{Provisional, Scratch};
+use ice_terms::Prices;
+use std::alloc::Global;
+
+/// What a turn does.
+#[derive(Drop)]
+pub(crate) enum Turn {
+    /// A set is to be added to the pool.
+    Adds(PoolMember),
+    /// No set is to be added.
+    Ends(StageEnd),
+}
+
+/// The prices of a point, over their least common denominator. None exactly where that is above 2^32.
+fn prices_of(trade: &Provisional<'_>, point: &[Frac]) -> Option<Prices>
+    requires long { trade.now.goods < length point.now }
+    requires low { AreNonNegative point.now }
+    requires within { let t = trade.now in
+        ArePrices t.goods t.cap (solution_prices t.trees t.weights t.sets t.goods t.cap point.now) }
+    ensures value { let t = trade.now in
+        IfSome result (λ p. p ≡ solution_prices t.trees t.weights t.sets t.goods t.cap point.now) }
+    ensures fits { IfSome result (λ p. p.den ≤ 2 ^ 32) }
+    ensures lowest { IfSome result (λ p. ¬ HasCommonDivisor p) }
+    ensures none { let t = trade.now in
+        let p = solution_prices t.trees t.weights t.sets t.goods t.cap point.now in
+        IfNone result (2 ^ 32 < p.den) }
+{
+    let prices = &point[..usize::from(trade.goods())];
+    let den = common_den(prices)?;
+    Some(prices_over(prices, den))
+}
+
+/// The duals of the pool's members, which stand behind those of the goods.
+fn member_duals(duals: &[Frac], goods: usize) -> &[Frac]
+    requires { goods ≤ length duals.now }
+    ensures { result.now ≡ drop goods duals.now }
+{
+    duals.split_at(goods).1
+}
+
+/// The end of a stage at these prices of this violation, with the certificate that the duals of the pool's members make,
+/// times a factor.
+fn end_stage(
+    alloc: Global,
+    factor: u64,
+    pool: &[PoolMember],
+    duals: &[Frac],
+    prices: Prices,
+    violation: i128,
+) -> Result<Turn, Stop>
+    requires few { factor ≤ 100 * 2 ^ 32 }
+    requires pool { length pool.now ≤ 200 }
+    requires same_length { length duals.now ≡ length pool.now }
+    requires low { AreNonNegative duals.now }
+    ensures ended { let ws = weights_of_duals factor duals.now in
+        IfOk result (IsEndWith pool.now ws prices violation) }
+    ensures stopped { IfErr result (IsStoppedBy (AreLarge (weights_of_duals factor duals.now))) }
+{
+    let certificate = certified(alloc, factor, pool, duals)?;
+    Ok(Turn::Ends(StageEnd {
+        prices,
+        violation,
+        certificate,
+    }))
+}
+
+/// The turn of a stage over a pool.
+fn take_turn(
+    alloc: Global,
+    trade: &Provisional<'_>,
+    at: &StageAt,
+    pool: &[PoolMember],
+    scratch: &mut Scratch,
+) -> Result<Turn, Stop>
+    requires { IsState trade.now at.now pool.now }
+    ensures turn { IfOk result (IsTurn trade.now at.now pool.now) }
+    ensures stopped { IfErr result (IsStopped trade.now at.now pool.now) }
+{
+    let goods = usize::from(trade.goods());
+    let solution = solve_stage(alloc, trade, at, pool)?;
+    let Some(prices) = prices_of(trade, &solution.point) else {
+        return Err(Stop::AtLimit(LimitKind::Den));
+    };
+    let most = at.allowed(&solution.point[goods]);
+    match scan_bidders(trade, &prices, &most, scratch) {
+        Scan::Adds(_) if pool.len() >= 200 => Err(Stop::AtLimit(LimitKind::Rows)),
+        Scan::Adds(member) => Ok(Turn::Adds(member)),
+        Scan::Ends(violation) => end_stage(
+            alloc,
+            at.weight_factor(),
+            pool,
+            member_duals(&solution.duals, goods),
+            prices,
+            violation,
+        ),
+    }
+}
+
+/// Takes turns until no set is to be added to the pool.
+pub(crate) fn run_stage(
+    alloc: Global,
+    trade: &Provisional<'_>,
+    at: &StageAt,
+    pool: &mut Vec<PoolMember>,
+) -> Result<StageEnd, Stop>
+    requires { IsState trade.now at.now pool.old.items }
+    ensures state { IfOk result (λ _. IsState trade.now at.now pool.new.items) }
+    ensures ended { IfOk result (λ end. IsStageEnd trade.now at.now pool.new.items end.prices
+        end.violation end.certificate) }
+    ensures stopped { IfErr result (IsRunStopped trade.now at.now pool.new.items) }
+{
+    let mut scratch = Scratch::new();
+    'turns: loop {
+        match take_turn(alloc, trade, at, pool, &mut scratch)? {
+            Turn::Adds(member) => pool.push(member)?,
+            Turn::Ends(end) => return Ok(end),
+        }
+    }
+}
