@@ -7,6 +7,7 @@ ghost use Rattle.ice_assembly.specs.Code.{part_of};
 ghost use Rattle.ice_search.specs.Instance.{IsInstance, IsIncumbentOf};
 ghost use Rattle.ice_search.specs.State.{child_part};
 
+use crate::candidates::consider;
 use crate::child::Polished;
 use crate::hints::Hint;
 use crate::problem::Problem;
@@ -51,28 +52,33 @@ fn root(bounded: Bounded) -> Part
 }
 
 impl<'a> Progress<'a> {
-    /// A search with one part, the start, which is polished from the multipliers that are given.
+    /// A search with one part, the start, which is polished from the multipliers that are given. The candidates are offered
+    /// where they are feasible and meet the start.
     pub(crate) fn begin(
         alloc: Global,
         problem: Problem<'a>,
         from: &Multipliers,
+        candidates: &[Assignment],
     ) -> Result<Progress<'a>, AllocError>
         requires { AreMultipliersOf problem.exact from.now }
         ensures instance { IfOk result (λ p. p.instance ≡ problem.entry) }
         ensures parts { IfOk result (λ p. length p.parts ≡ 1) }
     {
         let mut incumbent = first_incumbent(alloc, &problem)?;
+        for candidate in candidates {
+            consider(&problem, candidate, &mut incumbent);
+        }
         let mut space = Workspace::new(alloc, problem)?;
         let Polished {
             bounded,
-            candidates,
+            candidates: nodes,
         } = space.polish_from(from, &mut incumbent, ROOT_STEPS);
         let mut parts = Vec::new(alloc);
         parts.push(root(bounded))?;
         let mut hints = Vec::new(alloc);
         hints.push(Hint {
             near: Multipliers::zero(0),
-            candidates,
+            candidates: nodes,
         })?;
         let mut open_parts = Vec::new(alloc);
         open_parts.push(0)?;

@@ -42,8 +42,9 @@ fn count_branches(log: &Log) -> u32
     count
 }
 
-/// `search` from multipliers for the first bound, one for each good: those of a search before. They change the time, and
-/// which log is found.
+/// `search` from multipliers for the first bound, one for each good, and with candidates, which are looked at where they
+/// are feasible and meet the start: those of a search before. They change the time, which best assignment is found, and
+/// the log.
 pub fn search_from(
     alloc: Global,
     exchange: &Exchange,
@@ -51,6 +52,7 @@ pub fn search_from(
     start: &Fixings,
     first: &Assignment,
     from: &Multipliers,
+    candidates: &[Assignment],
     branches: &mut u32,
 ) -> Result<Found, SearchEnd>
     requires weights { AreWeightsOf (trees_of exchange.now) weights.now }
@@ -65,7 +67,7 @@ pub fn search_from(
     ensures end { IfErr result (IsEnd (instance_of exchange.now weights.now start.now first.now) branches.old branches.new) }
 {
     let problem = Problem::new(exchange, weights, start, first);
-    let mut progress = Progress::begin(alloc, problem, from)?;
+    let mut progress = Progress::begin(alloc, problem, from, candidates)?;
     let mut left = *branches;
     match run(&mut progress, &mut left)? {
         Ended::Whole => {
@@ -111,5 +113,14 @@ pub fn search(
     ensures end { IfErr result (IsEnd (instance_of exchange.now weights.now start.now first.now) branches.old branches.new) }
 {
     let zeros = Multipliers::zero(exchange.goods());
-    search_from(alloc, exchange, weights, start, first, &zeros, branches)
+    search_from(
+        alloc,
+        exchange,
+        weights,
+        start,
+        first,
+        &zeros,
+        &[],
+        branches,
+    )
 }

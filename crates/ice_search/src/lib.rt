@@ -3,6 +3,7 @@
 #![tactic(auto)]
 
 mod begin;
+mod candidates;
 mod child;
 mod entry;
 mod finish;

@@ -1,10 +1,11 @@
 //! What a search is asked.
-ghost use Rattle.std.specs.Prelude.{◌≡◌, ◌≤◌, length};
+ghost use Rattle.std.specs.Prelude.{◌≡◌, ◌≤◌, length, IfSome};
 ghost use Rattle.ice_defs.specs.Exchange.{trees_of, exact_of};
-ghost use Rattle.ice_defs.specs.Trade.{IsFeasible, MeetsAll};
+ghost use Rattle.ice_defs.specs.Trade.{IsFeasible, MeetsAll, total_value};
 ghost use Rattle.ice_bound.specs.Conditions.{AreWeightsOf, AreFixingsOf};
 ghost use Rattle.ice_search.specs.Instance.{instance_of};
 
+use crate::candidates::is_feasible;
 use ice_best::Fixings;
 use ice_trade::Exchange;
 use ice_tree::{AllWeights, Assignment, Tree};
@@ -80,5 +81,17 @@ impl<'a> Problem<'a> {
         ensures fits { result ≤ 32 }
     {
         self.exchange.goods()
+    }
+
+    /// What the assignment is worth, where it is feasible and meets the start.
+    pub(crate) fn worth(&self, sets: &Assignment) -> Option<i128>
+        ensures feasible { IfSome result (λ v. IsFeasible self.now.trees self.now.exact sets.now) }
+        ensures meets { IfSome result (λ v. MeetsAll sets.now self.now.start) }
+        ensures value { IfSome result (λ v. total_value sets.now self.now.weights ≡ v) }
+    {
+        if !is_feasible(self.exchange, self.start, sets) {
+            return None;
+        }
+        Some(sets.value(self.exchange.trees(), self.weights))
     }
 }

@@ -29,7 +29,7 @@ invariant_of-result c =
     let found = c.polish_from-bounded in
     let m = found.result.bounded.m in
     let v = found.result.bounded.key in
-    let i = c.in_ok-incumbent.incumbent in
+    let i = c.loop-candidate.incumbent in
     let parts = ap parts_of (c.in_ok-push.ensures.items ∙ ap (λ xs. xs ++ c.root.result ∷ []) c.new-parts.ensures.items) ∙ ap (λ q. q ∷ []) c.root.ensures in
     let numbers = c.in_ok-push-3.ensures.items ∙ ap (λ xs. xs ++ 0 ∷ []) c.new-open_parts.ensures.items in
     subst (λ y. IsState (record {
@@ -40,7 +40,7 @@ invariant_of-result c =
       value = found.new.incumbent.value;
       open_parts = c.push-3.new.self.items;
     })) (sym (found.ensures.instance ∙ same))
-    (begun x i found.new.incumbent m v (parts_of c.push.new.self.items) c.push-3.new.self.items found.new.self.side c.in_ok-incumbent.ensures.lawful c.in_ok-incumbent.ensures.incumbent
+    (begun x i found.new.incumbent m v (parts_of c.push.new.self.items) c.push-3.new.self.items found.new.self.side c.in_ok-incumbent.ensures.lawful c.loop-candidate.invariant
     (there (λ y side. IsOfferedAt y side i found.new.incumbent) x space.instance x.start space.side same at found.ensures.offered)
     (subst (λ y. AreMultipliersOf y.exact m) same found.ensures.multipliers)
     (there (λ y side. IsBoundAt y m side v) x space.instance x.start space.side same at found.ensures.bound) parts numbers)
