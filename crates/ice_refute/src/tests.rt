@@ -57,14 +57,16 @@ fn desk(alloc: Global, trees: &[Tree]) -> Result<Desk, AllocError>
     ensures marks { IfOk result (λ desk. nodes_of desk.marks ≡ nodes_of trees.now) }
     ensures exact { IfOk result (λ desk. desk.room ≡ false ∷ []) }
 {
-    Desk::new(alloc, trees, &[false])
+    let desk = Desk::new(alloc, trees, &[false])?;
+    Ok(desk)
 }
 
 /// Every node free.
 fn free(alloc: Global, trees: &[Tree]) -> Result<Fixings, AllocError>
     ensures { IfOk result (λ fixings. nodes_of fixings ≡ nodes_of trees.now) }
 {
-    Fixings::free(alloc, trees)
+    let marks = Fixings::free(alloc, trees)?;
+    Ok(marks)
 }
 
 fn step(plain: Plain) -> Step

@@ -3,5 +3,5 @@ use Rattle.ice_refute.specs.Waiting.{nodes_of}
 use Rattle.ice_refute.proofs.NodeCounts.{nodes_of-free}
 use Rattle.ice_refute.proofs.tests.free.Goals as goal
 
-pub returns-in-Ok : goal.returns-in-Ok
-returns-in-Ok c = ap nodes_of c.in-Ok.ensures ∙ nodes_of-free c.args.trees.now
+pub returns : goal.returns
+returns c = ap nodes_of c.in_ok-marks.ensures ∙ nodes_of-free c.args.trees.now
