@@ -18,6 +18,10 @@ pub mod Naming
 pub mod Decided
 -- all sets of one length, and free fixings
 pub mod NodeSets
+-- the empty sets, which are a feasible assignment
+pub mod EmptySets
+-- the marks that searches begin with
+pub mod Starts
 -- lower and perturbed weights
 pub mod Weights
 -- worked examples of the definitions
