@@ -48,7 +48,7 @@ empty_feasible ts exact = record {
   same_length = length-empty_sets ts;
   satisfied = λ b h. subst (IsSatisfied (tree_of ts b)) (sym (set_of-empty ts b h)) (empty_satisfied (tree_of ts b));
   balanced = λ g h. by (is_exact exact g) (sum_below-zero (λ b. units (tree_of ts b) (set_of (empty_sets ts) b) g) (length ts)
-    (λ b l. ap (λ s. units (tree_of ts b) s g) (set_of-empty ts b l) ∙ units-empty (tree_of ts b) g));
+      (λ b l. ap (λ s. units (tree_of ts b) s g) (set_of-empty ts b l) ∙ units-empty (tree_of ts b) g));
 }
   where
     by : (e : Bool) {z : ℤ} → z ≡ pos 0 → IsCovered e z (pos 0)
