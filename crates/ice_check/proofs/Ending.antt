@@ -1,5 +1,5 @@
 -- What a record makes of the tests at a group's head, at the regret and at the end of a journal.
-use Rattle.std.proofs.Common.{◌≡◌, ◌≢◌, ◌<◌, ℕ, suc, Bool, true, false, cond, eqb, [], ℤ, ◌-ℤ◌, refl, sym, ◌∙◌, ap, arith}
+use Rattle.std.proofs.Common.{◌≡◌, ◌≢◌, ◌<◌, ℕ, suc, Bool, true, false, [], ℤ, ◌-ℤ◌, refl, sym, ◌∙◌, ap, arith}
 use Rattle.std.specs.Prelude.{◌||◌, Option, Some, None, option_map}
 use Rattle.std.proofs.lemmas.Bool.{false≢true}
 use Rattle.std.proofs.lemmas.Option.{none-some}
@@ -10,16 +10,16 @@ use Rattle.ice_journal.specs.Records.{Record, Version, Kind, regret_kind, EndWor
 use Rattle.ice_journal.specs.Records as line
 use Rattle.ice_check.specs.declared.head.Head.{Head}
 use Rattle.ice_check.specs.declared.head.Head.TheVariants as head
-use Rattle.ice_check.specs.declared.rule.Rule.{Rule}
-use Rattle.ice_check.specs.declared.rule.Rule.TheVariants as rule
-use Rattle.ice_check.specs.State.{Stated, Place, at_section, at_group, at_sets, at_regret, at_end, at_spent_sets, done, State}
-use Rattle.ice_check.specs.Fields.{head_value, is_spent, is_limit, is_round_stop, amount_in, is_end}
-use Rattle.ice_check.specs.Next.{next, to_line, go_to, from_head, if_true, after_regret}
-use Rattle.ice_check.specs.Tests.{Fails, place_of}
-use Rattle.ice_check.specs.Progress.{passing, failed, TakesOn, passes_on, fails_at}
+use Rattle.ice_journal_laws.specs.declared.rule.Rule.{Rule}
+use Rattle.ice_journal_laws.specs.declared.rule.Rule.TheVariants as rule
+use Rattle.ice_journal_laws.specs.State.{Stated, at_section, at_group, at_sets, at_regret, at_end, at_spent_sets, done, State}
+use Rattle.ice_journal_laws.specs.Fields.{head_value, is_spent, is_limit, is_round_stop, amount_in, is_end}
+use Rattle.ice_journal_laws.specs.Next.{next, to_line, go_to, from_head, if_true, after_regret}
+use Rattle.ice_journal_laws.specs.Tests.{Fails, place_of}
+use Rattle.ice_journal_laws.specs.Progress.{passing, failed, TakesOn, passes_on, fails_at}
 use Rattle.ice_check.specs.Heads.{end_of}
 use Rattle.ice_check.specs.Groups.{standing}
-use Rattle.ice_check.proofs.Places.{fails_order}
+use Rattle.ice_journal_laws.proofs.Places.{fails_order}
 
 -- ---- a record is no stop
 

@@ -17,28 +17,29 @@ use Rattle.ice_journal.specs.Records as line
 use Rattle.ice_journal.specs.Plain.{all_zero}
 use Rattle.ice_check.specs.declared.head.Head.{Head}
 use Rattle.ice_check.specs.declared.head.Head.TheVariants as head
-use Rattle.ice_check.specs.declared.rule.Rule.{Rule}
-use Rattle.ice_check.specs.declared.rule.Rule.TheVariants as rule
+use Rattle.ice_journal_laws.specs.declared.rule.Rule.{Rule}
 use Rattle.ice_check.specs.declared.next.Next.{Next}
 use Rattle.ice_check.specs.declared.next.Next.TheVariants as coming
 use Rattle.ice_check.specs.declared.groups.Groups.{Groups}
 use Rattle.ice_check.specs.declared.log.LogWalk.{LogWalk}
-use Rattle.ice_check.specs.State.{Stated, at_sets, at_log, at_end, State}
-use Rattle.ice_check.specs.Next.{to_line, after_log, after_step}
-use Rattle.ice_check.specs.Tests.{HasLeftOut}
-use Rattle.ice_check.specs.Progress.{passing, failed, TakesOn}
-use Rattle.ice_check.specs.Fields.{head_value, is_end}
+use Rattle.ice_journal_laws.specs.State.{Stated, at_sets, at_log, at_end, State}
+use Rattle.ice_journal_laws.specs.Next.{to_line, after_log, after_step}
+use Rattle.ice_journal_laws.specs.Tests.{HasLeftOut}
+use Rattle.ice_journal_laws.specs.Progress.{passing, failed, TakesOn}
+use Rattle.ice_journal_laws.specs.Fields.{head_value, is_end}
 use Rattle.ice_check.specs.Heads.{version_of_head, kind_of_head, first_group, end_of, IsGroupOf, HasLog}
-use Rattle.ice_check.specs.Assigning.{Stating, AreBalanced}
+use Rattle.ice_journal_laws.specs.Assigning.{AreBalanced}
+use Rattle.ice_check.specs.Stating.{Stating}
 use Rattle.ice_tree.specs.Alike.{HasSetPerTree}
-use Rattle.ice_check.specs.Logs.{IsWalkOf, weights_in, PassesStep, FailsStep}
+use Rattle.ice_check.specs.Logs.{IsWalkOf, weights_in}
+use Rattle.ice_journal_laws.specs.Stepping.{PassesStep, FailsStep}
 use Rattle.ice_check.specs.Groups.{standing, at_hand, final_stated, final_of, state_at, weights_for, AreKept, IsReady, Begins, HasOpened, PassesTo, FailsBy, IsTaken, Takes, HasBegun, HasKeptFinal, FollowsSets, FailsAsWhole, are_short, are_misvalued, LogFollows, Closes, HasLeft}
 use Rattle.ice_check.specs.Stages.{IsBroken}
-use Rattle.ice_check.proofs.Sets.{IsFit, set_on, sets_short, sets_misvalued, sets_complete}
+use Rattle.ice_journal_laws.proofs.Sets.{IsFit, set_on, sets_short, sets_misvalued, sets_complete}
 use Rattle.ice_check.proofs.Placing.{broken_fails, is_fit}
 use Rattle.ice_check.proofs.Ending.{head_opens, amount_right, ends}
 use Rattle.ice_check.proofs.Walks.{few_trees}
-use Rattle.ice_check.proofs.Walking.{record_fails, record_passes}
+use Rattle.ice_journal_laws.proofs.Walking.{record_fails, record_passes}
 
 -- ---- the groups of a journal
 

@@ -18,20 +18,22 @@ use Rattle.ice_section.specs.Section.{Section, maker, take_record, may_end}
 use Rattle.ice_section.specs.Refusal.{IsRefusal}
 use Rattle.ice_section.specs.declared.faults.SectionFault.{SectionFault}
 use Rattle.ice_section.specs.declared.faults.SectionFault.TheVariants as fault
-use Rattle.ice_check.specs.declared.rule.Rule.{Rule}
-use Rattle.ice_check.specs.declared.rule.Rule.TheVariants as rule
+use Rattle.ice_journal_laws.specs.declared.rule.Rule.{Rule}
+use Rattle.ice_journal_laws.specs.declared.rule.Rule.TheVariants as rule
 use Rattle.ice_check.specs.declared.head.Head.{Head}
 use Rattle.ice_check.specs.declared.stage.Stage.{Stage}
 use Rattle.ice_check.specs.declared.stage.Stage.TheVariants as stage
 use Rattle.ice_check.specs.Heads.{version_of_head, kind_of_head, ends_section}
-use Rattle.ice_check.specs.State.{Stated, at_sets, State, trees_at}
-use Rattle.ice_check.specs.Next.{go_to}
-use Rattle.ice_check.specs.Tests.{is_refusal, HasLeftOut}
-use Rattle.ice_check.specs.Progress.{passing, failed, other_kind, TakesOn, IsAfter, next_line}
-use Rattle.ice_check.specs.Assigning.{describing, Stating, rule_of, AreStated}
+use Rattle.ice_journal_laws.specs.State.{Stated, at_sets, State, trees_at}
+use Rattle.ice_journal_laws.specs.Next.{go_to}
+use Rattle.ice_journal_laws.specs.Tests.{is_refusal, HasLeftOut}
+use Rattle.ice_journal_laws.specs.Progress.{passing, failed, other_kind, TakesOn, IsAfter, next_line}
+use Rattle.ice_journal_laws.specs.Assigning.{describing, rule_of}
+use Rattle.ice_check.specs.Stating.{Stating, AreStated}
 use Rattle.ice_check.specs.Stages.{progress_of, IsNumber, Halts, IsBroken, numbered_halt, section_halt}
-use Rattle.ice_check.proofs.Places.{section_refused, section_misplaced}
-use Rattle.ice_check.proofs.Sets.{set_miscounted, set_unsatisfied, IsFit}
+use Rattle.ice_journal_laws.proofs.Places.{section_refused}
+use Rattle.ice_check.proofs.Behind.{section_misplaced}
+use Rattle.ice_journal_laws.proofs.Sets.{set_miscounted, set_unsatisfied, IsFit}
 use Rattle.ice_trade.specs.Fault.{make_fault_number}
 
 -- what a section refuses

@@ -12,11 +12,11 @@ use Rattle.ice_journal.specs.Spelling.{text_of, line_of}
 use Rattle.ice_journal.specs.Journal.{bytes_of, IsJournal, IsNoRecord, grammar, unended, IsLinesFault}
 use Rattle.ice_journal.specs.Records.{Version, Kind}
 use Rattle.ice_journal.specs.Records as line
-use Rattle.ice_check.specs.State.{State, begun}
-use Rattle.ice_check.specs.Next.{next_at, to_line}
-use Rattle.ice_check.specs.Checks.{is_checked}
-use Rattle.ice_check.specs.Progress.{Progress, nothing, other_kind, passing, failed, out_of_memory, after_head, passes_on, fails_at, list_fails_at, IsAfter, next_line, Leads, stays, goes}
-use Rattle.ice_check.proofs.Leading.{leads_more}
+use Rattle.ice_journal_laws.specs.State.{State, begun}
+use Rattle.ice_journal_laws.specs.Next.{next_at, to_line}
+use Rattle.ice_journal_laws.specs.Checks.{is_checked}
+use Rattle.ice_journal_laws.specs.Progress.{Progress, nothing, other_kind, passing, failed, out_of_memory, after_head, passes_on, fails_at, list_fails_at, IsAfter, next_line, Leads, stays, goes}
+use Rattle.ice_journal_laws.proofs.Leading.{leads_more}
 
 pub record HasRead (bytes rest : List ℕ) (count : ℕ) (p : Progress) : Type 0 where
   pub records : List Record

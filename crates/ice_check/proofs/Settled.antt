@@ -9,7 +9,7 @@ use Rattle.ice_defs.specs.Making.{node_refusal}
 use Rattle.ice_journal.specs.Records.{Record}
 use Rattle.ice_journal.specs.Records as line
 use Rattle.ice_section.specs.Section.{Section, SectionFault, OpenNode, Draft, no_good, no_section, take_record, take_node_at, unless_refused, unless_unmade, go_on, with_node, open_after, names_no_good}
-use Rattle.ice_check.specs.Assigning.{HasSettings}
+use Rattle.ice_check.specs.Stating.{HasSettings}
 
 -- what a section answers to a record has settings
 abbrev Has : Result Section SectionFault → Type 0

@@ -1,33 +1,20 @@
 -- The weights, the sides and the sets that a walk of an exchange's logs begins with.
-use Rattle.std.proofs.Common.{◌≡◌, ◌<◌, ◌≤◌, ℕ, zero, suc, List, [], ◌∷◌, length, map, replicate, false, sym, ◌∙◌, ap, subst, arith}
-use Rattle.std.specs.List.{AllByRecursion}
+use Rattle.std.proofs.Common.{◌≡◌, ◌<◌, ◌≤◌, List, [], length, map, replicate, false, sym, ◌∙◌, ap, subst, arith}
 use Rattle.std.proofs.lemmas.List.{length-map, get_or-map, length-replicate}
 use Rattle.ice_defs.specs.Tree.{Tree}
 use Rattle.ice_defs.specs.Set.{Weights}
 use Rattle.ice_defs.specs.Trade.{Assignment, tree_of}
-use Rattle.ice_defs.specs.Bounds.{Bounds, bounds_of}
+use Rattle.ice_defs.specs.Bounds.{Bounds}
 use Rattle.ice_defs.specs.Exchange.{Bidder, Exchange, trees_of, exact_of, opening_bounds}
-use Rattle.ice_defs.specs.Lawful.{AreBounds, IsBidder, IsExchange}
+use Rattle.ice_defs.specs.Lawful.{IsExchange}
 use Rattle.ice_defs.specs.declared.Group.{Group}
 use Rattle.ice_defs.specs.declared.Group.TheVariants.{Assign, Final, Rival, Provisional, Without}
 use Rattle.ice_tree.specs.Alike.{AreAlike, AreChosen, HasSetPerTree}
 use Rattle.ice_bound.specs.Conditions.{AreBoundsOf, AreWeightsOf}
 use Rattle.ice_bound.proofs.Modest.{lower_modest, weighted_modest, perturbed_modest}
+use Rattle.ice_journal_laws.proofs.Opened.{opening_are_bounds}
 use Rattle.ice_check.specs.declared.log.LogWalk.{LogWalk}
 use Rattle.ice_check.specs.Logs.{IsWalkOf, weights_in}
-
-each_bounds : (goods : ℕ) (bidders : List Bidder) → AllByRecursion (IsBidder goods) bidders → (b : ℕ) → b < length (map (λ x. x.tree) bidders)
-    → AreBounds (length (tree_of (map (λ x. x.tree) bidders) b)) (bounds_of (map (λ x. x.bounds) bidders) b)
-each_bounds goods [] are b there = absurd (omega arith)
-each_bounds goods (x ∷ bidders) are zero there = are.0.bounds
-each_bounds goods (x ∷ bidders) are (suc b) there = each_bounds goods bidders are.1 b (omega arith)
-
--- the opening bounds of an exchange are bounds of its trees
-pub opening_are_bounds : (ex : Exchange) → IsExchange ex → AreBoundsOf (trees_of ex) (opening_bounds ex)
-opening_are_bounds ex lawful = record {
-  same_length = length-map ex.bidders (λ (b : Bidder). b.bounds) ∙ sym (length-map ex.bidders (λ (b : Bidder). b.tree));
-  each = each_bounds (length ex.goods) ex.bidders lawful.bidders;
-}
 
 pub few_trees : (ex : Exchange) → IsExchange ex → (0 < length (trees_of ex)) × (length (trees_of ex) ≤ 40)
 few_trees ex lawful =

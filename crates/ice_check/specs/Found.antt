@@ -3,8 +3,8 @@ use Rattle.std.specs.Prelude.{◌≡◌, Option, Some, None}
 use Rattle.ice_journal.specs.Records.{Record}
 use Rattle.ice_check.specs.declared.head.Head.{Head}
 use Rattle.ice_check.specs.Heads.{version_of_head, kind_of_head}
-use Rattle.ice_check.specs.State.{begun}
-use Rattle.ice_check.specs.Progress.{passing, other_kind, after_head}
+use Rattle.ice_journal_laws.specs.State.{begun}
+use Rattle.ice_journal_laws.specs.Progress.{passing, other_kind, after_head}
 
 -- this is found where that is looked for
 abbrev pub IsFound : {X : Type 0} → Option X → Option X → Type 0

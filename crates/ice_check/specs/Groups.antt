@@ -9,22 +9,22 @@ use Rattle.ice_defs.specs.Group.{free_side}
 use Rattle.ice_defs.specs.Trade.{total_value}
 use Rattle.ice_journal.specs.Plain.{all_zero}
 use Rattle.ice_journal.specs.Records.{Record, Version, Kind, regret_kind}
-use Rattle.ice_check.specs.declared.answer.Answer.{Answer}
+use Rattle.ice_journal_laws.specs.declared.answer.Answer.{Answer}
 use Rattle.ice_check.specs.declared.head.Head.{Head}
-use Rattle.ice_check.specs.declared.rule.Rule.{Rule}
-use Rattle.ice_check.specs.declared.rule.Rule.TheVariants as rule
+use Rattle.ice_journal_laws.specs.declared.rule.Rule.{Rule}
+use Rattle.ice_journal_laws.specs.declared.rule.Rule.TheVariants as rule
 use Rattle.ice_check.specs.declared.next.Next.{Next}
 use Rattle.ice_check.specs.declared.next.Next.TheVariants as next
 use Rattle.ice_check.specs.declared.groups.Groups.{Groups}
-use Rattle.ice_check.specs.State.{Stated, Place, at_group, at_sets, at_log, at_regret, at_end, done, State}
-use Rattle.ice_check.specs.Next.{after_log, after_step}
-use Rattle.ice_check.specs.Tests.{is_valued}
+use Rattle.ice_journal_laws.specs.State.{Stated, Place, at_group, at_sets, at_log, at_regret, at_end, done, State}
+use Rattle.ice_journal_laws.specs.Next.{after_log, after_step}
+use Rattle.ice_journal_laws.specs.Tests.{is_valued}
 use Rattle.ice_check.specs.Heads.{version_of_head, kind_of_head, first_group, end_of, IsGroupOf, HasLog}
-use Rattle.ice_check.specs.Assigning.{described, AreBalanced, AreShort}
+use Rattle.ice_journal_laws.specs.Assigning.{described, AreBalanced, AreShort}
 use Rattle.ice_tree.specs.Alike.{HasSetPerTree}
 use Rattle.ice_check.specs.Logs.{IsWalkOf, weights_in}
-use Rattle.ice_check.specs.Progress.{passing, failed, TakesOn}
-use Rattle.ice_check.specs.Answers.{EndsWith}
+use Rattle.ice_journal_laws.specs.Progress.{passing, failed, TakesOn}
+use Rattle.ice_journal_laws.specs.Answers.{EndsWith}
 
 -- ---- the state
 

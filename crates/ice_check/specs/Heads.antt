@@ -6,7 +6,7 @@ use Rattle.ice_journal.specs.Records.{Record, Version, version_1, Kind, assign_k
 use Rattle.ice_journal.specs.Lines.{version_of}
 use Rattle.ice_check.specs.declared.head.Head.{Head}
 use Rattle.ice_check.specs.declared.head.Head.TheVariants.{Assign, Regret}
-use Rattle.ice_check.specs.Fields.{is_assign, final_value, is_spent}
+use Rattle.ice_journal_laws.specs.Fields.{is_assign, final_value, is_spent}
 
 abbrev pub version_of_head : Head → Version
 version_of_head Assign = version_1

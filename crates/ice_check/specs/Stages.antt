@@ -9,12 +9,13 @@ use Rattle.ice_check.specs.declared.stage.Stage.{Stage}
 use Rattle.ice_check.specs.declared.stage.Stage.TheVariants as stage
 use Rattle.ice_check.specs.declared.halt.Halt.{Halt}
 use Rattle.ice_check.specs.declared.halt.Halt.TheVariants as halt
-use Rattle.ice_check.specs.declared.rule.Rule.{Rule}
-use Rattle.ice_check.specs.declared.rule.Rule.TheVariants as rule
+use Rattle.ice_journal_laws.specs.declared.rule.Rule.{Rule}
+use Rattle.ice_journal_laws.specs.declared.rule.Rule.TheVariants as rule
 use Rattle.ice_section.specs.declared.faults.SectionFault.{SectionFault}
 use Rattle.ice_section.specs.declared.faults.SectionFault.TheVariants as fault
-use Rattle.ice_check.specs.Progress.{Progress, nothing, other_kind, passing, failed, out_of_memory, IsAfter}
-use Rattle.ice_check.specs.Assigning.{describing, HasSettings, rule_of}
+use Rattle.ice_journal_laws.specs.Progress.{Progress, nothing, other_kind, passing, failed, out_of_memory, IsAfter}
+use Rattle.ice_journal_laws.specs.Assigning.{describing, rule_of}
+use Rattle.ice_check.specs.Stating.{HasSettings}
 use Rattle.ice_check.specs.Heads.{version_of_head, kind_of_head}
 use Rattle.ice_check.specs.Groups.{state_of, AreKept, IsReady}
 use Rattle.ice_trade.specs.Fault.{make_fault_number}

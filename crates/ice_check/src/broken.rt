@@ -1,9 +1,9 @@
 //! The rule that a set breaks by itself.
 ghost use Rattle.std.specs.Prelude.{◌≡◌};
-ghost use Rattle.ice_check.specs.Assigning.{rule_of};
+ghost use Rattle.ice_journal_laws.specs.Assigning.{rule_of};
 ghost use Rattle.ice_check.specs.Stages.{IsBroken};
 
-use crate::rule::Rule;
+use ice_journal_laws::Rule;
 use ice_tree::{NodeSet, SatRule, Tree};
 
 /// The rule of a set at fault.

@@ -1,9 +1,9 @@
 //! The check of the bytes of a journal.
-ghost use Rattle.ice_check.specs.Answers.{AnswersBytes, IsFed};
-ghost use Rattle.ice_check.specs.Progress.{nothing};
+ghost use Rattle.ice_journal_laws.specs.Answers.{AnswersBytes, IsFed};
+ghost use Rattle.ice_journal_laws.specs.Progress.{nothing};
 ghost use Rattle.std.specs.Prelude.{◌≡◌};
 
-use crate::answer::{Answer, CheckEnd};
+use ice_journal_laws::{Answer, CheckEnd};
 use crate::checker::Checker;
 use ice_journal::read_record;
 use ice_line::split_line;

@@ -2,10 +2,10 @@
 ghost use Rattle.std.specs.Prelude.{◌≡◌, ◌<◌, ◌^◌, IsTrue, IfOk, OnOk, OnErr, IsOk};
 ghost use Rattle.ice_journal.specs.Lines.{record_of};
 ghost use Rattle.ice_journal.specs.Ranges.{IsRecord};
-ghost use Rattle.ice_check.specs.Progress.{nothing, out_of_memory, is_ready, next_line, IsAfter};
-ghost use Rattle.ice_check.specs.Answers.{EndsWith};
+ghost use Rattle.ice_journal_laws.specs.Progress.{nothing, out_of_memory, is_ready, next_line, IsAfter};
+ghost use Rattle.ice_journal_laws.specs.Answers.{EndsWith};
 
-use crate::answer::{Answer, CheckEnd};
+use ice_journal_laws::{Answer, CheckEnd};
 use crate::stage::Stage;
 use ice_journal::Line;
 use std::alloc::{AllocError, Global};
@@ -22,7 +22,7 @@ pub struct Checker {
 }
 
 impl Model for Checker {
-    ghost use Rattle.ice_check.specs.Progress.{Progress};
+    ghost use Rattle.ice_journal_laws.specs.Progress.{Progress};
     ghost use Rattle.ice_check.specs.Stages.{progress_of, IsAtLine};
 
     ghost Value = { Progress };

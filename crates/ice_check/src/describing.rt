@@ -4,14 +4,14 @@ ghost use Rattle.ice_journal.specs.Lines.{record_of};
 ghost use Rattle.ice_journal.specs.Ranges.{IsRecord};
 ghost use Rattle.ice_section.specs.Section.{no_section, may_end, exchange_in};
 ghost use Rattle.ice_check.specs.Heads.{ends_section, first_value};
-ghost use Rattle.ice_check.specs.Assigning.{HasSettings};
+ghost use Rattle.ice_check.specs.Stating.{HasSettings};
 ghost use Rattle.ice_check.specs.Stages.{LeadsOn, section_halt};
 
 use crate::groups::Groups;
 use crate::halt::Halt;
 use crate::head::Head;
 use crate::lines::head_in;
-use crate::rule::Rule;
+use ice_journal_laws::Rule;
 use crate::stage::Stage;
 use ice_journal::Line;
 use ice_section::{Section, SectionFault};

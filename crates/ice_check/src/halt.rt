@@ -1,5 +1,5 @@
 //! Why the tests of a journal don't go on.
-use crate::rule::Rule;
+use ice_journal_laws::Rule;
 use std::alloc::AllocError;
 
 /// Why the tests don't go on with a record: it fails this test first, or there is no memory for it.

@@ -1,7 +1,7 @@
 //! The heads of journals that are checked, and what comes first behind the exchange of each.
 ghost use Rattle.std.specs.Prelude.{◌≡◌};
 ghost use Rattle.ice_journal.specs.Lines.{record_of, version_of};
-ghost use Rattle.ice_check.specs.Fields.{is_end};
+ghost use Rattle.ice_journal_laws.specs.Fields.{is_end};
 
 use crate::lines::{ends_assign, ends_regret, final_in, is_assign, is_spent};
 use ice_defs::Group;

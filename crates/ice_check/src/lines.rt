@@ -2,7 +2,7 @@
 ghost use Rattle.std.specs.Prelude.{◌≡◌, None, MatchOption};
 ghost use Rattle.ice_journal.specs.Lines.{record_of};
 ghost use Rattle.ice_journal.specs.Records as records;
-ghost use Rattle.ice_check.specs.Fields.{is_assign, is_end, set_in, final_value, rival_value, provisional_value, without_value, head_value, is_spent, amount_in};
+ghost use Rattle.ice_journal_laws.specs.Fields.{is_assign, is_end, set_in, final_value, rival_value, provisional_value, without_value, head_value, is_spent, amount_in};
 ghost use Rattle.ice_check.specs.Found.{IsFound, IsHeadIn};
 
 use crate::head::Head;

@@ -7,10 +7,11 @@ ghost use Rattle.ice_refute.specs.Waiting.{nodes_of};
 ghost use Rattle.ice_journal.specs.Lines.{record_of, version_of};
 ghost use Rattle.ice_journal.specs.Ranges.{IsRecord};
 ghost use Rattle.ice_defs.specs.Steps.{sides_after};
-ghost use Rattle.ice_check.specs.Fields.{multipliers_after};
-ghost use Rattle.ice_check.specs.Logs.{IsWalkOf, weights_in, IsStepOf, HasSameWalk, rule_of_fault, PassesThere, FailsThere, GoesOn, BreaksOff};
+ghost use Rattle.ice_journal_laws.specs.Fields.{multipliers_after};
+ghost use Rattle.ice_check.specs.Logs.{IsWalkOf, weights_in, IsStepOf, HasSameWalk, PassesThere, FailsThere, GoesOn, BreaksOff};
+ghost use Rattle.ice_journal_laws.specs.Stepping.{rule_of_fault};
 
-use crate::rule::Rule;
+use ice_journal_laws::Rule;
 use crate::steps_in::{misstates, step_in};
 use ice_best::Fixings;
 use ice_bound::{Desk, Multipliers};

@@ -2,16 +2,16 @@
 ghost use Rattle.std.specs.Prelude.{◌≡◌, ◌≢◌, ℕ, suc, Err, IsTrue, IfOk, IsOk, IsErr};
 ghost use Rattle.ice_journal.specs.Lines.{record_of};
 ghost use Rattle.ice_journal.specs.Ranges.{IsRecord};
-ghost use Rattle.ice_check.specs.Progress.{out_of_memory, is_ready, IsAfter};
-ghost use Rattle.ice_check.specs.Answers.{EndsWith};
+ghost use Rattle.ice_journal_laws.specs.Progress.{out_of_memory, is_ready, IsAfter};
+ghost use Rattle.ice_journal_laws.specs.Answers.{EndsWith};
 ghost use Rattle.ice_check.specs.Stages.{progress_of, IsAtLine, IsKept, LeadsOn};
 
-use crate::answer::{Answer, CheckEnd};
+use ice_journal_laws::{Answer, CheckEnd};
 use crate::describing::{begin, describe};
 use crate::groups::Groups;
 use crate::halt::Halt;
 use crate::head::Head;
-use crate::rule::Rule;
+use ice_journal_laws::Rule;
 use ice_journal::Line;
 use ice_section::Section;
 use std::alloc::{AllocError, Global};

@@ -3,7 +3,7 @@ ghost use Rattle.std.specs.Prelude.{◌≡◌, ◌<◌, ◌≤◌, [], length, I
 ghost use Rattle.ice_defs.specs.Exchange.{trees_of};
 ghost use Rattle.ice_defs.specs.Lawful.{IsExchange};
 ghost use Rattle.ice_bound.specs.Conditions.{AreWeightsOf};
-ghost use Rattle.ice_check.specs.Assigning.{next_tree, with_next, SatisfiesNext, IsBalance};
+ghost use Rattle.ice_check.specs.Stating.{next_tree, with_next, SatisfiesNext, IsBalance};
 ghost use Rattle.ice_tree.specs.Alike.{HasSetPerTree};
 ghost use Rattle.ice_defs.specs.Trade.{total_value};
 
@@ -23,7 +23,7 @@ pub(crate) struct Stated {
 
 impl Model for Stated {
     ghost use Rattle.std.specs.Prelude.{take};
-    ghost use Rattle.ice_check.specs.Assigning.{Stating, AreStated};
+    ghost use Rattle.ice_check.specs.Stating.{Stating, AreStated};
 
     ghost Value = { Stating };
 

@@ -7,8 +7,9 @@ ghost use Rattle.ice_journal.specs.Ranges.{IsRecord};
 ghost use Rattle.ice_journal.specs.Records as records;
 ghost use Rattle.ice_journal.specs.Records.{version_1};
 ghost use Rattle.ice_journal.specs.Plain.{changed};
-ghost use Rattle.ice_check.specs.Tests.{IsNoChange};
-ghost use Rattle.ice_check.specs.Logs.{IsMisstating, IsStepOf, AreChangesInRange};
+ghost use Rattle.ice_journal_laws.specs.Tests.{IsNoChange};
+ghost use Rattle.ice_check.specs.Logs.{IsStepOf, AreChangesInRange};
+ghost use Rattle.ice_journal_laws.specs.Stepping.{IsMisstating};
 
 use ice_bound::Multipliers;
 use ice_journal::{Change, Line, Version};

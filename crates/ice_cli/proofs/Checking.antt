@@ -1,8 +1,8 @@
 -- From the checker's answer on a file, or why there is none, to what `check` answers.
 use Rattle.std.proofs.Common.{◌≡◌, ◌∙◌, refl, ap, ℕ, List, Ok}
-use Rattle.ice_check.specs.declared.answer.Answer.{Answer}
-use Rattle.ice_check.specs.declared.answer.Answer.TheVariants.{Assign, Regret, No}
-use Rattle.ice_check.specs.Answers.{AnswersBytes}
+use Rattle.ice_journal_laws.specs.declared.answer.Answer.{Answer}
+use Rattle.ice_journal_laws.specs.declared.answer.Answer.TheVariants.{Assign, Regret, No}
+use Rattle.ice_journal_laws.specs.Answers.{AnswersBytes}
 use Rattle.ice_edge.specs.Told.{Told}
 use Rattle.ice_cli.specs.declared.refusal.Refusal.{Refusal}
 use Rattle.ice_cli.specs.declared.refusal.Refusal.TheVariants.{File, Unread, NoMemory}

@@ -3,11 +3,11 @@ use Rattle.std.proofs.Common.{◌≡◌, ◌≢◌, ◌∙◌, refl, ap, sym, su
 use Rattle.ice_defs.specs.FileFault.{FileFault, at_line}
 use Rattle.ice_edge.specs.declared.status.Status.{Status}
 use Rattle.ice_edge.specs.declared.status.Status.TheVariants.{Done, Words, Input, No, Spent, Limit, ReadFault, WriteFault, NoMemory, StillOpen}
-use Rattle.ice_check.specs.declared.answer.Answer.{Answer}
-use Rattle.ice_check.specs.declared.answer.CheckEnd.{CheckEnd}
-use Rattle.ice_check.specs.declared.answer.CheckEnd.TheVariants as ending
-use Rattle.ice_check.specs.Answers.{AnswersBytes}
-use Rattle.ice_check.proofs.Answered.{one_answer_of_bytes}
+use Rattle.ice_journal_laws.specs.declared.answer.Answer.{Answer}
+use Rattle.ice_journal_laws.specs.declared.answer.CheckEnd.{CheckEnd}
+use Rattle.ice_journal_laws.specs.declared.answer.CheckEnd.TheVariants as ending
+use Rattle.ice_journal_laws.specs.Answers.{AnswersBytes}
+use Rattle.ice_journal_laws.proofs.Answered.{one_answer_of_bytes}
 use Rattle.ice_cli.specs.Call.{Call, IsTold, journal_limit, OfTold, OfFile, too_long, at_fault}
 use Rattle.ice_cli.specs.Command.{check, best, IsCommand}
 use Rattle.ice_cli.specs.CheckServed.{IsEndFault, IsCheckFault, CheckAnswers, WritesAnswer, answer_line, answer_status, other_kind}

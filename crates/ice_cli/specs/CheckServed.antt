@@ -3,12 +3,12 @@ use Rattle.std.specs.Prelude.{ℕ, ◌≡◌, List, [], codes, Result, Ok, Err}
 use Rattle.ice_edge.specs.declared.status.Status.{Status}
 use Rattle.ice_edge.specs.declared.status.Status.TheVariants.{Done, Input, No, ReadFault, NoMemory}
 use Rattle.ice_defs.specs.FileFault.{FileFault, at_line}
-use Rattle.ice_check.specs.declared.answer.Answer.{Answer}
-use Rattle.ice_check.specs.declared.answer.Answer.TheVariants as answer
-use Rattle.ice_check.specs.declared.answer.CheckEnd.{CheckEnd}
-use Rattle.ice_check.specs.declared.answer.CheckEnd.TheVariants as ending
-use Rattle.ice_check.specs.Theorems.{of_assigned, of_regret}
-use Rattle.ice_check.specs.Answers.{AnswersBytes}
+use Rattle.ice_journal_laws.specs.declared.answer.Answer.{Answer}
+use Rattle.ice_journal_laws.specs.declared.answer.Answer.TheVariants as answer
+use Rattle.ice_journal_laws.specs.declared.answer.CheckEnd.{CheckEnd}
+use Rattle.ice_journal_laws.specs.declared.answer.CheckEnd.TheVariants as ending
+use Rattle.ice_journal_laws.specs.Theorems.{of_assigned, of_regret}
+use Rattle.ice_journal_laws.specs.Answers.{AnswersBytes}
 use Rattle.ice_cli.specs.Call.{Call, FaultRose, journal_limit, OfFile, IsRefused}
 use Rattle.ice_cli.specs.Output.{yes_line, no_line, refused_line, unread_line}
 

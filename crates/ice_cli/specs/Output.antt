@@ -6,10 +6,10 @@ use Rattle.ice_defs.specs.Set.{NodeSet}
 use Rattle.ice_defs.specs.FileFault.{FileFault}
 use Rattle.ice_journal.specs.Records as line
 use Rattle.ice_journal.specs.Spelling.{line_of, fraction_text}
-use Rattle.ice_check.specs.declared.Rule.{Rule}
-use Rattle.ice_check.specs.declared.Rule.TheVariants as rule
-use Rattle.ice_check.specs.Checks.{Failure}
-use Rattle.ice_check.specs.Theorems.{Yes, of_assigned, of_regret, of_session}
+use Rattle.ice_journal_laws.specs.declared.rule.Rule.{Rule}
+use Rattle.ice_journal_laws.specs.declared.rule.Rule.TheVariants as rule
+use Rattle.ice_journal_laws.specs.Checks.{Failure}
+use Rattle.ice_journal_laws.specs.Theorems.{Yes, of_assigned, of_regret, of_session}
 
 -- fields with a space between each two, and a newline
 abbrev pub line_text : List (List ℕ) → List ℕ

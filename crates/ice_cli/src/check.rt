@@ -1,6 +1,6 @@
 //! `check`: the checker's answer on a journal.
 ghost use Rattle.std.specs.Prelude.{ℕ, List, IfOk, IfErr, Ok};
-ghost use Rattle.ice_check.specs.Answers.{AnswersBytes};
+ghost use Rattle.ice_journal_laws.specs.Answers.{AnswersBytes};
 ghost use Rattle.ice_cli.specs.CheckServed.{IsEndFault, IsCheckFault, CheckAnswers};
 ghost use Rattle.ice_cli.specs.Parts.{AreFetched, Serves};
 ghost use Rattle.ice_cli.specs.Refusals.{IsFaultOf, Refuses};

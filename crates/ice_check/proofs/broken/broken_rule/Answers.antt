@@ -1,7 +1,7 @@
 use Rattle.std.proofs.Common.{sym, subst, arith}
 use Rattle.std.specs.Prelude.{Some}
 use Rattle.ice_tree.proofs.Satisfied.{set_fault-first}
-use Rattle.ice_check.specs.declared.rule.Rule.{Rule}
+use Rattle.ice_journal_laws.specs.declared.rule.Rule.{Rule}
 use Rattle.ice_check.specs.Stages.{IsBroken}
 use Rattle.ice_check.proofs.Placing.{broken_by}
 use Rattle.ice_check.proofs.broken.broken_rule.Goals as goal

@@ -1,4 +1,4 @@
-use Rattle.ice_check.proofs.Answered.{end_answers}
+use Rattle.ice_journal_laws.proofs.Answered.{end_answers}
 use Rattle.ice_check.proofs.bytes.check.Goals as goal
 
 pub returns-in-Ok-feed_all : goal.returns-in-Ok-feed_all

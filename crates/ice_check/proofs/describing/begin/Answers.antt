@@ -1,8 +1,8 @@
-use Rattle.std.proofs.Common.{◌≡◌, suc, sym, ◌∙◌, ap}
+use Rattle.std.proofs.Common.{suc, sym, ◌∙◌, ap}
 use Rattle.ice_section.specs.Section.{Section}
-use Rattle.ice_check.specs.Progress.{Progress, passing}
+use Rattle.ice_journal_laws.specs.Progress.{Progress, passing}
 use Rattle.ice_check.specs.Heads.{version_of_head, kind_of_head}
-use Rattle.ice_check.specs.Assigning.{describing}
+use Rattle.ice_journal_laws.specs.Assigning.{describing}
 use Rattle.ice_check.proofs.describing.begin.Goals as goal
 
 pub returns-in_ok-no_section-in-Some : goal.returns-in_ok-no_section-in-Some

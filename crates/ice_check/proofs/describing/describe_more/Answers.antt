@@ -7,7 +7,7 @@ use Rattle.ice_check.specs.declared.halt.Halt.{Halt}
 use Rattle.ice_check.specs.declared.stage.Stage.TheVariants.{Describing}
 use Rattle.ice_check.specs.Heads.{version_of_head, kind_of_head}
 use Rattle.ice_check.specs.Stages.{LeadsOn}
-use Rattle.ice_check.proofs.Places.{section_on}
+use Rattle.ice_journal_laws.proofs.Places.{section_on}
 use Rattle.ice_check.proofs.Settled.{settings_kept}
 use Rattle.ice_check.proofs.Placing.{section_halts}
 use Rattle.ice_check.proofs.describing.describe_more.Goals as goal

@@ -1,9 +1,9 @@
-use Rattle.std.proofs.Common.{◌≡◌, Bool, true, false, sym, ◌∙◌, ap, ℤ}
+use Rattle.std.proofs.Common.{Bool, false, sym, ◌∙◌, ap, ℤ}
 use Rattle.std.specs.Prelude.{◌&&◌, ◌||◌, Option, is_some}
 use Rattle.ice_journal.specs.Lines.{record_of}
 use Rattle.ice_section.specs.Section.{may_end}
 use Rattle.ice_check.specs.Heads.{stops_first}
-use Rattle.ice_check.proofs.Places.{section_spent}
+use Rattle.ice_check.proofs.Behind.{section_spent}
 use Rattle.ice_check.proofs.describing.end.Goals as goal
 
 pub returns-then-stops_first : goal.returns-then-stops_first

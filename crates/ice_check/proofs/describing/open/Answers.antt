@@ -1,17 +1,17 @@
-use Rattle.std.proofs.Common.{◌≡◌, suc, sym, ◌∙◌, ap, subst, ℤ, pos, []}
+use Rattle.std.proofs.Common.{◌≡◌, suc, sym, subst, ℤ}
 use Rattle.std.proofs.lemmas.Int.{to_z-of_z}
 use mir.Syntax.{w64}
 use mir.Val.{to_z, of_z}
 use Rattle.ice_defs.specs.Exchange.{Exchange}
 use Rattle.ice_journal.specs.Lines.{record_of}
-use Rattle.ice_section.specs.Section.{Section, exchange_in}
+use Rattle.ice_section.specs.Section.{exchange_in}
 use Rattle.ice_check.specs.declared.groups.Groups.{Groups}
-use Rattle.ice_check.specs.State.{State}
-use Rattle.ice_check.specs.Progress.{passing, TakesOn}
+use Rattle.ice_journal_laws.specs.State.{State}
+use Rattle.ice_journal_laws.specs.Progress.{passing, TakesOn}
 use Rattle.ice_check.specs.Heads.{version_of_head, kind_of_head}
-use Rattle.ice_check.specs.Assigning.{describing}
+use Rattle.ice_journal_laws.specs.Assigning.{describing}
 use Rattle.ice_check.specs.Groups.{Begins, state_of, AreKept, IsReady}
-use Rattle.ice_check.proofs.Places.{section_opens}
+use Rattle.ice_check.proofs.Behind.{section_opens}
 use Rattle.ice_check.proofs.describing.open.Goals as goal
 
 pub returns-in-Ok : goal.returns-in-Ok

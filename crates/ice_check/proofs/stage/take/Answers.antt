@@ -1,7 +1,6 @@
-use Rattle.std.proofs.Common.{rules, ◌≡◌, suc, sym, subst}
-use Rattle.ice_journal.specs.Lines.{record_of}
+use Rattle.std.proofs.Common.{rules, ◌≡◌, sym, subst}
 use Rattle.ice_check.specs.declared.groups.Groups.{Groups}
-use Rattle.ice_check.specs.Groups.{AreKept, IsReady, Takes}
+use Rattle.ice_check.specs.Groups.{AreKept, IsReady}
 use Rattle.ice_check.proofs.stage.take.Goals as goal
 
 pub take-requires-clause-kept : goal.take-requires-clause-kept

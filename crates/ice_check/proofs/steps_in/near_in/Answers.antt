@@ -5,7 +5,7 @@ use Rattle.ice_defs.specs.Steps.{leaf}
 use Rattle.ice_journal.specs.declared.line.Version.{Version}
 use Rattle.ice_journal.specs.Lines.{change_of, version_of}
 use Rattle.ice_journal.specs.Records as records
-use Rattle.ice_check.specs.Fields.{step_in}
+use Rattle.ice_journal_laws.specs.Fields.{step_in}
 use Rattle.ice_check.proofs.Changes.{changes_in_range, length-changed}
 use Rattle.ice_check.proofs.steps_in.near_in.Goals as goal
 

@@ -3,8 +3,8 @@ use Rattle.std.specs.Prelude.{IsTrue, ◌↔◌}
 use Rattle.ice_journal.specs.declared.line.Version.{Version}
 use Rattle.ice_journal.specs.Lines.{change_of, version_of}
 use Rattle.ice_journal.specs.Records as records
-use Rattle.ice_check.specs.Tests.{IsNoChange}
-use Rattle.ice_check.specs.Logs.{IsMisstating}
+use Rattle.ice_journal_laws.specs.Tests.{IsNoChange}
+use Rattle.ice_journal_laws.specs.Stepping.{IsMisstating}
 use Rattle.ice_check.proofs.Changes.{any_of_records, any_records}
 use Rattle.ice_check.proofs.steps_in.near_misstates.Goals as goal
 

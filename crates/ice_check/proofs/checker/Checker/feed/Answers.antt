@@ -1,7 +1,7 @@
 use Rattle.std.proofs.Common.{◌≡◌, ◌∙◌, ◌<◌, ◌^◌, suc, sym, ap, subst, arith}
 use Rattle.ice_journal.specs.Lines.{record_of}
 use Rattle.ice_check.specs.declared.stage.Stage.{Stage}
-use Rattle.ice_check.specs.Progress.{Progress, IsAfter, next_line}
+use Rattle.ice_journal_laws.specs.Progress.{Progress, IsAfter, next_line}
 use Rattle.ice_check.specs.Stages.{progress_of, IsAtLine}
 use Rattle.ice_check.proofs.Placing.{same_progress}
 use Rattle.ice_check.proofs.checker.Checker.feed.Goals as goal

@@ -1,7 +1,7 @@
 use Rattle.std.proofs.Common.{Ok, sym, subst}
 use Rattle.ice_check.specs.declared.next.Next.{Next}
-use Rattle.ice_check.specs.Progress.{passing}
-use Rattle.ice_check.specs.Answers.{EndsWith}
+use Rattle.ice_journal_laws.specs.Progress.{passing}
+use Rattle.ice_journal_laws.specs.Answers.{EndsWith}
 use Rattle.ice_check.specs.Groups.{state_at}
 use Rattle.ice_check.proofs.groups.Groups.answer.Goals as goal
 

@@ -6,7 +6,7 @@ use Rattle.ice_defs.specs.declared.Group.{Group}
 use Rattle.ice_defs.specs.declared.Group.TheVariants.{Rival}
 use Rattle.ice_check.specs.declared.next.Next.TheVariants as coming
 use Rattle.ice_check.specs.Heads.{HasLog}
-use Rattle.ice_check.specs.Next.{after_log}
+use Rattle.ice_journal_laws.specs.Next.{after_log}
 use Rattle.ice_check.specs.Groups.{at_hand, HasLeft}
 use Rattle.ice_check.proofs.Grouped.{final_left, rival_left}
 use Rattle.ice_check.proofs.groups.Groups.complete.Goals as goal

@@ -5,7 +5,7 @@ use mir.Val.{SFits, to_z, of_z}
 use Rattle.ice_defs.specs.Exchange.{Exchange, trees_of, exact_of}
 use Rattle.ice_defs.specs.Lawful.{IsExchange}
 use Rattle.ice_check.specs.Logs.{IsWalkOf}
-use Rattle.ice_check.specs.Assigning.{Stating}
+use Rattle.ice_check.specs.Stating.{Stating}
 use Rattle.ice_tree.specs.Alike.{HasSetPerTree}
 use Rattle.ice_check.proofs.groups.Groups.keep_final.Goals as goal
 

@@ -7,7 +7,7 @@ use Rattle.ice_defs.specs.Exchange.{trees_of}
 use Rattle.ice_defs.specs.declared.Group.{Group}
 use Rattle.ice_check.specs.declared.groups.Groups.{Groups}
 use Rattle.ice_check.specs.declared.next.Next.TheVariants as coming
-use Rattle.ice_check.specs.Assigning.{Stating}
+use Rattle.ice_check.specs.Stating.{Stating}
 use Rattle.ice_tree.specs.Alike.{HasSetPerTree}
 use Rattle.ice_check.specs.Logs.{weights_in}
 use Rattle.ice_check.specs.Heads.{first_group}

@@ -1,7 +1,7 @@
 use Rattle.std.proofs.Common.{sym, subst}
 use Rattle.ice_journal.specs.Lines.{record_of}
 use Rattle.ice_check.specs.declared.next.Next.{Next}
-use Rattle.ice_check.specs.declared.rule.Rule.TheVariants as rule
+use Rattle.ice_journal_laws.specs.declared.rule.Rule.TheVariants as rule
 use Rattle.ice_check.specs.Heads.{version_of_head, kind_of_head}
 use Rattle.ice_check.specs.Groups.{final_stated, FailsBy}
 use Rattle.ice_check.proofs.Ending.{passed}

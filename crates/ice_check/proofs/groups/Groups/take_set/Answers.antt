@@ -1,7 +1,7 @@
 use Rattle.ice_journal.specs.Lines.{record_of}
 use Rattle.ice_check.specs.declared.next.Next.TheVariants as coming
 use Rattle.ice_check.specs.Groups.{at_hand, state_at}
-use Rattle.ice_check.proofs.Sets.{set_missing}
+use Rattle.ice_journal_laws.proofs.Sets.{set_missing}
 use Rattle.ice_check.proofs.groups.Groups.take_set.Goals as goal
 
 pub returns-in-None : goal.returns-in-None

@@ -1,4 +1,4 @@
-use Rattle.ice_check.specs.Logs.{no_step}
+use Rattle.ice_journal_laws.specs.Stepping.{no_step}
 use Rattle.ice_check.proofs.log.LogWalk.take.Goals as goal
 
 pub returns-in-None-clause-fails : goal.returns-in-None-clause-fails

@@ -7,8 +7,8 @@ use Rattle.std.proofs.lemmas.Bool.{true≢false}
 use Rattle.ice_refute.specs.Code.{step_of}
 use Rattle.ice_journal.specs.Lines.{record_of, version_of}
 use Rattle.ice_refute.specs.Waiting.{first_side}
-use Rattle.ice_check.specs.Logs.{FailsAt, is_misstated}
-use Rattle.ice_check.proofs.Walking.{fault_fails}
+use Rattle.ice_journal_laws.specs.Stepping.{FailsAt, is_misstated}
+use Rattle.ice_journal_laws.proofs.Walking.{fault_fails}
 use Rattle.ice_check.proofs.log.LogWalk.take_step.Goals as goal
 
 pub returns-then-misstates-clause-fails : goal.returns-then-misstates-clause-fails

@@ -7,7 +7,8 @@ use Rattle.ice_defs.specs.declared.Group.{Group}
 use Rattle.ice_defs.specs.declared.Group.TheVariants.{Assign, Final, Rival, Provisional, Without}
 use Rattle.ice_tree.specs.Alike.{AreAlike, AreChosen}
 use Rattle.ice_check.specs.Logs.{weights_in}
-use Rattle.ice_check.proofs.Walks.{opening_are_bounds, sized_chosen, weights_alike, reweighed}
+use Rattle.ice_check.proofs.Walks.{sized_chosen, weights_alike, reweighed}
+use Rattle.ice_journal_laws.proofs.Opened.{opening_are_bounds}
 use Rattle.ice_check.proofs.log.LogWalk.weigh.Goals as goal
 
 pub fill_perturbed-requires-clause-alike : goal.fill_perturbed-requires-clause-alike

@@ -1,12 +1,12 @@
 use Rattle.std.proofs.Common.{rules, ◌≡◌, ℕ, refl, sym, subst}
 use Rattle.std.specs.Prelude.{Option, Some, None, Ok, unwrap_or}
-use Rattle.ice_check.specs.declared.answer.Answer.{Answer}
-use Rattle.ice_check.specs.declared.answer.Answer.TheVariants.{No}
+use Rattle.ice_journal_laws.specs.declared.answer.Answer.{Answer}
+use Rattle.ice_journal_laws.specs.declared.answer.Answer.TheVariants.{No}
 use Rattle.ice_check.specs.declared.groups.Groups.{Groups}
-use Rattle.ice_check.specs.declared.rule.Rule.TheVariants as rule
+use Rattle.ice_journal_laws.specs.declared.rule.Rule.TheVariants as rule
 use Rattle.ice_check.specs.declared.stage.Stage.{Stage}
-use Rattle.ice_check.specs.Progress.{passing}
-use Rattle.ice_check.specs.Answers.{EndsWith}
+use Rattle.ice_journal_laws.specs.Progress.{passing}
+use Rattle.ice_journal_laws.specs.Answers.{EndsWith}
 use Rattle.ice_check.specs.Stages.{progress_of}
 use Rattle.ice_check.specs.Groups.{state_of, IsAnswer}
 use Rattle.ice_check.proofs.stage.Stage.answer.Goals as goal

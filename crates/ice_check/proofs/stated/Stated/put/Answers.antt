@@ -1,6 +1,6 @@
 use Rattle.std.proofs.Common.{◌+◌, ◌∙◌, sym, subst, arith}
 use Rattle.ice_defs.specs.Trade.{Assignment}
-use Rattle.ice_check.specs.Assigning.{AreStated}
+use Rattle.ice_check.specs.Stating.{AreStated}
 use Rattle.ice_check.proofs.Placing.{one_set_stated, next_set}
 use Rattle.ice_check.proofs.stated.Stated.put.Goals as goal
 

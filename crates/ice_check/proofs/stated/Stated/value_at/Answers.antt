@@ -1,6 +1,6 @@
 use Rattle.std.proofs.Common.{List, sym, subst, arith}
 use Rattle.ice_defs.specs.Tree.{Tree}
-use Rattle.ice_tree.specs.Alike.{HasSetPerTree, HasWeightPerNode}
+use Rattle.ice_tree.specs.Alike.{HasSetPerTree}
 use Rattle.ice_check.proofs.stated.Stated.value_at.Goals as goal
 
 pub value-requires-clause-sets : goal.value-requires-clause-sets

@@ -1,6 +1,0 @@
-use Rattle.ice_section.proofs.Describing.{described_are_taken}
-use Rattle.ice_check.proofs.CarriedLaws.{session_is_written}
-use Rattle.ice_check.proofs.laws.session_is_written.Goals as goal
-
-pub returns : goal.returns
-returns c = session_is_written described_are_taken

@@ -1,0 +1,100 @@
+-- A session whose last settlement goes on.
+use Rattle.std.proofs.Common.{◌≡◌, ◌+◌, ◌<◌, ℕ, suc, List, [], ◌∷◌, ◌++◌, length, refl, sym, ◌∙◌, subst, arith}
+use Rattle.std.specs.List.{AllByRecursion}
+use Rattle.std.proofs.lemmas.List.{append-nil}
+use Rattle.ice_defs.specs.Bounds.{Bounds}
+use Rattle.ice_defs.specs.declared.Group.TheVariants.{Final}
+use Rattle.ice_defs.specs.Round.{Judged}
+use Rattle.ice_defs.specs.Exchange.{Exchange, exact_of, opening_bounds}
+use Rattle.ice_defs.specs.Right.{bounds_after_round}
+use Rattle.ice_defs.specs.Lawful.{IsExchange}
+use Rattle.ice_defs.specs.Session.{Going}
+use Rattle.ice_journal.specs.Records.{Record, Version, version_2, session_kind, open_end}
+use Rattle.ice_journal.specs.Records as line
+use Rattle.ice_journal.specs.Ranges.{IsRecord}
+use Rattle.ice_section.specs.Described.{section_records}
+use Rattle.ice_section.specs.Laws.{DescribedAreTaken}
+use Rattle.ice_journal_laws.specs.State.{at_group, State, begun, exchange_at, trees_at, goods_at}
+use Rattle.ice_journal_laws.specs.Next.{go_to, settled}
+use Rattle.ice_journal_laws.specs.Tests.{BalanceHolds}
+use Rattle.ice_journal_laws.specs.Assigning.{describing, section_of, described}
+use Rattle.ice_journal_laws.specs.Carrying.{Carries}
+use Rattle.ice_journal_laws.specs.SoFar.{IsSoFar}
+use Rattle.ice_journal_laws.specs.ShowingSession.{going_in, goings_in, AreShownGoing, last_going}
+use Rattle.ice_journal_laws.proofs.Carried.{TakesTo, carries_join, carries_same}
+use Rattle.ice_journal_laws.proofs.CarriedSection.{section_carries, first_settle_takes}
+use Rattle.ice_journal_laws.proofs.CarriedRegret.{some_trees}
+use Rattle.ice_journal_laws.proofs.CarriedRound.{resting_at, settle_takes}
+use Rattle.ice_journal_laws.proofs.CarriedGoing.{settling, with_going, going_carries}
+use Rattle.ice_journal_laws.proofs.CarriedStops.{no_file, round_stop_so_far}
+
+-- these records lead from here to the end of the round of this settlement, the last of so many, with these bounds
+pub record CarriesToRest (start : State) (records : List Record) (g : Going) (v : Version) (ex : Exchange) (number : ℕ) (bounds : List Bounds) : Type 0 where
+  pub state : State
+  pub carries : Carries start records (resting_at g.balance g.judged (with_going g state))
+  pub holds : BalanceHolds (with_going g state) g.balance.den g.balance.rows
+  pub version : state.version ≡ v
+  pub exchange : exchange_at state ≡ ex
+  pub number_is : state.number ≡ number
+  pub bounds_are : state.bounds ≡ bounds
+
+-- the bounds of the last of these
+abbrev pub bounds_at_last : Exchange → List Bounds → Going → List Going → List Bounds
+bounds_at_last ex bounds g [] = bounds
+bounds_at_last ex bounds g (other ∷ later) = bounds_at_last ex (bounds_after_round ex bounds g) other later
+
+abbrev behind : Going → State → State
+behind g s = settled (record (with_going g s) { judged = g.judged })
+
+-- settlements that go on, from here
+pub goings_carry : (g : Going) (later : List Going) (s start : State) → TakesTo start (line.settle s.number) (go_to (at_group Final) (settling s)) → 0 < length (trees_at s) → AreShownGoing (exchange_at s) s.number s.bounds (g ∷ later)
+    → CarriesToRest start (goings_in s.version (goods_at s) s.number (g ∷ later)) (last_going g later) s.version (exchange_at s) (s.number + length later) (bounds_at_last (exchange_at s) s.bounds g later)
+goings_carry g [] s start settles some is = record {
+  state = s;
+  carries = carries_same start _ (going_in s.version (goods_at s) s.number g) (going_in s.version (goods_at s) s.number g ++ []) (sym (append-nil (going_in s.version (goods_at s) s.number g))) (going_carries s start g settles some is.0 is.1);
+  holds = is.1.pricing.balance;
+  version = refl;
+  exchange = refl;
+  number_is = omega arith;
+  bounds_are = refl;
+}
+goings_carry g (other ∷ later) s start settles some is =
+    let rest = goings_carry other later (behind g s) (resting_at g.balance g.judged (with_going g s)) (settle_takes (with_going g s) g.balance g.judged is.1.pricing.balance) some is.2 in
+    record {
+      state = rest.state;
+      carries =
+          carries_join start (resting_at g.balance g.judged (with_going g s)) (resting_at (last_going other later).balance (last_going other later).judged (with_going (last_going other later) rest.state)) (going_in s.version (goods_at s) s.number g) (goings_in s.version (goods_at s) (suc s.number) (other ∷ later))
+          (going_carries s start g settles some is.0 is.1) rest.carries;
+      holds = rest.holds;
+      version = rest.version;
+      exchange = rest.exchange;
+      number_is = omega (arith, rest.number_is);
+      bounds_are = rest.bounds_are;
+    }
+
+module _ (taken : DescribedAreTaken) (v : Version) (ex : Exchange) (lawful : IsExchange ex) (g : Going) (later : List Going) (is : AreShownGoing ex 0 (opening_bounds ex) (g ∷ later)) where
+  -- a session as far as its rounds go
+  pub open_carries : CarriesToRest (begun v session_kind) (section_records ex ++ goings_in v (length (exact_of ex)) 0 (g ∷ later)) (last_going g later) v ex (length later) (bounds_at_last ex (opening_bounds ex) g later)
+  open_carries =
+      let rest = goings_carry g later (described v session_kind 2 ex) (describing v session_kind 2 (section_of ex)) (first_settle_takes v ex lawful) (some_trees ex lawful) is in
+      record {
+        state = rest.state;
+        carries =
+            carries_join (begun v session_kind) (describing v session_kind 2 (section_of ex)) (resting_at (last_going g later).balance (last_going g later).judged (with_going (last_going g later) rest.state)) (section_records ex) (goings_in v (length (exact_of ex)) 0 (g ∷ later))
+            (section_carries taken v session_kind ex lawful) rest.carries;
+        holds = rest.holds;
+        version = rest.version;
+        exchange = rest.exchange;
+        number_is = rest.number_is ∙ omega arith;
+        bounds_are = rest.bounds_are;
+      }
+
+-- it stops for want of a round file where its last round has no submission
+pub open_so_far : DescribedAreTaken → (ex : Exchange) → IsExchange ex → (g : Going) (later : List Going) → AreShownGoing ex 0 (opening_bounds ex) (g ∷ later) → (last_going g later).judged ≡ []
+    → AllByRecursion IsRecord (line.head version_2 session_kind ∷ (section_records ex ++ goings_in version_2 (length (exact_of ex)) 0 (g ∷ later) ++ line.end open_end ∷ []))
+    → IsSoFar session_kind (line.head version_2 session_kind ∷ (section_records ex ++ goings_in version_2 (length (exact_of ex)) 0 (g ∷ later) ++ line.end open_end ∷ []))
+open_so_far taken ex lawful g later is none records =
+    let rest = open_carries taken version_2 ex lawful g later is in
+    round_stop_so_far session_kind (section_records ex ++ goings_in version_2 (length (exact_of ex)) 0 (g ∷ later)) (with_going (last_going g later) rest.state) (last_going g later).balance (line.end open_end)
+    (subst (λ (judged : List Judged). Carries (begun version_2 session_kind) (section_records ex ++ goings_in version_2 (length (exact_of ex)) 0 (g ∷ later)) (resting_at (last_going g later).balance judged (with_going (last_going g later) rest.state))) none rest.carries)
+    rest.holds no_file records

@@ -1,0 +1,102 @@
+-- Why a checked journal may be trusted: the theorems of the checker, as statements.
+use Rattle.std.specs.Prelude.{◌≡◌, List, ◌∷◌, ℤ}
+use Rattle.std.specs.List.{AllByRecursion}
+use Rattle.ice_defs.specs.Trade.{IsFeasible, total_value}
+use Rattle.ice_defs.specs.Weighing.{lower_weights}
+use Rattle.ice_defs.specs.Fraction.{Fraction}
+use Rattle.ice_defs.specs.Exchange.{trees_of, exact_of, opening_bounds}
+use Rattle.ice_defs.specs.Lawful.{IsExchange}
+use Rattle.ice_defs.specs.Session.{Assigned, Regretted, Session}
+use Rattle.ice_defs.specs.Right.{IsSettled, IsRight}
+use Rattle.ice_defs.specs.Headline.{Headline}
+use Rattle.ice_journal.specs.Records.{Record, Kind, assign_kind, regret_kind, session_kind}
+use Rattle.ice_journal.specs.Records as line
+use Rattle.ice_journal.specs.Ranges.{IsRecord}
+use Rattle.ice_journal.specs.Plain.{plain}
+use Rattle.ice_journal_laws.specs.State.{done, State, exchange_at}
+use Rattle.ice_journal_laws.specs.Checks.{Checks}
+use Rattle.ice_journal_laws.specs.Progress.{nothing, passing, Leads}
+use Rattle.ice_journal_laws.specs.Written.{assigned_records, regretted_records, session_records}
+
+-- the journal says this, in either version
+abbrev pub Says : List Record → List Record → Type 0
+Says journal written = plain journal ≡ written
+
+abbrev pub HasKind : Kind → List Record → Type 0
+HasKind kind (line.head version other ∷ rest) = other ≡ kind
+HasKind kind other = ⊥
+
+-- a right regret journal states the best value at lower values, and the exact regret of its sets
+pub record IsRightRegret (r : Regretted) : Type 0 where
+  pub exchange : IsExchange r.exchange
+  pub settled : IsSettled r.exchange (opening_bounds r.exchange) r.settlement
+
+-- an assign journal that passes every test states a feasible assignment
+pub record IsRightAssigned (a : Assigned) : Type 0 where
+  pub exchange : IsExchange a.exchange
+  pub feasible : IsFeasible (trees_of a.exchange) (exact_of a.exchange) a.sets
+
+-- where the records of an assign journal lead to its end, they state this exchange and these sets
+abbrev pub assigned_at : State → Assigned
+assigned_at s = record { exchange = exchange_at s; sets = s.final.sets }
+
+pub record AreAssigned (journal : List Record) (s : State) : Type 0 where
+  pub says : Says journal (assigned_records (assigned_at s))
+  pub right : IsRightAssigned (assigned_at s)
+  pub bounds : s.bounds ≡ opening_bounds (exchange_at s)
+
+abbrev pub DoneIsAssigned : Type 0
+DoneIsAssigned = (journal : List Record) (s : State) → AllByRecursion IsRecord journal → Leads nothing journal (passing s) → s.place ≡ done → s.kind ≡ assign_kind → AreAssigned journal s
+
+abbrev pub ChecksGiveAssigned : Type 0
+ChecksGiveAssigned = (journal : List Record) → HasKind assign_kind journal → AllByRecursion IsRecord journal → Checks journal → (a : Assigned) × Says journal (assigned_records a) × IsRightAssigned a
+
+-- where the records of a regret journal lead to its end, they state the end's exchange and a right settlement of it, with the end's regret
+pub record IsRegrettedAt (journal : List Record) (s : State) (r : Regretted) : Type 0 where
+  pub says : Says journal (regretted_records r)
+  pub right : IsRightRegret r
+  pub exchange : r.exchange ≡ exchange_at s
+  pub regret : r.settlement.regret ≡ s.regret
+
+abbrev pub AreRegretted : List Record → State → Type 0
+AreRegretted journal s = (r : Regretted) × IsRegrettedAt journal s r
+
+abbrev pub DoneIsRegretted : Type 0
+DoneIsRegretted = (journal : List Record) (s : State) → AllByRecursion IsRecord journal → Leads nothing journal (passing s) → s.place ≡ done → s.kind ≡ regret_kind → AreRegretted journal s
+
+abbrev pub ChecksGiveRegret : Type 0
+ChecksGiveRegret = (journal : List Record) → HasKind regret_kind journal → AllByRecursion IsRecord journal → Checks journal → (r : Regretted) × Says journal (regretted_records r) × IsRightRegret r
+
+-- where the records of a session lead to its end, they state the end's exchange and a right session, with the end's regret and surplus
+pub record IsSessionAt (journal : List Record) (s : State) (x : Session) : Type 0 where
+  pub says : Says journal (session_records x)
+  pub right : IsRight x
+  pub exchange : x.exchange ≡ exchange_at s
+  pub regret : x.closed.settlement.regret ≡ s.regret
+  pub surplus : x.closed.surplus ≡ s.surplus
+
+abbrev pub IsSession : List Record → State → Type 0
+IsSession journal s = (x : Session) × IsSessionAt journal s x
+
+abbrev pub DoneIsRight : Type 0
+DoneIsRight = (journal : List Record) (s : State) → AllByRecursion IsRecord journal → Leads nothing journal (passing s) → s.place ≡ done → s.kind ≡ session_kind → IsSession journal s
+
+-- a session that passes every test is a right one
+abbrev pub ChecksGiveRight : Type 0
+ChecksGiveRight = (journal : List Record) → HasKind session_kind journal → AllByRecursion IsRecord journal → Checks journal → (s : Session) × Says journal (session_records s) × IsRight s
+
+-- the numbers of a yes
+pub data Yes : Type 0 where
+  of_assigned : (value : ℤ) → Yes
+  of_regret : (amount : ℤ) → Yes
+  of_session : (regret : ℤ) → (surplus : Fraction) → Yes
+
+-- the checker's yes to a journal, and what it says
+abbrev pub IsYes : List Record → Yes → Type 0
+IsYes journal (of_assigned value) = (a : Assigned) × Says journal (assigned_records a) × IsRightAssigned a × (value ≡ total_value a.sets (lower_weights (opening_bounds a.exchange)))
+IsYes journal (of_regret amount) = (r : Regretted) × Says journal (regretted_records r) × IsRightRegret r × (amount ≡ r.settlement.regret)
+IsYes journal (of_session regret surplus) = (s : Session) × Says journal (session_records s) × IsRight s × Headline s × (regret ≡ s.closed.settlement.regret) × (surplus ≡ s.closed.surplus)
+
+-- where the records of a session lead to its end, the checker may say yes to it, with the end's regret and surplus
+abbrev pub SessionIsYes : Type 0
+SessionIsYes = (journal : List Record) (s : State) → AllByRecursion IsRecord journal → Leads nothing journal (passing s) → s.place ≡ done → s.kind ≡ session_kind → IsYes journal (of_session s.regret s.surplus)
