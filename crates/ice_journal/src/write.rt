@@ -1,4 +1,4 @@
-ghost use Rattle.std.specs.Prelude.{◌≡◌, []};
+ghost use Rattle.std.specs.Prelude.{◌≡◌, ◌≤◌, [], length};
 ghost use Rattle.ice_journal.specs.Ranges.{IsRecord};
 ghost use Rattle.ice_journal.specs.Spelling.{text_of};
 ghost use Rattle.ice_journal.specs.Lines.{record_of};
@@ -10,11 +10,12 @@ use crate::write_log::*;
 use crate::write_session::*;
 use ice_line::LineWriter;
 
-/// Writes the one spelling of a record into an empty line. It takes no memory.
+/// Writes the one spelling of a record into an empty line, of at most 8,192 bytes. It takes no memory.
 pub fn write_record(line: &Line, to: &mut LineWriter)
     requires lawful { IsRecord (record_of line.now) }
     requires empty { to.old ≡ [] }
-    ensures { to.new ≡ text_of (record_of line.now) }
+    ensures text { to.new ≡ text_of (record_of line.now) }
+    ensures short { length to.new ≤ 8192 }
 {
     match line {
         Line::Head { version, kind } => put_head(*version, *kind, to),

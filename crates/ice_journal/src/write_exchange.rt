@@ -38,7 +38,8 @@ fn kind_text(kind: Kind) -> &'static [u8]
 
 pub(crate) fn put_head(version: Version, kind: Kind, to: &mut LineWriter)
     requires { to.old ≡ [] }
-    ensures { to.new ≡ text_of (line.head (version_of version) (kind_of kind)) }
+    ensures text { to.new ≡ text_of (line.head (version_of version) (kind_of kind)) }
+    ensures short { length to.new ≤ 8192 }
 {
     to.word(b"ice");
     to.word(version_text(version));
@@ -47,7 +48,8 @@ pub(crate) fn put_head(version: Version, kind: Kind, to: &mut LineWriter)
 
 pub(crate) fn put_settings(settings: &Settings, to: &mut LineWriter)
     requires { to.old ≡ [] }
-    ensures { to.new ≡ text_of (line.settings settings.now) }
+    ensures text { to.new ≡ text_of (line.settings settings.now) }
+    ensures short { length to.new ≤ 8192 }
 {
     to.word(b"settings");
     to.natural(u64::from(settings.weight));
@@ -61,7 +63,8 @@ pub(crate) fn put_settings(settings: &Settings, to: &mut LineWriter)
 fn put_amounts(own: &[u32], to: &mut LineWriter)
     requires room { length to.old ≤ 1000 }
     requires count { length own.now ≤ 32 }
-    ensures { to.new ≡ with_fields to.old (map decimal own.now) }
+    ensures text { to.new ≡ with_fields to.old (map decimal own.now) }
+    ensures short { length to.new ≤ 2312 }
 {
     for amount in own {
         to.natural(u64::from(*amount));
@@ -71,7 +74,8 @@ fn put_amounts(own: &[u32], to: &mut LineWriter)
 pub(crate) fn put_bidder(name: &Name, own: &[u32], to: &mut LineWriter)
     requires empty { to.old ≡ [] }
     requires count { length own.now ≤ 32 }
-    ensures { to.new ≡ text_of (line.bidder name.now own.now) }
+    ensures text { to.new ≡ text_of (line.bidder name.now own.now) }
+    ensures short { length to.new ≤ 8192 }
 {
     to.word(b"bidder");
     to.word(name.bytes());
@@ -80,7 +84,8 @@ pub(crate) fn put_bidder(name: &Name, own: &[u32], to: &mut LineWriter)
 
 fn put_choose(least: u16, most: u16, children: u16, lo: i64, hi: i64, to: &mut LineWriter)
     requires { to.old ≡ [] }
-    ensures { to.new ≡ text_of (line.choose least most children lo hi) }
+    ensures text { to.new ≡ text_of (line.choose least most children lo hi) }
+    ensures short { length to.new ≤ 8192 }
 {
     to.word(b"node");
     to.word(b"choose");
@@ -95,7 +100,8 @@ fn put_choose(least: u16, most: u16, children: u16, lo: i64, hi: i64, to: &mut L
 fn put_leaf(word: &[u8], good: u8, units: u16, lo: i64, hi: i64, to: &mut LineWriter)
     requires empty { to.old ≡ [] }
     requires short { length word.now ≤ 20 }
-    ensures { to.new ≡ join_with_byte 32 (codes "node" ∷ word.now ∷ decimal good ∷ decimal units ∷ signed_decimal lo ∷ signed_decimal hi ∷ []) }
+    ensures text { to.new ≡ join_with_byte 32 (codes "node" ∷ word.now ∷ decimal good ∷ decimal units ∷ signed_decimal lo ∷ signed_decimal hi ∷ []) }
+    ensures short { length to.new ≤ 8192 }
 {
     to.word(b"node");
     to.word(word);
@@ -107,7 +113,8 @@ fn put_leaf(word: &[u8], good: u8, units: u16, lo: i64, hi: i64, to: &mut LineWr
 
 pub(crate) fn put_node(kind: NodeKind, children: u16, lo: i64, hi: i64, to: &mut LineWriter)
     requires { to.old ≡ [] }
-    ensures { to.new ≡ text_of (node_record kind children lo hi) }
+    ensures text { to.new ≡ text_of (node_record kind children lo hi) }
+    ensures short { length to.new ≤ 8192 }
 {
     match kind {
         NodeKind::Choose { least, most } => put_choose(least, most, children, lo, hi, to),

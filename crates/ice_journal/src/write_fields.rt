@@ -15,7 +15,8 @@ use ice_terms::Name;
 pub(crate) fn put_name(word: &[u8], name: &Name, to: &mut LineWriter)
     requires empty { to.old ≡ [] }
     requires short { length word.now ≤ 20 }
-    ensures { to.new ≡ with_field word.now name.now }
+    ensures text { to.new ≡ with_field word.now name.now }
+    ensures short { length to.new ≤ 8192 }
 {
     to.word(word);
     to.word(name.bytes());
@@ -25,7 +26,8 @@ pub(crate) fn put_name(word: &[u8], name: &Name, to: &mut LineWriter)
 pub(crate) fn put_natural(word: &[u8], number: u64, to: &mut LineWriter)
     requires empty { to.old ≡ [] }
     requires short { length word.now ≤ 20 }
-    ensures { to.new ≡ with_field word.now (decimal number) }
+    ensures text { to.new ≡ with_field word.now (decimal number) }
+    ensures short { length to.new ≤ 8192 }
 {
     to.word(word);
     to.natural(number);
@@ -35,7 +37,8 @@ pub(crate) fn put_natural(word: &[u8], number: u64, to: &mut LineWriter)
 pub(crate) fn put_integer(word: &[u8], number: i64, to: &mut LineWriter)
     requires empty { to.old ≡ [] }
     requires short { length word.now ≤ 20 }
-    ensures { to.new ≡ with_field word.now (signed_decimal number) }
+    ensures text { to.new ≡ with_field word.now (signed_decimal number) }
+    ensures short { length to.new ≤ 8192 }
 {
     to.word(word);
     to.integer(number);
@@ -56,7 +59,8 @@ fn bits_text(set: &NodeSet) -> ArrayVec<u8, 200>
 /// A set of nodes, one character per node.
 pub(crate) fn put_set(set: &NodeSet, to: &mut LineWriter)
     requires { length to.old ≤ 1000 }
-    ensures { to.new ≡ with_field to.old (bits set.now) }
+    ensures text { to.new ≡ with_field to.old (bits set.now) }
+    ensures short { length to.new ≤ length to.old + 201 }
 {
     to.word(&bits_text(set));
 }
@@ -65,7 +69,8 @@ pub(crate) fn put_set(set: &NodeSet, to: &mut LineWriter)
 pub(crate) fn put_integers(numbers: &[i64], to: &mut LineWriter)
     requires room { length to.old ≤ 1000 }
     requires count { length numbers.now ≤ 32 }
-    ensures { to.new ≡ with_fields to.old (map signed_decimal numbers.now) }
+    ensures text { to.new ≡ with_fields to.old (map signed_decimal numbers.now) }
+    ensures short { length to.new ≤ 2312 }
 {
     for number in numbers {
         to.integer(*number);

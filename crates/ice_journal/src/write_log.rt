@@ -14,7 +14,8 @@ use ice_set::NodeSet;
 
 pub(crate) fn put_without(bidder: u8, value: i64, to: &mut LineWriter)
     requires { to.old ≡ [] }
-    ensures { to.new ≡ text_of (line.without bidder value) }
+    ensures text { to.new ≡ text_of (line.without bidder value) }
+    ensures short { length to.new ≤ 8192 }
 {
     to.word(b"without");
     to.natural(u64::from(bidder));
@@ -23,7 +24,8 @@ pub(crate) fn put_without(bidder: u8, value: i64, to: &mut LineWriter)
 
 pub(crate) fn put_set_record(set: &NodeSet, to: &mut LineWriter)
     requires { to.old ≡ [] }
-    ensures { to.new ≡ text_of (line.set set.now) }
+    ensures text { to.new ≡ text_of (line.set set.now) }
+    ensures short { length to.new ≤ 8192 }
 {
     to.word(b"set");
     put_set(set, to);
@@ -31,7 +33,8 @@ pub(crate) fn put_set_record(set: &NodeSet, to: &mut LineWriter)
 
 pub(crate) fn put_branch(bidder: u8, node: u16, to: &mut LineWriter)
     requires { to.old ≡ [] }
-    ensures { to.new ≡ text_of (line.step (branch bidder node)) }
+    ensures text { to.new ≡ text_of (line.step (branch bidder node)) }
+    ensures short { length to.new ≤ 8192 }
 {
     to.word(b"branch");
     to.natural(u64::from(bidder));
@@ -41,7 +44,8 @@ pub(crate) fn put_branch(bidder: u8, node: u16, to: &mut LineWriter)
 pub(crate) fn put_leaf(multipliers: &[i64], to: &mut LineWriter)
     requires empty { to.old ≡ [] }
     requires count { length multipliers.now ≤ 32 }
-    ensures { to.new ≡ text_of (line.step (leaf multipliers.now)) }
+    ensures text { to.new ≡ text_of (line.step (leaf multipliers.now)) }
+    ensures short { length to.new ≤ 8192 }
 {
     to.word(b"leaf");
     put_integers(multipliers, to);
@@ -50,7 +54,8 @@ pub(crate) fn put_leaf(multipliers: &[i64], to: &mut LineWriter)
 fn put_changes(changes: &[Change], to: &mut LineWriter)
     requires room { length to.old ≤ 1000 }
     requires count { length changes.now ≤ 32 }
-    ensures { to.new ≡ with_fields to.old (flat_map change_fields (map change_of changes.now)) }
+    ensures text { to.new ≡ with_fields to.old (flat_map change_fields (map change_of changes.now)) }
+    ensures short { length to.new ≤ 3624 }
 {
     for change in changes {
         to.natural(u64::from(change.good));
@@ -61,7 +66,8 @@ fn put_changes(changes: &[Change], to: &mut LineWriter)
 pub(crate) fn put_near(changes: &[Change], to: &mut LineWriter)
     requires empty { to.old ≡ [] }
     requires count { length changes.now ≤ 32 }
-    ensures { to.new ≡ text_of (line.near (map change_of changes.now)) }
+    ensures text { to.new ≡ text_of (line.near (map change_of changes.now)) }
+    ensures short { length to.new ≤ 8192 }
 {
     to.word(b"near");
     to.natural(changes.len() as u64);

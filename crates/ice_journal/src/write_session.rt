@@ -77,7 +77,8 @@ fn put_values(values: &[i32], to: &mut LineWriter)
 
 pub(crate) fn put_verdict(verdict: Verdict, to: &mut LineWriter)
     requires { to.old ≡ [] }
-    ensures { to.new ≡ text_of (line.verdict verdict) }
+    ensures text { to.new ≡ text_of (line.verdict verdict) }
+    ensures short { length to.new ≤ 8192 }
 {
     to.word(b"verdict");
     match verdict {
@@ -101,7 +102,8 @@ pub(crate) fn put_verdict(verdict: Verdict, to: &mut LineWriter)
 pub(crate) fn put_prices(prices: &Prices, to: &mut LineWriter)
     requires empty { to.old ≡ [] }
     requires count { length prices.now.nums ≤ 32 }
-    ensures { to.new ≡ text_of (line.prices prices.now) }
+    ensures text { to.new ≡ text_of (line.prices prices.now) }
+    ensures short { length to.new ≤ 8192 }
 {
     to.word(b"prices");
     to.integer(prices.den());
@@ -110,7 +112,8 @@ pub(crate) fn put_prices(prices: &Prices, to: &mut LineWriter)
 
 pub(crate) fn put_accuracy(violation: i128, den: u64, to: &mut LineWriter)
     requires { to.old ≡ [] }
-    ensures { to.new ≡ text_of (line.accuracy violation den) }
+    ensures text { to.new ≡ text_of (line.accuracy violation den) }
+    ensures short { length to.new ≤ 8192 }
 {
     to.word(b"accuracy");
     to.number(violation);
@@ -119,7 +122,8 @@ pub(crate) fn put_accuracy(violation: i128, den: u64, to: &mut LineWriter)
 
 pub(crate) fn put_row(bidder: u8, weight: u64, set: &NodeSet, to: &mut LineWriter)
     requires { to.old ≡ [] }
-    ensures { to.new ≡ text_of (line.row bidder weight set.now) }
+    ensures text { to.new ≡ text_of (line.row bidder weight set.now) }
+    ensures short { length to.new ≤ 8192 }
 {
     to.word(b"row");
     to.natural(u64::from(bidder));
@@ -133,7 +137,8 @@ pub(crate) fn put_submission(name: &Name, lo: &[i32], hi: &[i32], to: &mut LineW
     requires lo { AllByRecursion IsValue lo.now }
     requires hi_count { length hi.now ≤ 200 }
     requires hi { AllByRecursion IsValue hi.now }
-    ensures { to.new ≡ text_of (line.submit (record { name = name.now; lo = lo.now; hi = hi.now })) }
+    ensures text { to.new ≡ text_of (line.submit (record { name = name.now; lo = lo.now; hi = hi.now })) }
+    ensures short { length to.new ≤ 8192 }
 {
     to.word(b"submit");
     to.word(name.bytes());
@@ -143,7 +148,8 @@ pub(crate) fn put_submission(name: &Name, lo: &[i32], hi: &[i32], to: &mut LineW
 
 pub(crate) fn put_threshold(cut: &LowestFraction, surplus: &LowestFraction, to: &mut LineWriter)
     requires { to.old ≡ [] }
-    ensures { to.new ≡ text_of (line.threshold (fraction_of cut.now) (fraction_of surplus.now)) }
+    ensures text { to.new ≡ text_of (line.threshold (fraction_of cut.now) (fraction_of surplus.now)) }
+    ensures short { length to.new ≤ 8192 }
 {
     to.word(b"threshold");
     put_fraction(cut, to);
@@ -158,7 +164,8 @@ pub(crate) fn put_payment(
     to: &mut LineWriter,
 )
     requires { to.old ≡ [] }
-    ensures { to.new ≡ text_of (line.payment name.now vickrey (fraction_of discount.now) (fraction_of payment.now)) }
+    ensures text { to.new ≡ text_of (line.payment name.now vickrey (fraction_of discount.now) (fraction_of payment.now)) }
+    ensures short { length to.new ≤ 8192 }
 {
     to.word(b"payment");
     to.word(name.bytes());
@@ -169,7 +176,8 @@ pub(crate) fn put_payment(
 
 pub(crate) fn put_spent(value: i64, bound: i128, to: &mut LineWriter)
     requires { to.old ≡ [] }
-    ensures { to.new ≡ text_of (line.spent value bound) }
+    ensures text { to.new ≡ text_of (line.spent value bound) }
+    ensures short { length to.new ≤ 8192 }
 {
     to.word(b"spent");
     to.integer(value);
@@ -184,7 +192,8 @@ pub(crate) fn put_limit(
     to: &mut LineWriter,
 )
     requires { to.old ≡ [] }
-    ensures { to.new ≡ text_of (line.limit (stage_of stage) (limit_of kind) violation den) }
+    ensures text { to.new ≡ text_of (line.limit (stage_of stage) (limit_of kind) violation den) }
+    ensures short { length to.new ≤ 8192 }
 {
     to.word(b"limit");
     to.word(stage_text(stage));
@@ -195,7 +204,8 @@ pub(crate) fn put_limit(
 
 pub(crate) fn put_pool(bidder: u8, set: &NodeSet, to: &mut LineWriter)
     requires { to.old ≡ [] }
-    ensures { to.new ≡ text_of (line.pool bidder set.now) }
+    ensures text { to.new ≡ text_of (line.pool bidder set.now) }
+    ensures short { length to.new ≤ 8192 }
 {
     to.word(b"pool");
     to.natural(u64::from(bidder));
@@ -204,7 +214,8 @@ pub(crate) fn put_pool(bidder: u8, set: &NodeSet, to: &mut LineWriter)
 
 pub(crate) fn put_end(word: EndWord, to: &mut LineWriter)
     requires { to.old ≡ [] }
-    ensures { to.new ≡ text_of (line.end (end_of word)) }
+    ensures text { to.new ≡ text_of (line.end (end_of word)) }
+    ensures short { length to.new ≤ 8192 }
 {
     to.word(b"end");
     to.word(end_text(word));
@@ -213,7 +224,8 @@ pub(crate) fn put_end(word: EndWord, to: &mut LineWriter)
 pub(crate) fn put_refused(file: u8, number: u8, place: &[u8], to: &mut LineWriter)
     requires empty { to.old ≡ [] }
     requires short { length place.now ≤ 256 }
-    ensures { to.new ≡ text_of (line.refused file number place.now) }
+    ensures text { to.new ≡ text_of (line.refused file number place.now) }
+    ensures short { length to.new ≤ 8192 }
 {
     to.word(b"refused");
     to.natural(u64::from(file));

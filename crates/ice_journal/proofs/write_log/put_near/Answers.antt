@@ -9,8 +9,8 @@ use Rattle.ice_journal.specs.Lines.{change_of}
 use Rattle.ice_journal.proofs.Joined.{text_is}
 use Rattle.ice_journal.proofs.write_log.put_near.Goals as goal
 
-pub returns : goal.returns
-returns c =
+pub returns-clause-text : goal.returns-clause-text
+returns-clause-text c =
     let changes = map change_of c.args.changes.now in
     let all : c.put_changes.new.to ≡ with_fields (codes "near") (decimal (length c.args.changes.now) ∷ flat_map change_fields changes) = search rules in
     text_is (line.near changes) 110 (101 ∷ 97 ∷ 114 ∷ []) (decimal (length changes) ∷ flat_map change_fields changes) c.put_changes.new.to refl

@@ -6,8 +6,8 @@ use Rattle.ice_journal.specs.Spelling.{counted, submission_fields}
 use Rattle.ice_journal.proofs.Joined.{text_is, with_fields-append}
 use Rattle.ice_journal.proofs.write_session.put_submission.Goals as goal
 
-pub returns : goal.returns
-returns c =
+pub returns-clause-text : goal.returns-clause-text
+returns-clause-text c =
     let named = with_field (codes "submit") c.args.name.now in
     let all : c.put_values-2.new.to ≡ with_fields (with_fields named (counted c.args.lo.now)) (counted c.args.hi.now) = search rules in
     text_is (line.submit (record { name = c.args.name.now; lo = c.args.lo.now; hi = c.args.hi.now })) 115 (117 ∷ 98 ∷ 109 ∷ 105 ∷ 116 ∷ [])
