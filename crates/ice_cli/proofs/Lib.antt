@@ -1,5 +1,4 @@
 -- puts one after another, and counts that rose
-pub mod Puts
 -- parts of a call, and what is said of a part's answer
 pub mod Parts
 -- why a file is not had

@@ -11,7 +11,7 @@ use Rattle.ice_cli.specs.Call.{Call, OfTold, OfFile, IsRefused, too_long, at_fau
 use Rattle.ice_cli.specs.Parts.{HasPart, AreFetched}
 use Rattle.ice_cli.specs.Refusals.{fault_of, IsRefusal, Refuses, NoFault, IsFaultOf}
 use Rattle.ice_cli.proofs.Parts.{told_in_call}
-use Rattle.ice_cli.proofs.Puts.{rose-later, rose-sooner}
+use Rattle.ice_edge.proofs.Puts.{rose-later, rose-sooner}
 
 pub unread : (number : ℕ) (name : List ℕ) (limit : ℕ) (HasFault : List ℕ → FileFault → Type 0) (before after : Told)
     → shelf.FaultRose before after name → Refuses number name limit HasFault before after (Unread number)

@@ -5,3 +5,4 @@ pub mod MemoryShelf
 pub mod MemorySink
 pub mod RealCounts
 pub mod MemoryFile
+pub mod Puts

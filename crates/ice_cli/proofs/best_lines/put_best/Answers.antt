@@ -2,7 +2,7 @@ use Rattle.std.specs.List.{flat_map}
 use Rattle.std.proofs.lemmas.Result.{MatchResult-weaker}
 use Rattle.ice_cli.specs.Output.{best_end}
 use Rattle.ice_cli.specs.Bests.{lines_of}
-use Rattle.ice_cli.proofs.Puts.{append-front}
+use Rattle.ice_edge.proofs.Puts.{append-front}
 use Rattle.ice_cli.proofs.best_lines.put_best.Goals as goal
 
 pub returns-clause-err : goal.returns-clause-err

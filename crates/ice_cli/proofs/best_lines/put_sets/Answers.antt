@@ -2,7 +2,7 @@ use Rattle.std.proofs.Common.{◌+◌, ◌<◌, ◌++◌, length, take, drop, ar
 use Rattle.std.specs.List.{flat_map}
 use Rattle.std.proofs.lemmas.Result.{err_from_is_err_and}
 use Rattle.ice_cli.specs.Bests.{lines_of}
-use Rattle.ice_cli.proofs.Puts.{front-append, append-front, text_split}
+use Rattle.ice_edge.proofs.Puts.{front-append, append-front, text_split}
 use Rattle.ice_cli.proofs.best_lines.put_sets.Goals as goal
 
 pub returns-in_err-put-clause-err : goal.returns-in_err-put-clause-err

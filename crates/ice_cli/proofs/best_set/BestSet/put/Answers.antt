@@ -4,7 +4,7 @@ use Rattle.std.proofs.lemmas.Result.{MatchResult-weaker, err_from_is_err_and}
 use Rattle.ice_journal.specs.Records as line
 use Rattle.ice_journal.specs.Spelling.{line_of}
 use Rattle.ice_cli.specs.Output.{line_text}
-use Rattle.ice_cli.proofs.Puts.{front-append, append-front}
+use Rattle.ice_edge.proofs.Puts.{front-append, append-front}
 use Rattle.ice_cli.proofs.best_set.BestSet.put.Goals as goal
 
 pub returns-in_err-put-clause-err : goal.returns-in_err-put-clause-err

@@ -1,0 +1,94 @@
+-- Puts one after another, seen as one put of the whole text.
+use Rattle.std.proofs.Common.{◌≡◌, ◌∙◌, ap, sym, refl, subst, ℕ, ◌+◌, ◌<◌, ◌≤◌, List, [], ◌∷◌, ◌++◌, length, get_or, take, drop, Option, Some, None, append_assoc, length-append, arith}
+use Rattle.std.proofs.lemmas.List.{append-nil, take-append-le, take-append-drop, take_more}
+use Rattle.std.proofs.lemmas.List.Concat.{flat_map-append}
+use Rattle.std.specs.List.{flat_map}
+use Rattle.std.proofs.Math.Seq.{take-append-add}
+use Rattle.ice_edge.specs.Edge.{Rose, Appends, AppendsFront}
+use Rattle.ice_edge.specs.Puts.{Takes, FailsIn, TakesAllBut}
+
+pub Appends-nothing : (old : Option (List ℕ)) → Appends old [] old
+Appends-nothing None = tt
+Appends-nothing (Some old) = ap (λ (l : List ℕ). Some l) (sym (append-nil old))
+
+pub Appends-append : (old mid new : Option (List ℕ)) (t u : List ℕ) → Appends old t mid → Appends mid u new → Appends old (t ++ u) new
+Appends-append None mid new t u a b = tt
+Appends-append (Some old) mid new t u a b =
+    let P : Option (List ℕ) → Type 0 = λ m. Appends m u new in
+    let e : new ≡ Some ((old ++ t) ++ u) = subst P a b in
+    e ∙ ap (λ (l : List ℕ). Some l) (append_assoc old t u)
+
+-- the front of a first text is the front of the whole
+pub front-append : (old new : Option (List ℕ)) (t u : List ℕ) → AppendsFront old t new → AppendsFront old (t ++ u) new
+front-append old new t u (n, le, a) =
+    let P : List ℕ → Type 0 = λ front. Appends old front new in
+    (n, omega (arith, length-append t u), subst P (sym (take-append-le n t u le)) a)
+
+-- and so is the first text with a front of the second
+pub append-front : (old mid new : Option (List ℕ)) (t u : List ℕ) → Appends old t mid → AppendsFront mid u new → AppendsFront old (t ++ u) new
+append-front old mid new t u a (n, le, b) =
+    let P : List ℕ → Type 0 = λ front. Appends old front new in
+    (length t + n, omega (arith, length-append t u), subst P (sym (take-append-add t u n)) (Appends-append old mid new t (take n u) a b))
+
+pub rose-later : (a b c : ℕ) → Rose a b → b ≤ c → Rose a c
+rose-later a b c rose le h = omega (arith, rose)
+
+pub rose-sooner : (a b c : ℕ) → a ≤ b → Rose b c → Rose a c
+rose-sooner a b c le rose h = omega (arith, rose h)
+
+-- ---- the text of a list, piece by piece
+
+pub text_more : {X : Type 0} (f : X → List ℕ) (xs : List X) (i : ℕ) (x : X) → i < length xs → x ≡ get_or xs i x → flat_map f (take (i + 1) xs) ≡ flat_map f (take i xs) ++ f x
+text_more f xs i x h is =
+    ap (flat_map f) (take_more xs i x h ∙ ap (λ y. take i xs ++ y ∷ []) (sym is)) ∙ flat_map-append f (take i xs) (x ∷ []) ∙ ap (λ t. flat_map f (take i xs) ++ t) (append-nil (f x))
+
+pub text_split : {X : Type 0} (f : X → List ℕ) (xs : List X) (i : ℕ) (x : X) → i < length xs → x ≡ get_or xs i x
+    → flat_map f xs ≡ (flat_map f (take i xs) ++ f x) ++ flat_map f (drop (i + 1) xs)
+text_split f xs i x h is =
+    ap (flat_map f) (sym (take-append-drop (i + 1) xs)) ∙ flat_map-append f (take (i + 1) xs) (drop (i + 1) xs)
+    ∙ ap (λ t. t ++ flat_map f (drop (i + 1) xs)) (text_more f xs i x h is)
+
+-- ---- what is left of a whole text
+
+pub takes_nothing : (old : Option (List ℕ)) (faults : ℕ) → Takes [] old old faults faults
+takes_nothing old faults = record { appends = Appends-nothing old; later = omega arith }
+
+pub takes_join : (t u : List ℕ) (old mid new : Option (List ℕ)) (f g h : ℕ) → Takes t old mid f g → Takes u mid new g h → Takes (t ++ u) old new f h
+takes_join t u old mid new f g h a b = record { appends = Appends-append old mid new t u a.appends b.appends; later = omega (arith, a.later, b.later) }
+
+pub all_left : (whole : List ℕ) (old : Option (List ℕ)) (faults : ℕ) → TakesAllBut whole whole old old faults faults
+all_left whole old faults = record { front = []; takes = takes_nothing old faults; split = refl }
+
+-- one more piece
+pub less_left : (piece rest whole : List ℕ) (old mid new : Option (List ℕ)) (f g h : ℕ) → TakesAllBut (piece ++ rest) whole old mid f g → Takes piece mid new g h → TakesAllBut rest whole old new f h
+less_left piece rest whole old mid new f g h so b = record {
+  front = so.front ++ piece;
+  takes = takes_join so.front piece old mid new f g h so.takes b;
+  split = so.split ∙ sym (append_assoc so.front piece rest);
+}
+
+-- the sink fails in the next piece
+pub fails_next : (piece rest whole : List ℕ) (old mid new : Option (List ℕ)) (f g h : ℕ) → TakesAllBut (piece ++ rest) whole old mid f g → FailsIn piece mid new g h → FailsIn whole old new f h
+fails_next piece rest whole old mid new f g h so b =
+    let P : List ℕ → Type 0 = λ all. AppendsFront old all new in
+    record {
+      front = subst P (sym (so.split ∙ sym (append_assoc so.front piece rest))) (front-append old new (so.front ++ piece) rest (append-front old mid new so.front piece so.takes.appends b.front));
+      rose = rose-sooner f g h so.takes.later b.rose;
+      later = omega (arith, so.takes.later, b.later);
+    }
+
+-- and in the last one
+pub fails_last : (piece whole : List ℕ) (old mid new : Option (List ℕ)) (f g h : ℕ) → TakesAllBut piece whole old mid f g → FailsIn piece mid new g h → FailsIn whole old new f h
+fails_last piece whole old mid new f g h so b =
+    let P : List ℕ → Type 0 = λ rest. TakesAllBut rest whole old mid f g in
+    fails_next piece [] whole old mid new f g h (subst P (sym (append-nil piece)) so) b
+
+pub none_left : (whole : List ℕ) (old new : Option (List ℕ)) (f g : ℕ) → TakesAllBut [] whole old new f g → Takes whole old new f g
+none_left whole old new f g so =
+    let P : List ℕ → Type 0 = λ t. Takes t old new f g in
+    subst P (sym (so.split ∙ append-nil so.front)) so.takes
+
+pub last_taken : (piece whole : List ℕ) (old mid new : Option (List ℕ)) (f g h : ℕ) → TakesAllBut piece whole old mid f g → Takes piece mid new g h → Takes whole old new f h
+last_taken piece whole old mid new f g h so b =
+    let P : List ℕ → Type 0 = λ t. Takes t old new f h in
+    subst P (sym so.split) (takes_join so.front piece old mid new f g h so.takes b)
