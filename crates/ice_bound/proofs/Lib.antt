@@ -1,5 +1,5 @@
-pub mod Costs
 pub mod Nets
+pub mod Living
 pub mod Above
 pub mod Totals
 pub mod Fixings

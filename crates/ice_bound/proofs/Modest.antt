@@ -4,7 +4,7 @@ use Rattle.std.proofs.lemmas.Int.{ints}
 use Rattle.std.proofs.lemmas.List.{length-map, get_or-map, length-replicate}
 use Rattle.std.proofs.Math.IntN.{*ℤ_comm}
 use Rattle.ice_defs.specs.Tree.{Tree}
-use Rattle.ice_defs.specs.Set.{has, Weights, weight_of}
+use Rattle.ice_defs.specs.Set.{has, weight_of}
 use Rattle.ice_defs.specs.Trade.{Assignment, tree_of, set_of}
 use Rattle.ice_defs.specs.Bounds.{Bounds, bounds_of}
 use Rattle.ice_defs.specs.Lawful.{AreBounds}

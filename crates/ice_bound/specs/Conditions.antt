@@ -1,5 +1,5 @@
 -- What the calls of bounds and logs ask of weights, fixings and multipliers.
-use Rattle.std.specs.Prelude.{ℕ, ◌<◌, ◌≡◌, Bool, List, length, ℤ, pos, neg_ℤ, ◌≤ℤ◌}
+use Rattle.std.specs.Prelude.{ℕ, ◌<◌, ◌≡◌, Bool, List, length, pos, neg_ℤ, ◌≤ℤ◌}
 use Rattle.ice_defs.specs.Tree.{Tree}
 use Rattle.ice_defs.specs.Set.{Weights, weight_of}
 use Rattle.ice_defs.specs.Fixing.{Fixing}

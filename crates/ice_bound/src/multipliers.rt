@@ -1,6 +1,6 @@
 //! One multiplier for each good.
 ghost use Rattle.std.specs.Prelude.{◌≡◌, ◌<◌, ◌≤◌, length, replicate, slice_set, pos};
-ghost use Rattle.ice_bound.specs.Multipliers.{multiplier_of, IsInRange};
+ghost use Rattle.ice_bound.specs.Multipliers.{multiplier_of, IsInRange, AreInRange};
 
 use arrayvec::ArrayVec;
 use std::marker::Model;
@@ -59,6 +59,14 @@ impl Multipliers {
         ensures { self.new ≡ slice_set self.old good m }
     {
         self.numbers[good as usize] = m;
+    }
+
+    /// The multipliers, one for each good.
+    pub fn as_slice(&self) -> &[i64]
+        ensures value { result.now ≡ self.now }
+        ensures range { AreInRange result.now }
+    {
+        self.numbers.as_slice()
     }
 
     /// The same multipliers once more.

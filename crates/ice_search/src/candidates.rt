@@ -1,5 +1,5 @@
 //! Assignments that a search may begin with.
-ghost use Rattle.std.specs.Prelude.{◌≡◌, length, IsTrue, ◌≤ℤ◌};
+ghost use Rattle.std.specs.Prelude.{◌≡◌, ◌↔◌, length, IsTrue, ◌≤ℤ◌};
 ghost use Rattle.ice_defs.specs.Bound.{IsOpen};
 ghost use Rattle.ice_defs.specs.Exchange.{trees_of, exact_of};
 ghost use Rattle.ice_defs.specs.Fixing.{Agrees, Meets};
@@ -15,7 +15,7 @@ use ice_tree::{Assignment, NodeSet, Tree};
 
 /// Whether a node may be inside or not, by its mark.
 fn agrees(mark: Mark, inside: bool) -> bool
-    ensures { IsTrue result → Agrees mark inside }
+    ensures { IsTrue result ↔ Agrees mark inside }
 {
     match mark {
         Mark::Free => true,
@@ -27,7 +27,7 @@ fn agrees(mark: Mark, inside: bool) -> bool
 /// Whether the set has each Must node and no Never node.
 fn meets(set: &NodeSet, fixing: &Fixing) -> bool
     requires { length set.now ≡ length fixing.now }
-    ensures { IsTrue result → Meets set.now fixing.now }
+    ensures { IsTrue result ↔ Meets set.now fixing.now }
 {
     for node in 0..set.len() {
         if !agrees(fixing.get(node), set.has(node)) {
@@ -40,16 +40,16 @@ fn meets(set: &NodeSet, fixing: &Fixing) -> bool
 /// Whether the bidder may take the set.
 fn may_take(tree: &Tree, fixing: &Fixing, set: &NodeSet) -> bool
     requires { length fixing.now ≡ length tree.now }
-    ensures { IsTrue result → IsOpen tree.now fixing.now set.now }
+    ensures { IsTrue result ↔ IsOpen tree.now fixing.now set.now }
 {
     set.len() == tree.nodes() && tree.is_satisfied(set).is_ok() && meets(set, fixing)
 }
 
-/// Whether the assignment is feasible and meets the marks.
-pub(crate) fn is_feasible(exchange: &Exchange, start: &Fixings, sets: &Assignment) -> bool
+/// Whether the assignment is feasible and meets the marks, as one that a search begins with has to. Takes no memory.
+pub fn is_feasible(exchange: &Exchange, start: &Fixings, sets: &Assignment) -> bool
     requires { AreFixingsOf (trees_of exchange.now) start.now }
-    ensures feasible { IsTrue result → IsFeasible (trees_of exchange.now) (exact_of exchange.now) sets.now }
-    ensures meets { IsTrue result → MeetsAll sets.now start.now }
+    ensures { IsTrue result ↔ (IsFeasible (trees_of exchange.now) (exact_of exchange.now) sets.now
+        × MeetsAll sets.now start.now) }
 {
     let trees = exchange.trees();
     if sets.len() != trees.len() {

@@ -19,5 +19,6 @@ mod sides;
 mod sweep;
 mod workspace;
 
+pub use candidates::is_feasible;
 pub use entry::{search, search_from};
 pub use results::{Found, SearchEnd, Spent};

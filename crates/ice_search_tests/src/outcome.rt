@@ -1,0 +1,73 @@
+//! What a search answers, in numbers.
+ghost use Rattle.std.specs.Prelude.{◌≤◌};
+
+use crate::markets::lower;
+use ice_best::Fixings;
+use ice_refute::{Log, Step};
+use ice_search::{Found, SearchEnd, is_feasible, search};
+use ice_trade::Exchange;
+use ice_tree::Assignment;
+use std::alloc::Global;
+use std::test::Fail;
+
+/// What a search answers: the value that it found, the bound where no branch was left, how many steps of its log are
+/// branches and how many are leaves, and how many branches are left.
+#[derive(Clone, Copy)]
+pub(crate) struct Outcome {
+    pub(crate) value: i128,
+    pub(crate) bound: Option<i128>,
+    pub(crate) branch_steps: u32,
+    pub(crate) leaves: u32,
+    pub(crate) left: u32,
+}
+
+/// How many steps of the log are branches, and how many are leaves.
+fn count(log: &Log) -> (u32, u32) {
+    let mut branches: u32 = 0;
+    let mut leaves: u32 = 0;
+    for step in log.steps() {
+        match step {
+            Step::Branch { .. } => branches = branches.saturating_add(1),
+            Step::Leaf { .. } => leaves = leaves.saturating_add(1),
+            Step::Dead { .. } => {}
+        }
+    }
+    (branches, leaves)
+}
+
+/// What a search answered, in numbers.
+fn told(answer: Result<Found, SearchEnd>, left: u32) -> Result<Outcome, Fail> {
+    let (value, bound, log) = match answer {
+        Ok(found) => (found.value, None, found.log),
+        Err(SearchEnd::Spent(spent)) => (spent.value, Some(spent.bound), spent.log),
+        Err(SearchEnd::NoMemory) => return Err("no memory")?,
+    };
+    let (branch_steps, leaves) = count(&log);
+    Ok(Outcome {
+        value,
+        bound,
+        branch_steps,
+        leaves,
+        left,
+    })
+}
+
+/// What a search at lower values answers that begins with no trade, with so many branches.
+pub(crate) fn search_best(
+    alloc: Global,
+    exchange: &Exchange,
+    branches: u16,
+) -> Result<Outcome, Fail>
+    requires { branches ≤ 50000 }
+{
+    let trees = exchange.trees();
+    let weights = lower(alloc, exchange)?;
+    let start = Fixings::free(alloc, trees)?;
+    let first = Assignment::empty(alloc, trees)?;
+    if !is_feasible(exchange, &start, &first) {
+        return Err("no trade is not feasible")?;
+    }
+    let mut left = u32::from(branches);
+    let answer = search(alloc, exchange, &weights, &start, &first, &mut left);
+    told(answer, left)
+}
