@@ -1,4 +1,7 @@
 //! Certificates of prices.
+ghost use Rattle.std.specs.Prelude.{IsTrue};
+ghost use Rattle.ice_pricing.specs.Priced.{IsLimited};
+
 use ice_terms::Prices;
 use ice_tree::NodeSet;
 use std::marker::Model;
@@ -37,6 +40,27 @@ impl Model for Certificate {
     ghost Value = { Rows };
 
     ghost view = { λ c. record { den = c.den; rows = c.rows.items } };
+}
+
+/// The greatest denominator of a certificate, and the greatest weight of a row.
+const LARGEST: u64 = 4_294_967_296;
+
+impl Certificate {
+    /// Whether the denominator is from 1 to 2^32, and there are at most 200 rows, each with a weight of at most 2^32.
+    pub fn is_limited(&self) -> bool
+        ensures yes { IsTrue result → IsLimited self.now }
+        ensures no { IsLimited self.now → IsTrue result }
+    {
+        if self.den == 0 || self.den > LARGEST || self.rows.len() > 200 {
+            return false;
+        }
+        for row in &self.rows {
+            if row.weight > LARGEST {
+                return false;
+            }
+        }
+        true
+    }
 }
 
 /// Prices with their violation and what shows that they are accurate and balanced.

@@ -14,8 +14,9 @@ use ice_trade::Exchange;
 use ice_tree::{AllWeights, Assignment};
 
 impl Pricing {
-    /// Whether the prices of the trade pass all tests.
-    fn passes(&self, trade: &Provisional<'_>, scratch: &mut Scratch) -> bool
+    /// Whether the prices pass all tests for a provisional trade, as `check_pricing` tells of an exchange. Then they are
+    /// accurate and balanced. Takes no memory.
+    pub fn passes(&self, trade: &Provisional<'_>, scratch: &mut Scratch) -> bool
         requires goods { length self.now.prices.nums ≡ trade.now.goods }
         requires accuracy { IsLimited self.now.accuracy }
         requires balance { IsLimited self.now.balance }
@@ -23,6 +24,7 @@ impl Pricing {
             → PassesTests trade.now p.prices p.delta p.accuracy p.balance }
         ensures no { let p = self.now in
             PassesTests trade.now p.prices p.delta p.accuracy p.balance → IsTrue result }
+        ensures balanced { IsTrue result → AreBalanced trade.now self.now.prices }
     {
         let prices = &self.prices;
         if !are_within(prices, trade.cap()) || !are_lowest(prices) {

@@ -9,7 +9,7 @@ ghost use Rattle.ice_certificate.specs.Excess.{IsGreatestExcess};
 ghost use Rattle.ice_pricing.specs.Provisional.{AreModest, IsProvisional, provisional_of};
 ghost use Rattle.ice_pricing.specs.Priced.{HasViolation};
 
-use ice_certificate::{Excess, Scratch, best_excess};
+use ice_certificate::{Excess, Scratch, best_excess, worth_above};
 use ice_terms::Prices;
 use ice_trade::Exchange;
 use ice_tree::{AllWeights, Assignment, NodeSet, Tree, Weights};
@@ -121,6 +121,23 @@ impl<'a> Provisional<'a> {
         ensures proper { IsProvisional self.now }
     {
         self.sets.of(bidder)
+    }
+
+    /// What a set of the bidder is worth above its own, in hundredths.
+    pub fn worth_above(&self, bidder: u8, set: &NodeSet) -> i128
+        requires bidder { bidder < length self.now.trees }
+        requires nodes { length set.now ≡ length (tree_of self.now.trees bidder) }
+        ensures value { let t = self.now in result ≡ value set.now (weights_of t.weights bidder)
+            -ℤ value (set_of t.sets bidder) (weights_of t.weights bidder) }
+        ensures low { neg_ℤ (pos (2 ^ 49)) ≤ℤ result }
+        ensures high { result ≤ℤ pos (2 ^ 49) }
+    {
+        worth_above(
+            self.tree(bidder),
+            self.weights(bidder),
+            self.own(bidder),
+            set,
+        )
     }
 
     /// By how much a best set of the bidder at the prices beats its own, in hundredths and times the prices' denominator,

@@ -1,6 +1,8 @@
 use Rattle.std.proofs.Common.{◌≡◌, IsTrue, rules}
 use Rattle.ice_defs.specs.Prices.{ArePrices}
 use Rattle.ice_defs.specs.Rows.{PassesAccuracy, PassesBalance, HasCommonDivisor}
+use Rattle.ice_rows.proofs.Balanced.{tests_give_balanced}
+use Rattle.ice_pricing.specs.Provisional.{IsProvisional}
 use Rattle.ice_pricing.specs.Priced.{HasViolation}
 use Rattle.ice_pricing.proofs.Violations.{violation-same}
 use Rattle.ice_pricing.proofs.certificate.Pricing.passes.Goals as goal
@@ -28,3 +30,12 @@ pub returns-then-violation-self-clause-no : goal.returns-then-violation-self-cla
 returns-then-violation-self-clause-no c =
     let apart : ¬ (c.violation.result ≡ c.args.self.now.delta) = search rules in
     λ h. absurd (apart (violation-same c.args.trade.now c.args.self.now.prices c.violation.result c.args.self.now.delta c.violation.ensures.violation h.violates))
+
+pub returns-then-passes_accuracy-clause-balanced : goal.returns-then-passes_accuracy-clause-balanced
+returns-then-passes_accuracy-clause-balanced c =
+    let t = c.args.trade.now in
+    let p = c.args.self.now in
+    let proper : IsProvisional c.args.trade.now = search rules in
+    λ h. let passes = returns-then-passes_accuracy-clause-yes c h in
+    tests_give_balanced t.trees t.weights t.sets t.goods t.cap p.prices p.delta p.accuracy p.balance
+    proper.satisfied passes.within passes.violates passes.accurate passes.balanced
