@@ -30,6 +30,22 @@ no_bidder : (bidders : List Bidder) → length bidders ≤ 0 → bidders ≡ []
 no_bidder [] none = refl
 no_bidder (b ∷ bidders) none = absurd (omega arith)
 
+-- without its bidders it is lawful too
+pub IsUnfinished-alone : (ex : Exchange) → IsUnfinished ex → IsUnfinished (record ex { bidders = [] })
+unfolding IsDistinct
+IsUnfinished-alone ex is = record {
+  settings = is.settings;
+  goods_count = is.goods_count;
+  bidders_count = omega arith;
+  goods_named = is.goods_named;
+  goods = is.goods;
+  bidders_named = tt;
+  names = tt;
+  bidders = tt;
+  nodes = omega arith;
+  sold = tt;
+}
+
 pub IsUnfinished-new : (settings : Settings) → AreSettings settings → IsUnfinished (no_exchange settings)
 unfolding IsDistinct
 IsUnfinished-new settings are = record {

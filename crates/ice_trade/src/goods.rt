@@ -1,6 +1,6 @@
 //! The goods of an exchange.
 ghost use Rattle.std.specs.Prelude.{◌≡◌, ◌≤◌, ◌<◌, ◌++◌, [], ◌∷◌, false, IfOk, length, map, slice_index_or};
-ghost use Rattle.std.specs.List.{position, list_any};
+ghost use Rattle.std.specs.List.{position, list_any, IsDistinct};
 ghost use Rattle.std.specs.Str.{bytes_eq};
 
 use crate::names::Names;
@@ -37,6 +37,17 @@ impl Goods {
         Ok(Goods {
             names: Names::new(alloc, 32)?,
             exact: ArrayVec::new(),
+        })
+    }
+
+    /// The same goods once more, with the memory for 32.
+    pub(crate) fn copy(&self, alloc: Global) -> Result<Goods, AllocError>
+        requires { IsDistinct bytes_eq (map (λ good. good.name) self.now) }
+        ensures { IfOk result (λ t. t ≡ self.now) }
+    {
+        Ok(Goods {
+            names: self.names.copy(alloc)?,
+            exact: self.exact.clone()?,
         })
     }
 

@@ -1,5 +1,5 @@
 //! The maker of an exchange.
-ghost use Rattle.std.specs.Prelude.{◌≡◌, ◌≤◌, ◌<◌, length, IfOk, OnErr, IfErr, pos, false, true};
+ghost use Rattle.std.specs.Prelude.{◌≡◌, ◌≤◌, ◌<◌, [], length, IfOk, OnErr, IfErr, pos, false, true};
 ghost use Rattle.std.specs.List.{position};
 ghost use Rattle.std.specs.Str.{bytes_eq};
 ghost use Rattle.ice_defs.specs.Exchange.{names_of, market_of};
@@ -50,6 +50,24 @@ impl ExchangeMaker {
             goods: Goods::new(alloc)?,
             bidders: Bidders::new(alloc)?,
         })
+    }
+
+    /// A maker with the same settings and goods, and no bidder yet.
+    pub fn without_bidders(&self, alloc: Global) -> Result<ExchangeMaker, AllocError>
+        ensures { IfOk result (λ m. m ≡ record self.now { bidders = [] }) }
+    {
+        Ok(ExchangeMaker {
+            settings: self.settings,
+            goods: self.goods.copy(alloc)?,
+            bidders: Bidders::new(alloc)?,
+        })
+    }
+
+    /// Its settings.
+    pub fn settings(&self) -> Settings
+        ensures { result ≡ self.now.settings }
+    {
+        self.settings
     }
 
     /// How many goods there are.

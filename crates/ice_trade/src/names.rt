@@ -1,6 +1,6 @@
 //! Names in the order in which they were added.
 ghost use Rattle.std.specs.Prelude.{◌≡◌, ℕ, ◌+◌, ◌≤◌, ◌<◌, ◌++◌, [], ◌∷◌, false, length, slice_index_or, IfOk, IfSome};
-ghost use Rattle.std.specs.List.{position, list_any};
+ghost use Rattle.std.specs.List.{position, list_any, IsDistinct};
 ghost use Rattle.std.specs.Str.{bytes_eq};
 
 use ice_terms::Name;
@@ -36,6 +36,20 @@ impl Names {
             names: IndexSet::with_capacity(alloc, most)?,
             most,
         })
+    }
+
+    /// The same names once more, with room for as many.
+    #[tactic(auto, using(crate::proofs::NameLists::copied))]
+    pub(crate) fn copy(&self, alloc: Global) -> Result<Names, AllocError>
+        requires room { length self.now.names ≤ self.now.most }
+        requires distinct { IsDistinct bytes_eq self.now.names }
+        ensures { IfOk result (λ t. t ≡ self.now) }
+    {
+        let mut names = Names::new(alloc, self.most)?;
+        for number in 0..self.len() {
+            names.push(self.get(number).copy());
+        }
+        Ok(names)
     }
 
     /// How many names there are.
