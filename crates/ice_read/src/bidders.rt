@@ -20,7 +20,8 @@ use ice_trade::ExchangeMaker;
 use ice_tree::{Bounds, Tree};
 use serde_json::Value;
 
-fn own_member(
+/// The owned amounts in a member of a bidder, one per good of an exchange that is being made.
+pub fn own_member(
     exchange: &ExchangeMaker,
     value: &Value,
     name: &str,

@@ -24,6 +24,12 @@ pub enum ReadCause {
     /// There is no good of this name.
     #[error("there is no good of this name")]
     UnknownGood,
+    /// A package has no good.
+    #[error("a package has no good")]
+    NoUnits,
+    /// A bidder has no package.
+    #[error("a bidder has no package")]
+    NoPackages,
     /// A tree's maker refuses a node.
     #[error("{0}")]
     Tree(TreeFault),
@@ -46,6 +52,8 @@ impl ReadCause {
             ReadCause::NotWhole => Some(3),
             ReadCause::Range => Some(4),
             ReadCause::UnknownGood => Some(5),
+            ReadCause::NoUnits => Some(90),
+            ReadCause::NoPackages => Some(91),
             ReadCause::Tree(fault) => Some(fault.number()),
             ReadCause::Make(fault) => fault.number(),
             ReadCause::NoMemory => None,

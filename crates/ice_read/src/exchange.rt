@@ -20,7 +20,8 @@ use ice_trade::{Exchange, ExchangeMaker};
 use serde_json::Value;
 use std::alloc::Global;
 
-fn settings_member(value: &Value, name: &str) -> Result<Settings, ReadFault>
+/// The settings in a member of a file.
+pub fn settings_member(value: &Value, name: &str) -> Result<Settings, ReadFault>
     requires { length name.now ≤ 32 }
     ensures { IsReading result (λ path. of_member path (view value.now) name.now settings_at) }
 {
@@ -30,7 +31,8 @@ fn settings_member(value: &Value, name: &str) -> Result<Settings, ReadFault>
     }
 }
 
-fn take_goods_member(
+/// Takes the goods in a member of a file.
+pub fn take_goods_member(
     exchange: &mut ExchangeMaker,
     value: &Value,
     name: &str,

@@ -16,7 +16,7 @@ pub struct ReadFault {
 
 impl ReadFault {
     /// A fault of the value itself.
-    pub(crate) fn of(cause: ReadCause) -> ReadFault
+    pub fn of(cause: ReadCause) -> ReadFault
         ensures { result ≡ record { place = []; cause = cause } }
     {
         ReadFault {
@@ -26,7 +26,7 @@ impl ReadFault {
     }
 
     /// The same fault, told from an object that has it in this member.
-    pub(crate) fn under(self, name: &str) -> ReadFault
+    pub fn under(self, name: &str) -> ReadFault
         requires { length self.place + length name.now < 256 }
         ensures { result ≡ record { place = (46 ∷ name.now) ++ self.place; cause = self.cause } }
     {
@@ -37,7 +37,7 @@ impl ReadFault {
     }
 
     /// The same fault, told from an array that has it at this index.
-    pub(crate) fn at(self, index: u16) -> ReadFault
+    pub fn at(self, index: u16) -> ReadFault
         requires { length self.place ≤ 250 }
         ensures fault { result
             ≡ record { place = (46 ∷ decimal index) ++ self.place; cause = self.cause } }
@@ -45,6 +45,19 @@ impl ReadFault {
     {
         ReadFault {
             place: self.place.at(index),
+            cause: self.cause,
+        }
+    }
+
+    /// The same fault, told from an array of any length that has it at this index.
+    pub fn at_any(self, index: u64) -> ReadFault
+        requires { length self.place ≤ 230 }
+        ensures fault { result
+            ≡ record { place = (46 ∷ decimal index) ++ self.place; cause = self.cause } }
+        ensures short { length result.place ≤ length self.place + 21 }
+    {
+        ReadFault {
+            place: self.place.at_any(index),
             cause: self.cause,
         }
     }

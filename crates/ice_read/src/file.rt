@@ -9,7 +9,7 @@ use serde_json::Value;
 use std::alloc::Global;
 
 /// The value of the bytes of a file.
-pub(crate) fn value_of(alloc: Global, bytes: &[u8]) -> Result<Value, ReadFault>
+pub fn value_of(alloc: Global, bytes: &[u8]) -> Result<Value, ReadFault>
     ensures value { MatchResult result (λ value. value_of bytes.now ≡ Some (view value))
         (λ fault. fault.cause ≢ ReadCause.NoMemory → (fault.cause ≡ ReadCause.NotJson)
         × (value_of bytes.now ≡ None)) }

@@ -48,7 +48,7 @@ impl Side {
 }
 
 /// A value of a node, in a member.
-pub(crate) fn value_member(value: &Value, name: &str) -> Result<i64, ReadFault>
+pub fn value_member(value: &Value, name: &str) -> Result<i64, ReadFault>
     requires { length name.now ≤ 32 }
     ensures reading { IsReading result (λ path. of_member path (view value.now) name.now value_at) }
     ensures short { IfErr result (λ fault. length fault.place ≤ length name.now + 1) }

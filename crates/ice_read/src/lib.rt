@@ -11,6 +11,7 @@ mod goods;
 mod laws;
 mod leaf;
 mod own;
+pub mod parts;
 mod place;
 mod round;
 mod settings;

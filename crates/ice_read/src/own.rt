@@ -56,7 +56,7 @@ fn take_amount(
 }
 
 /// The owned amounts, one per good of an exchange that is being made.
-pub(crate) fn own_of(
+pub fn own_of(
     exchange: &ExchangeMaker,
     value: &Value,
 ) -> Result<ArrayVec<u32, 32>, ReadFault>

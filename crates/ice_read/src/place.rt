@@ -33,7 +33,7 @@ impl std::fmt::Display for Place {
 
 impl Place {
     /// The value itself.
-    pub(crate) fn here() -> Place
+    pub fn here() -> Place
         ensures { result ≡ [] }
     {
         Place {
@@ -53,7 +53,7 @@ impl Place {
     }
 
     /// The same place, told from an object that has it in this member.
-    pub(crate) fn under(self, name: &str) -> Place
+    pub fn under(self, name: &str) -> Place
         requires { length self + length name.now < 256 }
         ensures { result ≡ (46 ∷ name.now) ++ self }
     {
@@ -65,10 +65,18 @@ impl Place {
     }
 
     /// The same place, told from an array that has it at this index.
-    pub(crate) fn at(self, index: u16) -> Place
+    pub fn at(self, index: u16) -> Place
         requires { length self ≤ 250 }
         ensures place { result ≡ (46 ∷ decimal index) ++ self }
         ensures short { length result ≤ length self + 6 }
+    {
+        self.under(Buffer::new().format(index))
+    }
+    /// The same place, told from an array of any length that has it at this index.
+    pub fn at_any(self, index: u64) -> Place
+        requires { length self ≤ 230 }
+        ensures place { result ≡ (46 ∷ decimal index) ++ self }
+        ensures short { length result ≤ length self + 21 }
     {
         self.under(Buffer::new().format(index))
     }

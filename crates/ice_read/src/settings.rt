@@ -11,7 +11,7 @@ use ice_terms::Settings;
 use serde_json::Value;
 
 /// The settings of an exchange.
-pub(crate) fn settings_of(value: &Value) -> Result<Settings, ReadFault>
+pub fn settings_of(value: &Value) -> Result<Settings, ReadFault>
     ensures reading { IsReading result (λ path. settings_at path (view value.now)) }
     ensures short { IfErr result (λ fault. length fault.place ≤ 13) }
 {

@@ -14,7 +14,7 @@ use crate::fault::ReadFault;
 use serde_json::{Map, Value};
 
 /// The members of an object.
-pub(crate) fn object_of(value: &Value) -> Result<&Map<String, Value>, ReadFault>
+pub fn object_of(value: &Value) -> Result<&Map<String, Value>, ReadFault>
     ensures reading { MatchResult result (λ members. (path : Path)
         → object_of path (view value.now) ≡ Ok (members_view members.now.entries))
         (λ fault. IsFault fault (λ path. object_of path (view value.now))) }
@@ -27,7 +27,7 @@ pub(crate) fn object_of(value: &Value) -> Result<&Map<String, Value>, ReadFault>
 }
 
 /// The elements of an array.
-pub(crate) fn array_of(value: &Value) -> Result<&Vec<Value>, ReadFault>
+pub fn array_of(value: &Value) -> Result<&Vec<Value>, ReadFault>
     ensures reading { MatchResult result (λ items. (path : Path)
         → array_of path (view value.now) ≡ Ok (items_view items.now.items))
         (λ fault. IsFault fault (λ path. array_of path (view value.now))) }
@@ -40,7 +40,7 @@ pub(crate) fn array_of(value: &Value) -> Result<&Vec<Value>, ReadFault>
 }
 
 /// A text.
-pub(crate) fn text_of(value: &Value) -> Result<&str, ReadFault>
+pub fn text_of(value: &Value) -> Result<&str, ReadFault>
     ensures reading { MatchResult result (λ text. (path : Path)
         → text_of path (view value.now) ≡ Ok text.now)
         (λ fault. IsFault fault (λ path. text_of path (view value.now))) }
@@ -67,7 +67,7 @@ fn is_whole(value: &Value) -> bool
 }
 
 /// A whole number between these limits.
-pub(crate) fn whole_of(value: &Value, low: i64, high: i64) -> Result<i64, ReadFault>
+pub fn whole_of(value: &Value, low: i64, high: i64) -> Result<i64, ReadFault>
     ensures reading { IsReading result (λ path. whole_of path low high (view value.now)) }
     ensures place { IfErr result (λ fault. fault.place ≡ []) }
     ensures between { IfOk result (IsBetween low high) }
@@ -92,7 +92,7 @@ fn has_each(value: &Value, names: &[&str]) -> bool
 }
 
 /// Whether this is an object that has exactly these members.
-pub(crate) fn has_exactly(value: &Value, names: &[&str]) -> bool
+pub fn has_exactly(value: &Value, names: &[&str]) -> bool
     ensures { result ≡ has_exactly (map (λ name. name.now) names.now) (view value.now) }
 {
     match value.as_object() {
@@ -102,7 +102,7 @@ pub(crate) fn has_exactly(value: &Value, names: &[&str]) -> bool
 }
 
 /// A member of an object. Where it isn't there, no value is of the type that its place asks for.
-pub(crate) fn member<'a>(value: &'a Value, name: &str) -> Result<&'a Value, ReadFault>
+pub fn member<'a>(value: &'a Value, name: &str) -> Result<&'a Value, ReadFault>
     requires { length name.now < 256 }
     ensures { MatchResult result (λ found.
         view found.now ≡ member_or_null name.now (view value.now))
@@ -116,7 +116,7 @@ pub(crate) fn member<'a>(value: &'a Value, name: &str) -> Result<&'a Value, Read
 }
 
 /// A whole number between these limits, which is not negative.
-pub(crate) fn natural_of(value: &Value, low: u32, high: u32) -> Result<u32, ReadFault>
+pub fn natural_of(value: &Value, low: u32, high: u32) -> Result<u32, ReadFault>
     ensures reading { MatchResult result (λ number. (path : Path)
         → whole_of path (pos low) (pos high) (view value.now) ≡ Ok (pos number))
         (λ fault. IsFault fault (λ path. whole_of path (pos low) (pos high) (view value.now))) }
@@ -128,7 +128,7 @@ pub(crate) fn natural_of(value: &Value, low: u32, high: u32) -> Result<u32, Read
 }
 
 /// A whole number between these limits, which is not negative, in a member of an object.
-pub(crate) fn natural_member(
+pub fn natural_member(
     value: &Value,
     name: &str,
     low: u32,
@@ -150,7 +150,7 @@ pub(crate) fn natural_member(
 }
 
 /// A whole number between these limits, in a member of an object.
-pub(crate) fn whole_member(value: &Value, name: &str, low: i64, high: i64) -> Result<i64, ReadFault>
+pub fn whole_member(value: &Value, name: &str, low: i64, high: i64) -> Result<i64, ReadFault>
     requires { length name.now ≤ 32 }
     ensures reading { IsReading result (λ path. of_member path (view value.now) name.now
         (λ p. whole_of p low high)) }
@@ -164,7 +164,7 @@ pub(crate) fn whole_member(value: &Value, name: &str, low: i64, high: i64) -> Re
 }
 
 /// A text, in a member of an object.
-pub(crate) fn text_member<'a>(value: &'a Value, name: &str) -> Result<&'a str, ReadFault>
+pub fn text_member<'a>(value: &'a Value, name: &str) -> Result<&'a str, ReadFault>
     requires { length name.now ≤ 32 }
     ensures reading { MatchResult result (λ text. (path : Path)
         → of_member path (view value.now) name.now text_of ≡ Ok text.now)
@@ -178,7 +178,7 @@ pub(crate) fn text_member<'a>(value: &'a Value, name: &str) -> Result<&'a str, R
 }
 
 /// The elements of an array, in a member of an object.
-pub(crate) fn array_member<'a>(value: &'a Value, name: &str) -> Result<&'a Vec<Value>, ReadFault>
+pub fn array_member<'a>(value: &'a Value, name: &str) -> Result<&'a Vec<Value>, ReadFault>
     requires { length name.now ≤ 32 }
     ensures reading { MatchResult result (λ items. (path : Path)
         → of_member path (view value.now) name.now array_of ≡ Ok (items_view items.now.items))
