@@ -11,9 +11,8 @@ use Rattle.ice_defs.specs.declared.Group.{Group}
 use Rattle.ice_defs.specs.declared.Group.TheVariants.{Assign, Final, Rival, Provisional, Without}
 use Rattle.ice_tree.specs.Alike.{AreAlike, AreChosen, HasSetPerTree}
 use Rattle.ice_bound.specs.Conditions.{AreBoundsOf, AreWeightsOf}
-pub use Rattle.ice_bound.proofs.Living.{opening_are_bounds}
+use Rattle.ice_bound.proofs.Living.{opening_are_bounds}
 use Rattle.ice_bound.proofs.Modest.{lower_modest, weighted_modest, perturbed_modest}
-use Rattle.ice_journal_laws.proofs.Opened.{opening_are_bounds}
 use Rattle.ice_check.specs.declared.log.LogWalk.{LogWalk}
 use Rattle.ice_check.specs.Logs.{IsWalkOf, weights_in}
 

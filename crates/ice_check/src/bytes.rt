@@ -3,9 +3,9 @@ ghost use Rattle.ice_journal_laws.specs.Answers.{AnswersBytes, IsFed};
 ghost use Rattle.ice_journal_laws.specs.Progress.{nothing};
 ghost use Rattle.std.specs.Prelude.{◌≡◌};
 
-use ice_journal_laws::{Answer, CheckEnd};
 use crate::checker::Checker;
 use ice_journal::read_record;
+use ice_journal_laws::{Answer, CheckEnd};
 use ice_line::split_line;
 use std::alloc::Global;
 

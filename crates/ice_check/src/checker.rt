@@ -5,9 +5,9 @@ ghost use Rattle.ice_journal.specs.Ranges.{IsRecord};
 ghost use Rattle.ice_journal_laws.specs.Progress.{nothing, out_of_memory, is_ready, next_line, IsAfter};
 ghost use Rattle.ice_journal_laws.specs.Answers.{EndsWith};
 
-use ice_journal_laws::{Answer, CheckEnd};
 use crate::stage::Stage;
 use ice_journal::Line;
+use ice_journal_laws::{Answer, CheckEnd};
 use std::alloc::{AllocError, Global};
 use std::marker::Model;
 use std::mem;

@@ -8,16 +8,15 @@ ghost use Rattle.ice_check.specs.Stating.{SatisfiesNext};
 ghost use Rattle.ice_check.specs.Heads.{HasLog};
 ghost use Rattle.ice_check.specs.Groups.{state_at, state_of, weights_for, Begins, AreKept, IsReady, Takes, HasOpened, LogFollows, Closes, HasKeptFinal, LeavesGroup, LeavesStep, AnswersHere, IsAnswer};
 
-use ice_journal_laws::Answer;
 use crate::broken::broken_rule;
 use crate::head::Head;
 use crate::lines::{amount_in, head_value, is_spent, set_in};
 use crate::log::LogWalk;
 use crate::next::Next;
-use ice_journal_laws::Rule;
 use crate::stated::Stated;
 use ice_defs::Group;
 use ice_journal::Line;
+use ice_journal_laws::{Answer, Rule};
 use ice_trade::Exchange;
 use ice_tree::{Assignment, NodeSet};
 use std::alloc::{AllocError, Global};

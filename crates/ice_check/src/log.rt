@@ -11,12 +11,12 @@ ghost use Rattle.ice_journal_laws.specs.Fields.{multipliers_after};
 ghost use Rattle.ice_check.specs.Logs.{IsWalkOf, weights_in, IsStepOf, HasSameWalk, PassesThere, FailsThere, GoesOn, BreaksOff};
 ghost use Rattle.ice_journal_laws.specs.Stepping.{rule_of_fault};
 
-use ice_journal_laws::Rule;
 use crate::steps_in::{misstates, step_in};
 use ice_best::Fixings;
 use ice_bound::{Desk, Multipliers};
 use ice_defs::Group;
 use ice_journal::{Line, Version};
+use ice_journal_laws::Rule;
 use ice_refute::{LogFault, Step, Walk};
 use ice_trade::Exchange;
 use ice_tree::{AllWeights, Assignment, Tree};

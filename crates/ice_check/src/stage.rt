@@ -6,13 +6,12 @@ ghost use Rattle.ice_journal_laws.specs.Progress.{out_of_memory, is_ready, IsAft
 ghost use Rattle.ice_journal_laws.specs.Answers.{EndsWith};
 ghost use Rattle.ice_check.specs.Stages.{progress_of, IsAtLine, IsKept, LeadsOn};
 
-use ice_journal_laws::{Answer, CheckEnd};
 use crate::describing::{begin, describe};
 use crate::groups::Groups;
 use crate::halt::Halt;
 use crate::head::Head;
-use ice_journal_laws::Rule;
 use ice_journal::Line;
+use ice_journal_laws::{Answer, CheckEnd, Rule};
 use ice_section::Section;
 use std::alloc::{AllocError, Global};
 

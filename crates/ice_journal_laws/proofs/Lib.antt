@@ -134,5 +134,3 @@ pub mod CarriedIsSpent
 mod WorkedGoing
 -- a regret journal that stops at a spent search is one of which the run's contract speaks
 pub mod CarriedIsSpentRegret
--- the opening bounds of an exchange are bounds of its trees
-pub mod Opened

@@ -15,7 +15,7 @@ use Rattle.ice_laws.specs.Laws.{PerturbedGivesRegret}
 use Rattle.ice_journal_laws.specs.Written.{going_records, closed_records, settlement_records}
 use Rattle.ice_journal_laws.specs.Stops.{all_going_records, AreGoing}
 use Rattle.ice_journal_laws.proofs.Regretting.{AreSettled}
-use Rattle.ice_journal_laws.proofs.Opened.{opening_are_bounds}
+use Rattle.ice_bound.proofs.Living.{opening_are_bounds}
 
 -- the settlements before this one are right, and leave these bounds
 pub record IsPast (ex : Exchange) (number : ℕ) (bounds : List Bounds) (past : List Going) : Type 0 where

@@ -56,10 +56,7 @@ fn take_amount(
 }
 
 /// The owned amounts, one per good of an exchange that is being made.
-pub fn own_of(
-    exchange: &ExchangeMaker,
-    value: &Value,
-) -> Result<ArrayVec<u32, 32>, ReadFault>
+pub fn own_of(exchange: &ExchangeMaker, value: &Value) -> Result<ArrayVec<u32, 32>, ReadFault>
     requires { AreNames (good_names exchange.now) }
     ensures reading { MatchResult result (λ own. (path : Path)
         → own_at (good_names exchange.now) path (view value.now) ≡ Ok own.items)

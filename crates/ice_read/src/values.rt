@@ -128,12 +128,7 @@ pub fn natural_of(value: &Value, low: u32, high: u32) -> Result<u32, ReadFault>
 }
 
 /// A whole number between these limits, which is not negative, in a member of an object.
-pub fn natural_member(
-    value: &Value,
-    name: &str,
-    low: u32,
-    high: u32,
-) -> Result<u32, ReadFault>
+pub fn natural_member(value: &Value, name: &str, low: u32, high: u32) -> Result<u32, ReadFault>
     requires { length name.now ≤ 32 }
     ensures reading { MatchResult result (λ number. (path : Path)
         → of_member path (view value.now) name.now

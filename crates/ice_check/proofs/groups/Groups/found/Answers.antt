@@ -9,7 +9,7 @@ use Rattle.ice_defs.specs.Exchange.{Exchange, trees_of, opening_bounds}
 use Rattle.ice_tree.specs.Alike.{AreChosen}
 use Rattle.ice_check.specs.Heads.{kind_of_head}
 use Rattle.ice_check.proofs.Walks.{few_trees, sized_chosen}
-use Rattle.ice_journal_laws.proofs.Opened.{opening_are_bounds}
+use Rattle.ice_bound.proofs.Living.{opening_are_bounds}
 use Rattle.ice_check.proofs.groups.Groups.found.Goals as goal
 
 pub lower_value-requires-clause-few : goal.lower_value-requires-clause-few

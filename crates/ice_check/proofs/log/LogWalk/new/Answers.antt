@@ -9,7 +9,7 @@ use Rattle.ice_tree.specs.Alike.{AreAlike}
 use Rattle.ice_bound.specs.Conditions.{AreWeightsOf}
 use Rattle.ice_bound.proofs.Modest.{zeros_alike, lower_modest}
 use Rattle.ice_refute.specs.Waiting.{nodes_of}
-use Rattle.ice_journal_laws.proofs.Opened.{opening_are_bounds}
+use Rattle.ice_bound.proofs.Living.{opening_are_bounds}
 use Rattle.ice_check.proofs.log.LogWalk.new.Goals as goal
 
 pub fill_lower-requires : goal.fill_lower-requires

@@ -8,7 +8,7 @@ use Rattle.ice_defs.specs.declared.Group.TheVariants.{Assign, Final, Rival, Prov
 use Rattle.ice_tree.specs.Alike.{AreAlike, AreChosen}
 use Rattle.ice_check.specs.Logs.{weights_in}
 use Rattle.ice_check.proofs.Walks.{sized_chosen, weights_alike, reweighed}
-use Rattle.ice_journal_laws.proofs.Opened.{opening_are_bounds}
+use Rattle.ice_bound.proofs.Living.{opening_are_bounds}
 use Rattle.ice_check.proofs.log.LogWalk.weigh.Goals as goal
 
 pub fill_perturbed-requires-clause-alike : goal.fill_perturbed-requires-clause-alike

@@ -15,5 +15,5 @@ returns-clause-yes c =
       den_fits = omega (arith, den, c.if-self-gt-LARGEST.false);
       few = omega (arith, rows, few);
       weights_fit = recursion_from_All (λ (row : Row). row.weight ≤ 2 ^ 32) c.args.self.now.rows
-      (λ k d lt. c.loop-row.invariant k d (omega (arith, lt, rows, read, c.loop-row-test.false)));
+          (λ k d lt. c.loop-row.invariant k d (omega (arith, lt, rows, read, c.loop-row-test.false)));
     }
