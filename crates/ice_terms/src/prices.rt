@@ -56,6 +56,18 @@ impl Prices {
         Prices { den, nums }
     }
 
+    /// The same prices once more.
+    pub fn copy(&self) -> Prices
+        ensures { result ≡ self.now }
+    {
+        let mut nums = ArrayVec::new();
+        nums.try_extend_from_slice(&self.nums).unwrap();
+        Prices {
+            den: self.den,
+            nums,
+        }
+    }
+
     /// The denominator.
     pub fn den(&self) -> i64
         ensures den { result ≡ pos self.now.den }
