@@ -1,14 +1,12 @@
 -- Bounds stay bounds of the bidders' trees, round after round.
-use Rattle.std.proofs.Common.{ℕ, suc, List, [], ◌∷◌, length, map, ◌∙◌}
-use Rattle.std.specs.List.{AllByRecursion}
+use Rattle.std.proofs.Common.{ℕ, suc, List, [], ◌∷◌, length, ◌∙◌}
 use Rattle.std.proofs.lemmas.List.{length-map}
 use Rattle.ice_defs.specs.Bounds.{Bounds}
-use Rattle.ice_defs.specs.Exchange.{Bidder, Exchange, opening_bounds}
-use Rattle.ice_defs.specs.Lawful.{IsBidder}
+use Rattle.ice_defs.specs.Exchange.{Exchange, opening_bounds}
 use Rattle.ice_defs.specs.Session.{Going, Closed}
 use Rattle.ice_defs.specs.Right.{IsRightFrom, bounds_after_round, bounds_after_rounds}
 use Rattle.ice_rounds.specs.Keeping.{HaveBounds}
-use Rattle.ice_rounds.proofs.Keeping.{rounds_keep_bounds}
+use Rattle.ice_rounds.proofs.Keeping.{rounds_keep_bounds, opening_have_bounds}
 use Rattle.ice_promise.specs.Promises.{FinalBoundsAreBounds}
 
 after_rounds : (ex : Exchange) (number : ℕ) (bounds : List Bounds) (going : List Going) (c : Closed) → HaveBounds ex.bidders bounds → IsRightFrom ex number bounds going c → HaveBounds ex.bidders (bounds_after_rounds ex bounds going)
@@ -19,10 +17,6 @@ after_rounds ex number bounds (g ∷ later) c are (fails, right, rest) =
 
 -- ---- from the opening on
 
-opening : (goods : ℕ) (bidders : List Bidder) → AllByRecursion (IsBidder goods) bidders → HaveBounds bidders (map (λ (bidder : Bidder). bidder.bounds) bidders)
-opening goods [] are = tt
-opening goods (b ∷ bidders) are = ((are.0).bounds, opening goods bidders are.1)
-
 pub final_bounds_are_bounds : FinalBoundsAreBounds
 final_bounds_are_bounds s right =
-    after_rounds s.exchange 0 (opening_bounds s.exchange) s.going s.closed (opening (length s.exchange.goods) s.exchange.bidders right.exchange.bidders) right.settlements
+    after_rounds s.exchange 0 (opening_bounds s.exchange) s.going s.closed (opening_have_bounds (length s.exchange.goods) s.exchange.bidders right.exchange.bidders) right.settlements

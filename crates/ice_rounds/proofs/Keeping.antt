@@ -12,7 +12,7 @@ use Rattle.ice_defs.specs.Prices.{Prices}
 use Rattle.ice_defs.specs.Judging.{IsNarrowed}
 use Rattle.ice_defs.specs.Round.{Submission, Judged, Standing, stated_bounds, is_acceptance, of_name, has_tree_length, IsVerdict, JudgesInOrder, bounds_after, next_bounds}
 use Rattle.ice_defs.specs.Exchange.{Bidder}
-use Rattle.ice_defs.specs.Lawful.{AreBounds}
+use Rattle.ice_defs.specs.Lawful.{AreBounds, IsBidder}
 use Rattle.ice_defs.specs.Session.{standings_from}
 use Rattle.ice_rounds.specs.Keeping.{HaveBounds, RoundsKeepBounds}
 
@@ -105,3 +105,9 @@ bounds_from [] [] same each = tt
 bounds_from [] (now ∷ bounds) same each = absurd (omega (arith, same))
 bounds_from (b ∷ bidders) [] same each = absurd (omega (arith, same))
 bounds_from (b ∷ bidders) (now ∷ bounds) same each = (each 0 (omega arith), bounds_from bidders bounds (omega (arith, same)) (λ c h. each (suc c) (omega (arith, h))))
+
+-- ---- the opening bounds
+
+pub opening_have_bounds : (goods : ℕ) (bidders : List Bidder) → AllByRecursion (IsBidder goods) bidders → HaveBounds bidders (map (λ (bidder : Bidder). bidder.bounds) bidders)
+opening_have_bounds goods [] are = tt
+opening_have_bounds goods (b ∷ bidders) are = ((are.0).bounds, opening_have_bounds goods bidders are.1)
