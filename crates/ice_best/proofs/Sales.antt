@@ -20,6 +20,7 @@ use Rattle.ice_defs.proofs.Sums.{sum_below-add, sum_below-zero, sum_below-low, s
 use Rattle.ice_best.proofs.NewEntry.{weight_of-put_same, weight_of-put_other}
 use Rattle.ice_best.proofs.Deciding.{is_satisfied-true, is_satisfied-from}
 use Rattle.ice_defs.proofs.NodeSets.{meets_free}
+use Rattle.ice_defs.proofs.EmptySets.{replicate_at, empty_satisfied, units-empty}
 
 -- ---- lists
 
@@ -49,25 +50,6 @@ unfolding all_sets
 all_sets-has [] = (0, omega arith, refl)
 all_sets-has (true ∷ s) = Contains-append_right (map (λ r. false ∷ r) (all_sets (length s))) _ (true ∷ s) (Contains-map (λ r. true ∷ r) (all_sets (length s)) s (all_sets-has s))
 all_sets-has (false ∷ s) = Contains-append_left _ _ (false ∷ s) (Contains-map (λ r. false ∷ r) (all_sets (length s)) s (all_sets-has s))
-
--- ---- the empty set
-
-alike : {X : Type 0} (m n : ℕ) (a : X) → get_or (replicate m a) n a ≡ a
-alike zero n a = refl
-alike (suc m) zero a = refl
-alike (suc m) (suc n) a = alike m n a
-
-empty_satisfied : (t : Tree) → IsSatisfied t (replicate (length t) false)
-empty_satisfied t = record {
-  same_length = length-replicate (length t) false;
-  parent_inside = λ c h l f. absurd (both_ways _ (alike (length t) c false) f);
-  count_inside = λ n l f. absurd (both_ways _ (alike (length t) n false) f);
-}
-
-units-empty : (t : Tree) (g : ℕ) → units t (replicate (length t) false) g ≡ pos 0
-units-empty t g =
-    sum_below-zero (λ n. cond (has (replicate (length t) false) n) (leaf_units (kind_of t n) g) (pos 0)) (length t)
-    (λ n h. ap (λ b. cond b (leaf_units (kind_of t n) g) (pos 0)) (alike (length t) n false))
 
 -- ---- the greatest sale
 

@@ -6,7 +6,7 @@ use Rattle.std.proofs.lemmas.Bool.{cases_lt, eqb-true, eqb-false, false_from_ne_
 use Rattle.std.proofs.lemmas.Option.{none-some}
 use Rattle.std.proofs.lemmas.List.{append-nil, append_assoc, map-append, length-replicate, get_or_append_left, get_or_at}
 use Rattle.ice_defs.proofs.Lists.{all_push}
-use Rattle.ice_defs.proofs.NodeSets.{free_at}
+use Rattle.ice_defs.proofs.Starts.{meets_free_side}
 use Rattle.ice_defs.specs.declared.Mark.{Mark}
 use Rattle.ice_defs.specs.declared.Mark.TheVariants.{Free, Must, Never}
 use Rattle.ice_defs.specs.Tree.{Tree}
@@ -343,14 +343,6 @@ log_goes_on before s front g found side open_sides m r after is e pass closing P
 
 -- ---- the best assignment
 
-pub free_marks : (ts : List Tree) (b n : ℕ) → mark_of (fixing_of (free_side ts) b) n ≡ Free
-free_marks [] b n = refl
-free_marks (t ∷ ts) zero n = free_at (length t) n
-free_marks (t ∷ ts) (suc b) n = free_marks ts b n
-
-meets_free : (ts : List Tree) (a : Assignment) → MeetsAll a (free_side ts)
-meets_free ts a b l n k = subst (λ (x : Mark). Agrees x (has (get_or a b []) n)) (sym (free_marks ts b n)) tt
-
 -- where the search began with all nodes free, no feasible assignment is worth more
 pub best_found : (refutes : LogRefutes) (before : List Record) (s : State) (front : List Record) (g : Group) (found : Stated) → start_of (trees_at s) g ≡ free_side (trees_at s)
     → (is : InProved before s front g found) → IsBestFound (exchange_at s) s.bounds (weights_at s g) (so_far found is.log)
@@ -361,6 +353,6 @@ best_found refutes before s front g found free is = record {
     attained = (found.sets, is.feasible, is.valued);
     bound = λ a feasible.
         refutes (trees_at s) (exact_at s) (weights_at s g) found.value (free_side (trees_at s)) is.log a is.counts
-        (subst (λ (start : Side). Passes (trees_at s) (exact_at s) (weights_at s g) found.value start is.log) free is.passes) feasible (meets_free (trees_at s) a);
+        (subst (λ (start : Side). Passes (trees_at s) (exact_at s) (weights_at s g) found.value start is.log) free is.passes) feasible (meets_free_side (trees_at s) a);
   };
 }

@@ -16,45 +16,8 @@ use Rattle.ice_defs.specs.Group.{free_side, start_of}
 use Rattle.ice_journal.specs.Records.{Record}
 use Rattle.ice_refute.specs.Laws.{LogRefutes}
 use Rattle.ice_journal_laws.specs.State.{Stated, State, trees_at, exact_at, weights_at}
-use Rattle.ice_journal_laws.proofs.Grouping.{InProved, free_marks}
-
--- a mark that asks for no node
-abbrev AsksNone : Mark → Type 0
-AsksNone Free = Unit {0}
-AsksNone Must = ⊥
-AsksNone Never = Unit {0}
-
-agrees_none : (k : Mark) (b : Bool) → AsksNone k → b ≡ false → Agrees k b
-agrees_none Free b h e = tt
-agrees_none Must b h e = absurd h
-agrees_none Never b h e = e
-
-marks_at : (x : Fixing) → ((n : ℕ) → mark_of x n ≡ Free) → (n : ℕ) → AsksNone (mark_of (slice_set x 0 Never) n)
-marks_at [] free n = tt
-marks_at (m ∷ x) free zero = tt
-marks_at (m ∷ x) free (suc n) = subst AsksNone (sym (free (suc n))) tt
-
-side_count : (ts : List Tree) → length (free_side ts) ≡ length ts
-side_count [] = refl
-side_count (t ∷ ts) = ap suc (side_count ts)
-
--- where the bidder's set is empty, it meets the start
-meets_without : (ts : List Tree) (b : ℕ) (a : Assignment) → b < length ts → IsEmpty (set_of a b) → MeetsAll a (start_of ts (Without b))
-meets_without ts b a there empty c l n k = by (cases_eq c b)
-  where
-    out : Fixing
-    out = slice_set (fixing_of (free_side ts) b) 0 Never
-
-    is_out : fixing_of (with_mark (free_side ts) b 0 Never) b ≡ out
-    is_out = get_or-set_same (free_side ts) b out [] (omega (arith, there, side_count ts))
-
-    by : (c ≡ b) ⊎ (c ≡ b → ⊥) → Agrees (mark_of (fixing_of (with_mark (free_side ts) b 0 Never) c) n) (has (set_of a c) n)
-    by (inl e) =
-        subst (λ (d : ℕ). Agrees (mark_of (fixing_of (with_mark (free_side ts) b 0 Never) d) n) (has (set_of a d) n)) (sym e)
-        (agrees_none _ _ (subst (λ (x : Fixing). AsksNone (mark_of x n)) (sym is_out) (marks_at (fixing_of (free_side ts) b) (free_marks ts b) n)) (empty n (subst (λ (d : ℕ). n < length (set_of a d)) e k)))
-    by (inr ne) =
-        subst (λ (x : Fixing). Agrees (mark_of x n) (has (set_of a c) n)) (sym (get_or-set_other (free_side ts) b c out [] ne))
-        (subst (λ (x : Mark). Agrees x (has (set_of a c) n)) (sym (free_marks ts c n)) tt)
+use Rattle.ice_journal_laws.proofs.Grouping.{InProved}
+use Rattle.ice_defs.proofs.Starts.{meets_without}
 
 -- where a bidder was left out, no feasible assignment without it is worth more
 pub best_without : (refutes : LogRefutes) (before : List Record) (s : State) (front : List Record) (b : ℕ) (found : Stated) → b < length (trees_at s)

@@ -1,10 +1,8 @@
 -- Nodes that leave both children live.
-use Rattle.std.proofs.Common.{ℕ, ◌≡◌, List, ℤ, arith, ap, sym, ◌∙◌, subst}
+use Rattle.std.proofs.Common.{ℕ, ◌≡◌, List, arith, ap, sym, ◌∙◌, subst}
 use Rattle.ice_defs.specs.declared.Mark.{Mark}
 use Rattle.ice_defs.specs.declared.Mark.TheVariants.{Free, Must, Never}
 use Rattle.ice_defs.specs.Tree.{Tree}
-use Rattle.ice_defs.specs.Set.{Weights}
-use Rattle.ice_defs.specs.Bound.{Multipliers, IsNetSum}
 use Rattle.ice_defs.specs.Steps.{Side, with_mark}
 use Rattle.ice_defs.specs.Log.{IsFreeNode}
 use Rattle.ice_defs.specs.Sweep.{IsLive}
@@ -13,9 +11,6 @@ use Rattle.ice_bound.specs.Conditions.{AreFixingsOf}
 use Rattle.ice_bound.specs.Kept.{Standing}
 use Rattle.ice_refute.proofs.Kept.{with_mark-back}
 use Rattle.ice_search.specs.Nodes.{IsSplitNode, IsSameStanding}
-
-pub summed_is_live : (ts : List Tree) (ws : List Weights) (m : Multipliers) (side : Side) (total : ℤ) → IsNetSum ts ws m side total → IsLive ts side
-summed_is_live ts ws m side total (best, greatest, is) b l = let (s, open_set, e) = (greatest b l).attained in (s, open_set)
 
 pub dead_is_not : (ts : List Tree) (side : Side) (b : ℕ) → IsFirstDead ts side b → ¬ IsLive ts side
 dead_is_not ts side b is live = let (s, open_set) = live b is.there in is.dead s open_set
