@@ -1,0 +1,5 @@
+use Rattle.ice_bound.specs.Conditions.{AreMultipliersOf}
+use Rattle.ice_vickrey.proofs.hints.lawful.Given as goal
+
+abbrev pub invariant-loop-good : goal.invariant-loop-good
+invariant-loop-good l = AreMultipliersOf l.exact l.made

@@ -1,0 +1,3 @@
+pub mod Economy
+pub mod Stored
+pub mod Marginals

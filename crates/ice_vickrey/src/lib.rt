@@ -1,0 +1,10 @@
+//! Marginal economies: what a market is worth without each of its bidders, and the Vickrey discounts that follow.
+#![tactic(auto)]
+
+mod economy;
+mod entry;
+mod hints;
+mod marginal;
+
+pub use entry::discounts;
+pub use marginal::{DiscountEnd, Marginal};

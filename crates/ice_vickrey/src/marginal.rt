@@ -1,0 +1,57 @@
+//! What a market is worth without a bidder.
+
+use ice_refute::Log;
+use ice_search::{SearchEnd, Spent};
+use ice_tree::Assignment;
+use std::alloc::{AllocError, AllocFailed};
+
+/// What a market is worth without one of its bidders, at lower values, and what shows it.
+#[derive(Drop)]
+pub struct Marginal {
+    /// The bidder that is left out.
+    pub bidder: u8,
+    /// The greatest value of a feasible assignment in which the bidder has the empty set.
+    pub without: i128,
+    /// The bidder's Vickrey discount: what the best assignment of all is worth above that.
+    pub discount: i128,
+    /// A feasible assignment of that value, one set for each bidder, the empty one for the bidder that is left out.
+    pub witness: Assignment,
+    /// It refutes every feasible assignment without the bidder that is worth more.
+    pub log: Log,
+}
+
+/// Why not all discounts are known.
+#[derive(Drop)]
+pub enum DiscountEnd {
+    /// A search spent the branches.
+    Spent {
+        /// The bidders before the one whose search it was, in order.
+        done: Vec<Marginal>,
+        /// What is known without that bidder.
+        spent: Spent,
+    },
+    /// No memory was left. It says nothing of the assignments.
+    NoMemory,
+}
+
+impl From<AllocError> for DiscountEnd {
+    ghost use Rattle.std.specs.Prelude.{◌≡◌};
+    ghost use Rattle.ice_vickrey.specs.declared.marginal.DiscountEnd.{DiscountEnd};
+
+    ghost from_gives = { λ _ e. e ≡ DiscountEnd.NoMemory };
+
+    fn from(_: AllocError) -> DiscountEnd {
+        DiscountEnd::NoMemory
+    }
+}
+
+impl<T: Drop> From<AllocFailed<T>> for DiscountEnd {
+    ghost use Rattle.std.specs.Prelude.{◌≡◌};
+    ghost use Rattle.ice_vickrey.specs.declared.marginal.DiscountEnd.{DiscountEnd};
+
+    ghost from_gives = { λ _ e. e ≡ DiscountEnd.NoMemory };
+
+    fn from(_failed: AllocFailed<T>) -> DiscountEnd {
+        DiscountEnd::NoMemory
+    }
+}
