@@ -10,7 +10,9 @@ mod solution;
 mod stages;
 mod turn;
 mod weighing;
+mod work;
 
 pub use ends::{LimitKind, PoolMember, PriceEnd, PriceLimit, Stage};
 pub use ice_pricing::{Certificate, CertificateRow, Pricing};
-pub use pricing::price;
+pub use pricing::{price, run_prices};
+pub use work::RunWork;

@@ -1,5 +1,5 @@
 //! Prices of an exchange for the provisional sets of its bidders.
-ghost use Rattle.std.specs.Prelude.{ℕ, ◌≡◌, ◌<◌, length, IfOk, IfErr};
+ghost use Rattle.std.specs.Prelude.{ℕ, ◌≡◌, ◌<◌, length, IfOk, IfErr, IfSome};
 ghost use Rattle.ice_defs.specs.Exchange.{trees_of};
 ghost use Rattle.ice_defs.specs.Weighing.{weighted_weights};
 ghost use Rattle.ice_rows.specs.Laws.{AreSatisfied};
@@ -10,7 +10,9 @@ ghost use Rattle.ice_pricing.specs.Bounding.{AreBoundsOf};
 use crate::ends::{PoolMember, PriceEnd, Stop};
 use crate::stages::StageAt;
 use crate::turn::run_stage;
-use ice_pricing::{Pricing, Provisional, weighted_values};
+use crate::work::RunWork;
+use ice_cuts::{Work, cut_prices};
+use ice_pricing::{Pricing, Provisional, Scratch, weighted_values};
 use ice_trade::Exchange;
 use ice_tree::{Assignment, Bounds};
 use std::alloc::Global;
@@ -26,20 +28,42 @@ fn end_of(stop: Stop, at: &StageAt, pool: Vec<PoolMember>, trade: &Provisional<'
     }
 }
 
-/// The prices of a provisional trade.
-fn run(alloc: Global, trade: &Provisional<'_>) -> Result<Pricing, PriceEnd>
+/// The prices that cutting planes find, where they pass all tests.
+fn cut(alloc: Global, trade: &Provisional<'_>) -> Option<Pricing>
+    ensures { IfSome result (IsPriced trade.now) }
+{
+    let pricing = cut_prices(alloc, trade, &mut Work::none()).ok()?;
+    if pricing.prices.goods() != trade.goods() {
+        return None;
+    }
+    if !pricing.accuracy.is_limited() || !pricing.balance.is_limited() {
+        return None;
+    }
+    if !pricing.passes(trade, &mut Scratch::new()) {
+        return None;
+    }
+    Some(pricing)
+}
+
+/// The prices of a provisional trade as `price` gives them, but by the stated run of pricing alone. Turns and pivots are
+/// added to `work`.
+pub fn run_prices(
+    alloc: Global,
+    trade: &Provisional<'_>,
+    work: &mut RunWork,
+) -> Result<Pricing, PriceEnd>
     ensures priced { IfOk result (IsPriced trade.now) }
     ensures ended { IfErr result (IsPriceEnd trade.now) }
 {
     let _goods = trade.goods();
     let mut pool = Vec::new(alloc);
     let first = StageAt::accuracy();
-    let accuracy = match run_stage(alloc, trade, &first, &mut pool) {
+    let accuracy = match run_stage(alloc, trade, &first, &mut pool, work) {
         Ok(end) => end,
         Err(stop) => return Err(end_of(stop, &first, pool, trade)),
     };
     let second = StageAt::balance(accuracy.violation, accuracy.prices.den() as u64);
-    let balance = match run_stage(alloc, trade, &second, &mut pool) {
+    let balance = match run_stage(alloc, trade, &second, &mut pool, work) {
         Ok(end) => end,
         Err(stop) => return Err(end_of(stop, &second, pool, trade)),
     };
@@ -58,7 +82,8 @@ fn run(alloc: Global, trade: &Provisional<'_>) -> Result<Pricing, PriceEnd>
 /// than its own. Of those with that violation, none have a smaller greatest price. Two certificates of at most 200 rows
 /// each show it, as `check_pricing` tests.
 ///
-/// `Limit` comes only where the stated run of pricing ends at a limit: a program is too wide or takes too many pivots, 200
+/// They are sought by cutting planes first. What these find is given only where it passes all tests; else the stated run
+/// of pricing takes their place. `Limit` comes only where that ends at a limit: a program is too wide or takes too many pivots, 200
 /// sets don't suffice, or a denominator or a weight is above 2^32. `NoMemory` comes at any time.
 pub fn price(
     alloc: Global,
@@ -75,5 +100,9 @@ pub fn price(
         IfErr result (IsPriceEnd (provisional_of exchange.now ws sets.now)) }
 {
     let weights = weighted_values(alloc, exchange, bounds)?;
-    run(alloc, &Provisional::of(exchange, &weights, sets))
+    let trade = Provisional::of(exchange, &weights, sets);
+    match cut(alloc, &trade) {
+        Some(pricing) => Ok(pricing),
+        None => run_prices(alloc, &trade, &mut RunWork::none()),
+    }
 }

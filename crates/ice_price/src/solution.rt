@@ -6,6 +6,7 @@ ghost use Rattle.ice_price.specs.Runs.{IsState, IsSolved};
 use crate::ends::{LimitKind, PoolMember, Stop};
 use crate::program::stage_program;
 use crate::stages::StageAt;
+use crate::work::RunWork;
 use ice_frac::Frac;
 use ice_lp::{LpAnswer, LpEnd, solve};
 use ice_pricing::Provisional;
@@ -37,6 +38,7 @@ pub(crate) fn solve_stage(
     trade: &Provisional<'_>,
     at: &StageAt,
     pool: &[PoolMember],
+    work: &mut RunWork,
 ) -> Result<Solution, Stop>
     requires { IsState trade.now at.now pool.now }
     ensures solved { IfOk result (λ s.
@@ -46,7 +48,9 @@ pub(crate) fn solve_stage(
     let _goods = trade.goods();
     let program = stage_program(alloc, trade, at, pool)?;
     let mut pivots = 0;
-    let answer = match solve(alloc, &program, &mut pivots) {
+    let solved = solve(alloc, &program, &mut pivots);
+    work.add_turn(pivots);
+    let answer = match solved {
         Ok(answer) => answer,
         Err(end) => return Err(stop_of(end)),
     };

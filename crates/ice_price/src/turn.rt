@@ -15,6 +15,7 @@ use crate::scan::{Scan, scan_bidders};
 use crate::solution::solve_stage;
 use crate::stages::{StageAt, StageEnd};
 use crate::weighing::certified;
+use crate::work::RunWork;
 use ice_frac::Frac;
 use ice_pricing::{Provisional, Scratch};
 use ice_terms::Prices;
@@ -89,13 +90,14 @@ fn take_turn(
     at: &StageAt,
     pool: &[PoolMember],
     scratch: &mut Scratch,
+    work: &mut RunWork,
 ) -> Result<Turn, Stop>
     requires { IsState trade.now at.now pool.now }
     ensures turn { IfOk result (IsTurn trade.now at.now pool.now) }
     ensures stopped { IfErr result (IsStopped trade.now at.now pool.now) }
 {
     let goods = usize::from(trade.goods());
-    let solution = solve_stage(alloc, trade, at, pool)?;
+    let solution = solve_stage(alloc, trade, at, pool, work)?;
     let Some(prices) = prices_of(trade, &solution.point) else {
         return Err(Stop::AtLimit(LimitKind::Den));
     };
@@ -120,6 +122,7 @@ pub(crate) fn run_stage(
     trade: &Provisional<'_>,
     at: &StageAt,
     pool: &mut Vec<PoolMember>,
+    work: &mut RunWork,
 ) -> Result<StageEnd, Stop>
     requires { IsState trade.now at.now pool.old.items }
     ensures state { IfOk result (λ _. IsState trade.now at.now pool.new.items) }
@@ -129,7 +132,7 @@ pub(crate) fn run_stage(
 {
     let mut scratch = Scratch::new();
     'turns: loop {
-        match take_turn(alloc, trade, at, pool, &mut scratch)? {
+        match take_turn(alloc, trade, at, pool, &mut scratch, work)? {
             Turn::Adds(member) => pool.push(member)?,
             Turn::Ends(end) => return Ok(end),
         }

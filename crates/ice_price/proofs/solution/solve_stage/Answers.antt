@@ -15,9 +15,9 @@ stage_program-requires-clause-few c =
 
 pub returns-clause-solved : goal.returns-clause-solved
 returns-clause-solved c =
-    let own = subst (λ (a : LpAnswer). IsAnswer c.in_ok-program.program (c.solve.new.pivots - 0) a) c.in-Least.is c.in-Ok.ensures.answer in
+    let own = subst (λ (a : LpAnswer). IsAnswer c.in_ok-program.program (c.solve-solved.new.pivots - 0) a) c.in-Least.is c.in-Ok.ensures.answer in
     let (d, ends, point, duals) = own in
-    answered c.args.trade.now c.args.at.now c.args.pool.now c.in_ok-program.program (c.solve.new.pivots - 0) d c.in-Least.point.items c.in-Least.duals.items c.in_ok-program.ensures ends point duals c.goods-goods.ensures.proper c.requires
+    answered c.args.trade.now c.args.at.now c.args.pool.now c.in_ok-program.program (c.solve-solved.new.pivots - 0) d c.in-Least.point.items c.in-Least.duals.items c.in_ok-program.ensures ends point duals c.goods-goods.ensures.proper c.requires
 
 pub unreachable-requires : goal.unreachable-requires
 unreachable-requires c =

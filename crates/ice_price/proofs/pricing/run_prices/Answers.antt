@@ -10,7 +10,7 @@ use Rattle.ice_price.specs.Runs.{IsState, IsStageEnd}
 use Rattle.ice_price.specs.Stages.{IsSizedStage}
 use Rattle.ice_price.proofs.Deltas.{violation-sized}
 use Rattle.ice_price.proofs.Finishing.{turned, found}
-use Rattle.ice_price.proofs.pricing.run.Goals as goal
+use Rattle.ice_price.proofs.pricing.run_prices.Goals as goal
 
 pub run_stage-requires : goal.run_stage-requires
 run_stage-requires c =
