@@ -20,6 +20,10 @@ pub mod Amount
 pub mod Answered
 -- what a record makes of the tests while the exchange is described
 pub mod Places
+-- what a record makes of the tests at prices, at their certificates and in a round
+pub mod Priced
+-- and at the rows of their certificates
+pub mod PricedRows
 -- what a set makes of the tests, in any group
 pub mod Sets
 -- what a record of a log makes of the tests, in any group
