@@ -1,11 +1,12 @@
 -- Puts one after another, seen as one put of the whole text.
-use Rattle.std.proofs.Common.{◌≡◌, ◌∙◌, ap, sym, refl, subst, ℕ, ◌+◌, ◌<◌, ◌≤◌, List, [], ◌∷◌, ◌++◌, length, get_or, take, drop, Option, Some, None, append_assoc, length-append, arith}
+use Rattle.std.proofs.Common.{◌≡◌, ◌∙◌, ap, sym, refl, subst, ℕ, ◌+◌, ◌<◌, ◌≤◌, List, [], ◌∷◌, ◌++◌, length, get_or, take, drop, Option, Some, None, Result, Ok, Err, OnOk, OnErr, append_assoc, length-append, arith}
 use Rattle.std.proofs.lemmas.List.{append-nil, take-append-le, take-append-drop, take_more}
 use Rattle.std.proofs.lemmas.List.Concat.{flat_map-append}
 use Rattle.std.specs.List.{flat_map}
 use Rattle.std.proofs.Math.Seq.{take-append-add}
 use Rattle.ice_edge.specs.Edge.{Rose, Appends, AppendsFront}
-use Rattle.ice_edge.specs.Puts.{Takes, FailsIn, TakesAllBut}
+use Rattle.ice_edge.specs.declared.sink.SinkFault.{SinkFault}
+use Rattle.ice_edge.specs.Puts.{Takes, FailsIn, IsPut, TakesAllBut}
 
 pub Appends-nothing : (old : Option (List ℕ)) → Appends old [] old
 Appends-nothing None = tt
@@ -92,3 +93,10 @@ pub last_taken : (piece whole : List ℕ) (old mid new : Option (List ℕ)) (f g
 last_taken piece whole old mid new f g h so b =
     let P : List ℕ → Type 0 = λ t. Takes t old new f h in
     subst P (sym so.split) (takes_join so.front piece old mid new f g h so.takes b)
+
+-- ---- one put
+
+pub put_is : (text : List ℕ) (put : Result (Unit {0}) SinkFault) (old new : Option (List ℕ)) (f g : ℕ) → OnOk put (Appends old text new) → OnErr put (AppendsFront old text new) → OnErr put (Rose f g) → f ≤ g
+    → IsPut text put old new f g
+put_is text (Ok done) old new f g ok err failed later = record { appends = ok; later = later }
+put_is text (Err fault) old new f g ok err failed later = record { front = err; rose = failed; later = later }

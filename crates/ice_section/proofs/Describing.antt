@@ -14,7 +14,8 @@ use Rattle.ice_defs.specs.Name.{is_name}
 use Rattle.ice_defs.specs.Tree.{Tree, IsInterval, kind_of, is_child, children_of}
 use Rattle.ice_defs.specs.Set.{weight_of, units}
 use Rattle.ice_defs.specs.Making.{node_count, over_sale}
-use Rattle.ice_defs.specs.Lawful.{IsLimitedKind, IsBidder}
+use Rattle.ice_defs.specs.Bounds.{Bounds}
+use Rattle.ice_defs.specs.Lawful.{IsLimitedKind, IsLimitedTree, AreBounds, IsBidder}
 use Rattle.ice_defs.specs.Exchange.{Settings, Good, Bidder}
 use Rattle.ice_defs.proofs.Lists.{all-append, all_middle}
 use Rattle.ice_defs.proofs.Naming.{AreNamed, new_among}
@@ -102,7 +103,7 @@ few_numbers p (suc n) first =
     one true = omega arith
     one false = omega arith
 
-few_children : (t : Tree) (p : ℕ) → 0 < length t → length t ≤ 200 → length (children_of t p) ≤ 199
+pub few_children : (t : Tree) (p : ℕ) → 0 < length t → length t ≤ 200 → length (children_of t p) ≤ 199
 few_children t p some few = by (length t - 1) (omega arith)
   where
     by : (n : ℕ) → length t ≡ suc n → length (children_of t p) ≤ 199
@@ -114,13 +115,19 @@ node_is_record goods (Choose least most) children lo hi few fits interval count 
 node_is_record goods (Buy good units) children lo hi few fits interval count low high = (omega (arith, fits), (fits.1, fits.2), low, high)
 node_is_record goods (Sell good units) children lo hi few fits interval count low high = (omega (arith, fits), (fits.1, fits.2), low, high)
 
+-- the nodes of a tree with its bounds
+pub nodes_are_records : (goods : ℕ) (t : Tree) (bounds : Bounds) → goods ≤ 32 → IsLimitedTree goods t → AreBounds (length t) bounds → (n : ℕ) → n < length t
+    → IsRecord (node_record (kind_of t n) (length (children_of t n)) (weight_of bounds.lo n) (weight_of bounds.hi n))
+nodes_are_records goods t bounds few is are n l =
+    node_is_record goods (kind_of t n) (length (children_of t n)) (weight_of bounds.lo n) (weight_of bounds.hi n) few (is.kinds n l) (is.tree.interval n l)
+    (few_children t n is.tree.rooted is.count)
+    (are.low n l, omega (arith, ints, are.ordered n l, are.high n l)) (omega (arith, ints, are.low n l, are.ordered n l), are.high n l)
+
 bidder_are_records : (goods : ℕ) (b : Bidder) → 1 ≤ goods → goods ≤ 32 → IsTrue (is_name b.name) → IsBidder goods b → AllByRecursion IsRecord (bidder_records b)
 bidder_are_records goods b some few named is = (
   (named, (omega (arith, is.own_count), omega (arith, is.own_count)), is.own),
-  all_numbers IsRecord (λ n. node_record (kind_of b.tree n) (length (children_of b.tree n)) (weight_of b.bounds.lo n) (weight_of b.bounds.hi n)) (length b.tree) (λ n l.
-      node_is_record goods (kind_of b.tree n) (length (children_of b.tree n)) (weight_of b.bounds.lo n) (weight_of b.bounds.hi n) few (is.tree.kinds n l) (is.tree.tree.interval n l)
-      (few_children b.tree n is.tree.tree.rooted is.tree.count)
-      (is.bounds.low n l, omega (arith, ints, is.bounds.ordered n l, is.bounds.high n l)) (omega (arith, ints, is.bounds.low n l, is.bounds.ordered n l), is.bounds.high n l)),
+  all_numbers IsRecord (λ n. node_record (kind_of b.tree n) (length (children_of b.tree n)) (weight_of b.bounds.lo n) (weight_of b.bounds.hi n)) (length b.tree)
+      (nodes_are_records goods b.tree b.bounds few is.tree is.bounds),
 )
 
 good_are_records : (goods : List Good) → AllByRecursion (λ name. IsTrue (is_name name)) (map (λ g. g.name) goods) → AllByRecursion IsRecord (map good_record goods)
