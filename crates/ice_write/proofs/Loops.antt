@@ -1,0 +1,104 @@
+-- Texts that are put piece by piece, and lists element by element.
+use Rattle.std.proofs.Common.{◌≡◌, ◌∙◌, refl, ap, sym, subst, ℕ, zero, suc, ◌+◌, ◌<◌, ◌≤◌, List, [], ◌∷◌, ◌++◌, length, map, drop, get_or, Option, Result, Ok, Err, arith, add-one, drop-cons}
+use Rattle.std.specs.List.{AllByRecursion, flat_map}
+use Rattle.std.proofs.lemmas.List.{drop_all}
+use Rattle.std.proofs.lemmas.List.Concat.{flat_map-cons, flat_map-append}
+use Rattle.std.proofs.lemmas.List.Folds.{flat_map-map}
+use Rattle.ice_edge.specs.declared.sink.SinkFault.{SinkFault}
+use Rattle.ice_edge.specs.Puts.{Takes, FailsIn, IsPut, TakesAllBut}
+use Rattle.ice_edge.proofs.Puts.{takes_join, front-append, append-front, rose-sooner, less_left, fails_next, none_left}
+use Rattle.ice_journal.specs.Records.{Record}
+use Rattle.ice_journal.specs.Journal.{bytes_of}
+use Rattle.ice_journal.specs.Spelling.{line_of}
+
+-- the same text in other words
+pub fails_as : {old new : Option (List ℕ)} {f g : ℕ} (text whole : List ℕ) (put : Result (Unit {0}) SinkFault) (fault : SinkFault) → put ≡ Err fault → text ≡ whole → FailsIn whole old new f g → IsPut text put old new f g
+fails_as {old = old} {new = new} {f = f} {g = g} text whole put fault is same fails =
+    subst (λ r. IsPut text r old new f g) (sym is) (subst (λ (t : List ℕ). FailsIn t old new f g) (sym same) fails)
+
+pub takes_as : {old new : Option (List ℕ)} {f g : ℕ} (text whole : List ℕ) → text ≡ whole → Takes whole old new f g → Takes text old new f g
+takes_as {old = old} {new = new} {f = f} {g = g} text whole same takes = subst (λ (t : List ℕ). Takes t old new f g) (sym same) takes
+
+pub put_as : (text whole : List ℕ) (put : Result (Unit {0}) SinkFault) (old new : Option (List ℕ)) (f g : ℕ) → text ≡ whole → IsPut whole put old new f g → IsPut text put old new f g
+put_as text whole put old new f g same is = subst (λ (t : List ℕ). IsPut t put old new f g) (sym same) is
+
+module _ {X : Type 0} (f : X → List ℕ) (xs : List X) (i : ℕ) (x : X) (there : i < length xs) (is : get_or xs i x ≡ x) where
+  opened : flat_map f (drop i xs) ≡ f x ++ flat_map f (drop (i + 1) xs)
+  opened = rw (drop-cons xs i x there, is, add-one i) (flat_map-cons f x (drop (suc i) xs))
+
+  module _ (piece whole : List ℕ) (same : piece ≡ f x) where
+    next_left : {old mid : Option (List ℕ)} {faults later : ℕ} → TakesAllBut (flat_map f (drop i xs)) whole old mid faults later → TakesAllBut (piece ++ flat_map f (drop (i + 1) xs)) whole old mid faults later
+    next_left {old = old} {mid = mid} {faults = faults} {later = later} left =
+        subst (λ (t : List ℕ). TakesAllBut t whole old mid faults later) (opened ∙ ap (λ (t : List ℕ). t ++ flat_map f (drop (i + 1) xs)) (sym same)) left
+
+    -- the next one is put
+    pub one_more : {old mid new : Option (List ℕ)} {faults later last : ℕ} → TakesAllBut (flat_map f (drop i xs)) whole old mid faults later → Takes piece mid new later last → TakesAllBut (flat_map f (drop (i + 1) xs)) whole old new faults last
+    one_more {old = old} {mid = mid} {new = new} {faults = faults} {later = later} {last = last} left takes =
+        less_left piece (flat_map f (drop (i + 1) xs)) whole old mid new faults later last (next_left left) takes
+
+    -- or the sink fails in it
+    pub one_fails : {old mid new : Option (List ℕ)} {faults later last : ℕ} → TakesAllBut (flat_map f (drop i xs)) whole old mid faults later → FailsIn piece mid new later last → FailsIn whole old new faults last
+    one_fails {old = old} {mid = mid} {new = new} {faults = faults} {later = later} {last = last} left fails =
+        fails_next piece (flat_map f (drop (i + 1) xs)) whole old mid new faults later last (next_left left) fails
+
+-- all of them are put
+pub all_put : {X : Type 0} {old new : Option (List ℕ)} {faults later : ℕ} (f : X → List ℕ) (xs : List X) (n : ℕ) (whole : List ℕ) → length xs ≤ n
+    → TakesAllBut (flat_map f (drop n xs)) whole old new faults later → Takes whole old new faults later
+all_put {old = old} {new = new} {faults = faults} {later = later} f xs n whole all left =
+    none_left whole old new faults later (subst (λ l. TakesAllBut (flat_map f l) whole old new faults later) (drop_all n xs all) left)
+
+-- the bytes of one record for each element, and of several
+pub bytes_map : {X : Type 0} (r : X → Record) (xs : List X) → bytes_of (map r xs) ≡ flat_map (λ x. line_of (r x)) xs
+bytes_map r xs = flat_map-map line_of r xs
+
+pub bytes_append : (a b : List Record) → bytes_of (a ++ b) ≡ bytes_of a ++ bytes_of b
+bytes_append a b = flat_map-append line_of a b
+
+pub bytes_cons : (r : Record) (a : List Record) → bytes_of (r ∷ a) ≡ line_of r ++ bytes_of a
+bytes_cons r a = flat_map-cons line_of r a
+
+pub bytes_flat : {X : Type 0} (rs : X → List Record) (xs : List X) → bytes_of (flat_map rs xs) ≡ flat_map (λ x. bytes_of (rs x)) xs
+bytes_flat rs [] = refl
+bytes_flat rs (x ∷ xs) = ap bytes_of (flat_map-cons rs x xs) ∙ bytes_append (rs x) (flat_map rs xs) ∙ ap (λ (t : List ℕ). bytes_of (rs x) ++ t) (bytes_flat rs xs) ∙ sym (flat_map-cons (λ y. bytes_of (rs y)) x xs)
+
+-- what stands at a place stands there whatever stands past the end
+pub same_there : {X : Type 0} (xs : List X) (i : ℕ) (d : X) → i < length xs → get_or xs i (get_or xs i d) ≡ get_or xs i d
+same_there [] i d there = absurd (omega (arith, there))
+same_there (x ∷ xs) zero d there = refl
+same_there (x ∷ xs) (suc i) d there = same_there xs i d (omega (arith, there))
+
+-- what holds of each that is left holds of the next one and of those after it
+pub next_all : {X : Type 0} (P : X → Type 0) (xs : List X) (i : ℕ) (d : X) → i < length xs → AllByRecursion P (drop i xs) → P (get_or xs i d) × AllByRecursion P (drop (i + 1) xs)
+next_all P xs i d there all =
+    let both : AllByRecursion P (get_or xs i d ∷ drop (suc i) xs) = subst (AllByRecursion P) (drop-cons xs i d there) all in
+    let next : suc i ≡ i + 1 = omega arith in
+    (both.0, subst (λ (n : ℕ). AllByRecursion P (drop n xs)) next both.1)
+
+-- ---- two pieces
+
+pub first_fails : {old new : Option (List ℕ)} {f g : ℕ} (piece rest : List ℕ) → FailsIn piece old new f g → FailsIn (piece ++ rest) old new f g
+first_fails {old = old} {new = new} {f = f} {g = g} piece rest fails = record { front = front-append old new piece rest fails.front; rose = fails.rose; later = fails.later }
+
+pub then_fails : {old mid new : Option (List ℕ)} {f g h : ℕ} (piece rest : List ℕ) → Takes piece old mid f g → FailsIn rest mid new g h → FailsIn (piece ++ rest) old new f h
+then_fails {old = old} {mid = mid} {new = new} {f = f} {g = g} {h = h} piece rest takes fails = record {
+  front = append-front old mid new piece rest takes.appends fails.front;
+  rose = rose-sooner f g h takes.later fails.rose;
+  later = omega (arith, takes.later, fails.later);
+}
+
+pub takes_both : {old mid new : Option (List ℕ)} {f g h : ℕ} (piece rest : List ℕ) → Takes piece old mid f g → Takes rest mid new g h → Takes (piece ++ rest) old new f h
+takes_both {old = old} {mid = mid} {new = new} {f = f} {g = g} {h = h} piece rest a b = takes_join piece rest old mid new f g h a b
+
+pub then_put : {old mid : Option (List ℕ)} {f g : ℕ} (piece rest : List ℕ) (put : Result (Unit {0}) SinkFault) (new : Option (List ℕ)) (h : ℕ) → Takes piece old mid f g → IsPut rest put mid new g h → IsPut (piece ++ rest) put old new f h
+then_put piece rest (Ok done) new h takes is = takes_both piece rest takes is
+then_put piece rest (Err fault) new h takes is = then_fails piece rest takes is
+
+-- ---- the next piece of a text that is spelled in other words
+
+pub next_fails : {old mid new : Option (List ℕ)} {f g h : ℕ} (piece rest text whole : List ℕ) → text ≡ piece ++ rest → TakesAllBut text whole old mid f g → FailsIn piece mid new g h → FailsIn whole old new f h
+next_fails {old = old} {mid = mid} {new = new} {f = f} {g = g} {h = h} piece rest text whole is left fails =
+    fails_next piece rest whole old mid new f g h (subst (λ (t : List ℕ). TakesAllBut t whole old mid f g) is left) fails
+
+pub next_taken : {old mid new : Option (List ℕ)} {f g h : ℕ} (piece rest text whole : List ℕ) → text ≡ piece ++ rest → TakesAllBut text whole old mid f g → Takes piece mid new g h → TakesAllBut rest whole old new f h
+next_taken {old = old} {mid = mid} {new = new} {f = f} {g = g} {h = h} piece rest text whole is left takes =
+    less_left piece rest whole old mid new f g h (subst (λ (t : List ℕ). TakesAllBut t whole old mid f g) is left) takes

@@ -1,0 +1,8 @@
+use Rattle.std.proofs.Common.{◌≡◌, ◌≤◌, ◌++◌, length, map, drop}
+use Rattle.ice_journal.specs.Plain.{changes_from}
+use Rattle.ice_journal.specs.Lines.{change_of}
+use Rattle.ice_write.proofs.changes.changes_from.Given as goal
+
+abbrev pub invariant-loop-good : goal.invariant-loop-good
+invariant-loop-good l =
+    (map change_of l.changes.items ++ changes_from l.good (drop l.good l.earlier) (drop l.good l.later) ≡ changes_from 0 l.earlier l.later) × (length l.changes.items ≤ l.good)

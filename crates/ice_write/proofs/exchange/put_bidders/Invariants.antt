@@ -1,0 +1,13 @@
+use Rattle.std.proofs.Common.{drop, length}
+use Rattle.std.specs.List.{AllByRecursion, flat_map}
+use Rattle.ice_edge.specs.Puts.{TakesAllBut}
+use Rattle.ice_journal.specs.Records as line
+use Rattle.ice_journal.specs.Spelling.{line_of}
+use Rattle.ice_journal.specs.Journal.{bytes_of}
+use Rattle.ice_write.specs.Pieces.{bidder_text}
+use Rattle.ice_write.proofs.exchange.put_bidders.Given as goal
+
+abbrev pub invariant-loop-bidder : goal.invariant-loop-bidder
+invariant-loop-bidder g l =
+    TakesAllBut (flat_map bidder_text (drop l.bidder l.exchange.bidders)) (flat_map bidder_text l.exchange.bidders) (g.K.Sink.written l.initial.out) (g.K.Sink.written l.out)
+    (g.K.Sink.faults l.initial.out) (g.K.Sink.faults l.out)

@@ -1,0 +1,3 @@
+pub mod Bidders
+pub mod Writable
+pub mod Pieces
