@@ -12,7 +12,7 @@ use Rattle.ice_defs.specs.Weighing.{lower_weights, perturbed_weights}
 use Rattle.ice_defs.specs.Regret.{IsRegret}
 use Rattle.ice_defs.specs.Searched.{IsFound}
 use Rattle.ice_defs.specs.Exchange.{Exchange, trees_of, exact_of, market_of}
-use Rattle.ice_defs.proofs.NodeSets.{meets_free}
+use Rattle.ice_defs.proofs.Starts.{meets_free_side}
 use Rattle.ice_laws.proofs.Perturbed.{perturbed_gives_regret, perturbed_attains}
 use Rattle.ice_laws.proofs.Trades.{regret_bounds_trades}
 use Rattle.ice_bound.specs.Conditions.{AreBoundsOf}
@@ -20,16 +20,10 @@ use Rattle.ice_search.specs.Results.{AreWritten}
 use Rattle.ice_regret.specs.Regretted.{IsRegretOf, proved_rival}
 use Rattle.ice_regret.specs.declared.lead.Regret.{Regret}
 
--- where all nodes are free, every assignment meets the marks
-pub meets_free_side : (ts : List Tree) (a : Assignment) → length a ≡ length ts → MeetsAll a (free_side ts)
-meets_free_side ts a same b inside =
-    let few : b < length ts = omega (arith, inside, same) in
-    subst (Meets (set_of a b)) (sym (get_or-map (λ (t : Tree). replicate (length t) Free) ts b [] [] few)) (meets_free (set_of a b) (length (tree_of ts b)))
-
-best_of_all : (ex : Exchange) (ws : List Weights) (v : ℤ) → IsBest (trees_of ex) (exact_of ex) ws (free_side (trees_of ex)) v → IsBestOfAll (trees_of ex) (exact_of ex) ws v
+pub best_of_all : (ex : Exchange) (ws : List Weights) (v : ℤ) → IsBest (trees_of ex) (exact_of ex) ws (free_side (trees_of ex)) v → IsBestOfAll (trees_of ex) (exact_of ex) ws v
 best_of_all ex ws v best = record {
   attained = (best.attained.0, best.attained.1.0, best.attained.2);
-  bound = λ a feasible. best.bound a (feasible, meets_free_side (trees_of ex) a feasible.same_length);
+  bound = λ a feasible. best.bound a (feasible, meets_free_side (trees_of ex) a);
 }
 
 pub rival_gives_regret : (ex : Exchange) (bounds : List Bounds) (chosen : Assignment) (r : Regret) → AreBoundsOf (trees_of ex) bounds → IsFeasible (trees_of ex) (exact_of ex) chosen

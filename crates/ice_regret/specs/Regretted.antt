@@ -3,7 +3,7 @@ use Rattle.std.specs.Prelude.{◌≡◌, List, length, ◌-ℤ◌}
 use Rattle.ice_defs.specs.Trade.{Assignment, total_value}
 use Rattle.ice_defs.specs.Bounds.{Bounds, IsProfile}
 use Rattle.ice_defs.specs.Weighing.{lower_weights, perturbed_weights}
-use Rattle.ice_defs.specs.Group.{free_side}
+use Rattle.ice_defs.specs.Group.{free_side, empty_sets}
 use Rattle.ice_defs.specs.Regret.{lead, IsRegret, NoTradeBeatsBy}
 use Rattle.ice_defs.specs.Session.{Proved}
 use Rattle.ice_defs.specs.Searched.{IsFound}
@@ -11,6 +11,10 @@ use Rattle.ice_defs.specs.Exchange.{Exchange, trees_of, exact_of, market_of}
 use Rattle.ice_search.specs.Instance.{Instance, instance_of}
 use Rattle.ice_search.specs.Results.{AreWritten}
 use Rattle.ice_regret.specs.declared.lead.Regret.{Regret}
+
+-- the search for the best assignment at lower values: with all nodes free, from the empty sets
+abbrev pub lower_search : Exchange → List Bounds → Instance
+lower_search ex bounds = instance_of ex (lower_weights bounds) (free_side (trees_of ex)) (empty_sets (trees_of ex))
 
 -- the search for the rival: at the values that the assignment perturbs, with all nodes free, from the assignment itself
 abbrev pub rival_search : Exchange → List Bounds → Assignment → Instance

@@ -3,8 +3,10 @@
 
 mod closing;
 mod lead;
+mod lower;
 mod rival;
 
 pub use closing::closes;
 pub use lead::Regret;
+pub use lower::best_at_lower_values;
 pub use rival::regret;

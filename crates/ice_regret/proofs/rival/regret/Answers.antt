@@ -13,7 +13,8 @@ use Rattle.ice_bound.specs.Conditions.{AreWeightsOf}
 use Rattle.ice_bound.proofs.Modest.{perturbed_modest}
 use Rattle.ice_search.specs.Instance.{instance_of}
 use Rattle.ice_search.specs.Results.{IsFoundBy}
-use Rattle.ice_regret.proofs.Rivals.{meets_free_side, rival_gives_regret}
+use Rattle.ice_defs.proofs.Starts.{meets_free_side}
+use Rattle.ice_regret.proofs.Rivals.{rival_gives_regret}
 use Rattle.ice_regret.proofs.rival.regret.Goals as goal
 
 pub search-requires-clause-weights : goal.search-requires-clause-weights
@@ -23,7 +24,7 @@ search-requires-clause-weights c =
 pub search-requires-clause-meets : goal.search-requires-clause-meets
 search-requires-clause-meets c =
     let start_is : c.in_ok-start.start ≡ free_side (trees_of c.args.exchange.now) = c.in_ok-start.ensures ∙ ap free_side c.trees-trees.ensures.value in
-    subst (MeetsAll c.args.chosen.now) (sym start_is) (meets_free_side (trees_of c.args.exchange.now) c.args.chosen.now c.requires.feasible.same_length)
+    subst (MeetsAll c.args.chosen.now) (sym start_is) (meets_free_side (trees_of c.args.exchange.now) c.args.chosen.now)
 
 pub returns-clause-regret : goal.returns-clause-regret
 returns-clause-regret c =
