@@ -1,5 +1,5 @@
 -- What is known of the market without one bidder, from its search.
-use Rattle.std.proofs.Common.{ℕ, ◌≡◌, ◌<◌, ◌∙◌, sym, arith, length, ℤ, pos, ◌-ℤ◌, ◌≤ℤ◌, subst}
+use Rattle.std.proofs.Common.{ℕ, ◌≡◌, ◌<◌, arith, length, pos, ◌-ℤ◌, ◌≤ℤ◌}
 use Rattle.std.proofs.lemmas.Int.{ints}
 use Rattle.ice_defs.specs.Trade.{IsBest}
 use Rattle.ice_defs.specs.Weighing.{lower_weights}

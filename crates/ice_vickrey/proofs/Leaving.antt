@@ -1,14 +1,13 @@
 -- From the search without a bidder to what the market is worth without it, and to its Vickrey discount.
-use Rattle.std.proofs.Common.{ℕ, zero, suc, ◌≡◌, ◌<◌, Bool, List, [], ◌∷◌, length, map, ℤ, pos, ◌-ℤ◌, ◌≤ℤ◌, sym, subst, ◌∙◌, arith}
-use Rattle.std.proofs.lemmas.Int.{ints}
+use Rattle.std.proofs.Common.{ℕ, zero, suc, ◌<◌, Bool, List, [], ◌∷◌, length, map, ℤ, pos, ◌≤ℤ◌, subst, arith}
 use Rattle.std.specs.List.{AllByRecursion}
 use Rattle.ice_defs.specs.Tree.{Tree, IsTree}
 use Rattle.ice_defs.specs.Set.{Weights}
-use Rattle.ice_defs.specs.Trade.{Assignment, tree_of, set_of, IsFeasible, MeetsAll, total_value, IsBest, IsBestOfAll}
+use Rattle.ice_defs.specs.Trade.{Assignment, tree_of, set_of, IsFeasible, MeetsAll, IsBest, IsBestOfAll}
 use Rattle.ice_defs.specs.Vickrey.{IsEmpty, IsBestWithout}
 use Rattle.ice_defs.specs.declared.Group.TheVariants.{Without}
 use Rattle.ice_defs.specs.Group.{start_of, empty_sets}
-use Rattle.ice_defs.specs.Exchange.{Bidder, Exchange, trees_of, exact_of}
+use Rattle.ice_defs.specs.Exchange.{Bidder, Exchange, trees_of}
 use Rattle.ice_defs.specs.Lawful.{IsBidder, IsExchange}
 use Rattle.ice_defs.proofs.EmptySets.{empty_feasible, empty_sets-are, total_value-empty}
 use Rattle.ice_defs.proofs.Starts.{meets_without, left_out}

@@ -1,5 +1,5 @@
 -- A market whose best value is known, and the search without one of its bidders.
-use Rattle.std.specs.Prelude.{ℕ, ◌≡◌, List, [], ℤ}
+use Rattle.std.specs.Prelude.{ℕ, List, ℤ}
 use Rattle.ice_defs.specs.Trade.{IsBestOfAll}
 use Rattle.ice_defs.specs.Bounds.{Bounds}
 use Rattle.ice_defs.specs.Weighing.{lower_weights}

@@ -1,7 +1,6 @@
 -- What is known of a market without each of its bidders.
-use Rattle.std.specs.Prelude.{ℕ, suc, ◌+◌, ◌<◌, ◌≤◌, ◌≡◌, List, [], ◌∷◌, length, sum_by, vec_len, ℤ, pos, ◌-ℤ◌, ◌≤ℤ◌}
+use Rattle.std.specs.Prelude.{ℕ, suc, ◌+◌, ◌<◌, ◌≤◌, ◌≡◌, List, [], ◌∷◌, length, sum_by, pos, ◌-ℤ◌, ◌≤ℤ◌}
 use Rattle.ice_defs.specs.Trade.{set_of}
-use Rattle.ice_defs.specs.Bounds.{Bounds}
 use Rattle.ice_defs.specs.Weighing.{lower_weights}
 use Rattle.ice_defs.specs.Vickrey.{IsEmpty, IsBestWithout, IsVickrey}
 use Rattle.ice_defs.specs.Steps.{branch_count}
@@ -9,7 +8,7 @@ use Rattle.ice_defs.specs.declared.Group.TheVariants.{Without}
 use Rattle.ice_defs.specs.Group.{start_of, empty_sets}
 use Rattle.ice_defs.specs.Session.{Proved}
 use Rattle.ice_defs.specs.Searched.{IsFound}
-use Rattle.ice_defs.specs.Exchange.{Exchange, trees_of, exact_of}
+use Rattle.ice_defs.specs.Exchange.{trees_of, exact_of}
 use Rattle.ice_search.specs.Results.{AreWritten, IsSpentBy}
 use Rattle.ice_search.specs.declared.results.Spent as search
 use Rattle.ice_vickrey.specs.Economy.{Economy, without_search}

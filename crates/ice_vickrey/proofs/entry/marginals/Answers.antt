@@ -1,4 +1,4 @@
-use Rattle.std.proofs.Common.{rules, arith, ◌≡◌, ◌∙◌, ap, sym, subst, ◌+◌, ◌++◌, ◌∷◌, [], length, List, length-append}
+use Rattle.std.proofs.Common.{rules, arith, ◌≡◌, ap, sym, subst, ◌++◌, ◌∷◌, [], length, length-append}
 use Rattle.std.proofs.lemmas.List.Sums.{sum_by_push}
 use Rattle.ice_defs.specs.Steps.{branch_count}
 use Rattle.ice_vickrey.specs.Marginals.{IsMarginalOf, AreMarginalsFrom, branches_of}

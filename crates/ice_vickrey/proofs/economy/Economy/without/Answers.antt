@@ -1,11 +1,11 @@
-use Rattle.std.proofs.Common.{rules, arith, ◌≡◌, ◌∙◌, ap, sym, subst, refl, ◌<◌, length, List, ℤ, pos, ◌-ℤ◌, ◌≤ℤ◌, to_z, of_z}
+use Rattle.std.proofs.Common.{rules, arith, ◌≡◌, ◌∙◌, ap, sym, subst, refl, ◌<◌, length, List, ℤ, ◌-ℤ◌}
 use Rattle.std.proofs.lemmas.Int.{ints, to_z-of_z}
 use mir.Syntax.{w128}
 use mir.Val.{SFits}
 use Rattle.ice_defs.specs.declared.Mark.TheVariants.{Never}
 use Rattle.ice_defs.specs.Set.{Weights}
 use Rattle.ice_defs.specs.Steps.{Side, with_mark}
-use Rattle.ice_defs.specs.Trade.{Assignment, fixing_of, IsFeasible, MeetsAll, IsBest, total_value}
+use Rattle.ice_defs.specs.Trade.{Assignment, fixing_of, IsFeasible, MeetsAll, IsBest}
 use Rattle.ice_defs.specs.Weighing.{lower_weights}
 use Rattle.ice_defs.specs.declared.Group.TheVariants.{Without}
 use Rattle.ice_defs.specs.Group.{free_side, start_of, empty_sets}
