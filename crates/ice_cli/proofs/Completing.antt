@@ -9,7 +9,7 @@ use Rattle.ice_journal_laws.specs.declared.answer.CheckEnd.TheVariants as ending
 use Rattle.ice_journal_laws.specs.Answers.{AnswersBytes}
 use Rattle.ice_journal_laws.proofs.Answered.{one_answer_of_bytes}
 use Rattle.ice_cli.specs.Call.{Call, IsTold, journal_limit, OfTold, OfFile, too_long, at_fault}
-use Rattle.ice_cli.specs.Command.{check, best, IsCommand}
+use Rattle.ice_cli.specs.Command.{check, best, regret, IsCommand}
 use Rattle.ice_cli.specs.CheckServed.{IsEndFault, IsCheckFault, CheckAnswers, WritesAnswer, answer_line, answer_status, other_kind}
 use Rattle.ice_cli.specs.Output.{refused_line}
 use Rattle.ice_cli.specs.Served.{IsServed, no_command, answers, cut_short}
@@ -24,6 +24,9 @@ check_answers call journal (answers (check name) other answer) is faultless =
     subst P (ap (λ (words : List (List ℕ)). get_or words 1 []) (sym other ∙ is)) answer
 check_answers call journal (answers (best exchange prices) other answer) is faultless =
     let lengths : 3 ≡ 2 = ap (λ (words : List (List ℕ)). length words) (sym other ∙ is) in
+    absurd (omega (arith, lengths))
+check_answers call journal (answers (regret exchange) other answer) is faultless =
+    let lengths : 6 ≡ 5 = ap (λ (words : List (List ℕ)). length (get_or words 0 [])) (sym other ∙ is) in
     absurd (omega (arith, lengths))
 check_answers call journal (cut_short text status failed rose served front) is faultless = absurd (faultless.writes rose)
 

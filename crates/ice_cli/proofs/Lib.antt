@@ -11,3 +11,9 @@ pub mod Bidding
 pub mod Besting
 -- `check` on told bytes
 pub mod Completing
+-- a journal that is put piece by piece
+pub mod Writing
+-- the journal that `regret` writes
+pub mod RegretJournal
+-- what `regret` answers
+pub mod Regretting

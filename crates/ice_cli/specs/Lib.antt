@@ -9,5 +9,8 @@ pub mod Refusals
 pub mod BestServed
 pub mod Bests
 pub mod BestFound
+pub mod Journals
+pub mod RegretServed
+pub mod RegretJournal
 pub mod Served
 pub mod Completeness

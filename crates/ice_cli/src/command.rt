@@ -7,6 +7,7 @@ ghost use Rattle.ice_cli.specs.Words.{command_of};
 pub enum Command<'a> {
     Check { journal: &'a str },
     Best { exchange: &'a str, prices: &'a str },
+    Regret { exchange: &'a str },
 }
 
 /// The word, where there is no other.
@@ -48,6 +49,10 @@ pub fn command_in(words: &[String]) -> Option<Command<'_>>
         "best" => {
             let (exchange, prices) = two_words(names)?;
             Some(Command::Best { exchange, prices })
+        }
+        "regret" => {
+            let exchange = one_word(names)?;
+            Some(Command::Regret { exchange })
         }
         _ => None,
     }

@@ -14,6 +14,10 @@ mod files;
 mod json_tests;
 pub mod laws;
 mod refusal;
+mod regret;
+mod regret_journal;
+#[cfg(test)]
+mod regret_tests;
 mod say;
 mod serve;
 #[cfg(test)]

@@ -8,6 +8,7 @@ ghost use Rattle.ice_cli.specs.Served.{IsServed};
 use crate::best::best;
 use crate::check::check;
 use crate::command::{Command, command_in};
+use crate::regret::regret;
 use crate::say::ended;
 use ice_edge::{Shelf, Sink, Status};
 use std::alloc::Global;
@@ -20,12 +21,14 @@ fn refuse_words<K: Sink>(out: &mut K) -> Status
     ended(out.put(b"words refused\n"), Status::Words)
 }
 
-/// Answers the words behind the program's name: `check JOURNAL` writes the checker's answer on a journal, and
-/// `best EXCHANGE PRICES` writes the best set of each bidder at prices.
+/// Answers the words behind the program's name: `check JOURNAL` writes the checker's answer on a journal,
+/// `best EXCHANGE PRICES` writes the best set of each bidder at prices, and `regret EXCHANGE` writes a journal of the best
+/// assignment at lower values and its regret.
 ///
 /// Files come from `shelf`, output goes to `out`, and each line with its newline is one put. The status says how the
 /// call ended, and the clause ties it to the words, to what the shelf told, to the counts of faults that rose in this
-/// call, and to the text that was appended. Want of memory alone (`Status::NoMemory`, with nothing written) has no cause.
+/// call, and to the text that was appended. Want of memory alone (`Status::NoMemory`) has no cause; nothing is written then,
+/// or whole lines of a journal that is no answer yet.
 pub fn serve<H: Shelf, K: Sink>(
     alloc: Global,
     words: &[String],
@@ -46,6 +49,7 @@ pub fn serve<H: Shelf, K: Sink>(
     match command_in(words) {
         Some(Command::Check { journal }) => check(alloc, journal, shelf, out),
         Some(Command::Best { exchange, prices }) => best(alloc, exchange, prices, shelf, out),
+        Some(Command::Regret { exchange }) => regret(alloc, exchange, shelf, out),
         None => refuse_words(out),
     }
 }

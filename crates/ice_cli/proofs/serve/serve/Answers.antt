@@ -1,8 +1,9 @@
 use Rattle.std.proofs.Common.{refl, [], map, string_bytes}
 use Rattle.ice_cli.specs.Call.{Call}
-use Rattle.ice_cli.specs.Command.{check, best}
+use Rattle.ice_cli.specs.Command.{check, best, regret}
 use Rattle.ice_cli.specs.CheckServed.{CheckAnswers}
 use Rattle.ice_cli.specs.BestServed.{BestAnswers}
+use Rattle.ice_cli.specs.RegretServed.{RegretAnswers}
 use Rattle.ice_cli.proofs.Parts.{served, refused_words}
 use Rattle.ice_cli.proofs.serve.serve.Goals as goal
 
@@ -36,6 +37,21 @@ returns-in-Some-Best g c =
     } in
     served call (best exchange prices) (λ one. BestAnswers one exchange prices) (g.K.Sink.written c.args.out.now) (g.K.Sink.written c.best.new.out)
     (rw c.in-Some-Best.field-0-is at c.in-Some-Best.ensures) (λ text status h. h) c.best.ensures
+
+pub returns-in-Some-Regret : goal.returns-in-Some-Regret
+returns-in-Some-Regret g c =
+    let exchange = c.in-Some-Regret.exchange.now in
+    let call : Call = record {
+      words = map string_bytes c.args.words.now;
+      before = g.H.Shelf.told c.args.shelf.now;
+      after = g.H.Shelf.told c.regret.new.shelf;
+      sink_faults = g.K.Sink.faults c.args.out.now;
+      sink_faults_after = g.K.Sink.faults c.regret.new.out;
+      text = [];
+      status = c.regret.result;
+    } in
+    served call (regret exchange) (λ one. RegretAnswers one exchange) (g.K.Sink.written c.args.out.now) (g.K.Sink.written c.regret.new.out)
+    (rw c.in-Some-Regret.field-0-is at c.in-Some-Regret.ensures) (λ text status h. h) c.regret.ensures
 
 pub returns-in-None : goal.returns-in-None
 returns-in-None g c =

@@ -1,0 +1,23 @@
+use Rattle.ice_edge.specs.declared.status.Status.TheVariants.{NoMemory}
+use Rattle.ice_cli.specs.RegretJournal.{begun_records, final_records, IsRegretJournal, has_final}
+use Rattle.ice_cli.proofs.RegretJournal.{worth_is_total, final_worth, final_writable}
+use Rattle.ice_cli.proofs.Writing.{failed_piece, piece_then}
+use Rattle.ice_cli.proofs.regret_journal.write_found.Goals as goal
+
+pub put_final-requires-clause-value : goal.put_final-requires-clause-value
+put_final-requires-clause-value g c = worth_is_total c.args.found.now.value (final_worth c.args.exchange.now c.requires.lawful c.args.branches c.args.found.now c.requires.found)
+
+pub put_final-requires-clause-written : goal.put_final-requires-clause-written
+put_final-requires-clause-written g c = final_writable c.args.exchange.now c.requires.lawful c.args.branches c.args.found.now c.requires.found
+
+pub returns-in-Ok : goal.returns-in-Ok
+returns-in-Ok g c =
+    let ex = c.args.exchange.now in
+    piece_then (begun_records ex) (IsRegretJournal ex) (final_records ex c.args.found.now) c.write_rival.result (g.K.Sink.written c.args.out.now) (g.K.Sink.written c.put_final.new.out) (g.K.Sink.written c.write_rival.new.out)
+    (g.K.Sink.faults c.args.out.now) (g.K.Sink.faults c.put_final.new.out) (g.K.Sink.faults c.write_rival.new.out) c.in-Ok.ensures c.write_rival.ensures
+
+pub returns-in-Err-Failed : goal.returns-in-Err-Failed
+returns-in-Err-Failed g c =
+    let ex = c.args.exchange.now in
+    failed_piece (begun_records ex) (IsRegretJournal ex) (final_records ex c.args.found.now) NoMemory (g.K.Sink.written c.args.out.now) (g.K.Sink.written c.put_final.new.out) (g.K.Sink.faults c.args.out.now) (g.K.Sink.faults c.put_final.new.out)
+    (has_final c.args.branches c.args.found.now c.requires.found) c.in-Err-Failed.ensures
