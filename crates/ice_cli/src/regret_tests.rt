@@ -123,14 +123,14 @@ const CASES: [Case; 6] = [
         begins: "refused 1 50 3\n",
         ends: "refused 1 50 3\n",
         status: Status::Input,
-        answer: "refused 1 50 1\n",
+        answer: "refused 1 53 -\n",
     },
     Case {
         exchange: "",
         begins: "refused 1 1 -\n",
         ends: "refused 1 1 -\n",
         status: Status::Input,
-        answer: "refused 1 50 1\n",
+        answer: "refused 1 53 -\n",
     },
 ];
 
