@@ -1,0 +1,9 @@
+pub mod FlatBids
+pub mod FlatFile
+pub mod Translating
+pub mod Reading
+pub mod Lawful
+pub mod Kept
+pub mod Forms
+pub mod Building
+pub mod Faults
