@@ -138,3 +138,9 @@ pub mod CarriedIsSpent
 mod WorkedGoing
 -- a regret journal that stops at a spent search is one of which the run's contract speaks
 pub mod CarriedIsSpentRegret
+-- what a record makes of the tests at a group's head, at the regret, at the cut and the payments, and at the end of a journal
+pub mod Settling
+-- the cut, the surplus and the payments as whole numbers
+pub mod Charged
+-- the regret and the surplus that a session says are functions of its records
+pub mod SaidSession
