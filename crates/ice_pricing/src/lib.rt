@@ -11,5 +11,6 @@ mod weights;
 pub use certificate::{Certificate, CertificateRow, Pricing};
 pub use check::check_pricing;
 pub use ice_certificate::{Excess, Scratch};
+pub use limits::{are_lowest, are_within};
 pub use provisional::Provisional;
 pub use weights::weighted_values;

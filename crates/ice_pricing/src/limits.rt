@@ -16,7 +16,7 @@ fn greatest_num(prices: &Prices, cap: i64) -> i128
 }
 
 /// Whether no price is above the cap, which is from 0 to 1,000,000,000.
-pub(crate) fn are_within(prices: &Prices, cap: i64) -> bool
+pub fn are_within(prices: &Prices, cap: i64) -> bool
     requires low { pos 0 ≤ℤ cap }
     requires high { cap ≤ℤ pos 1000000000 }
     ensures yes { IsTrue result → ArePrices (length prices.now.nums) cap prices.now }
@@ -32,7 +32,7 @@ pub(crate) fn are_within(prices: &Prices, cap: i64) -> bool
 }
 
 /// Whether the greatest common divisor of the prices' denominator and all numerators is 1.
-pub(crate) fn are_lowest(prices: &Prices) -> bool
+pub fn are_lowest(prices: &Prices) -> bool
     ensures yes { IsTrue result → ¬ HasCommonDivisor prices.now }
     ensures no { ¬ HasCommonDivisor prices.now → IsTrue result }
 {

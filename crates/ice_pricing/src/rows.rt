@@ -27,7 +27,7 @@ impl CertificateRow {
     }
 
     /// Adds the row to sums of rows.
-    fn add_to(&self, trade: &Provisional<'_>, sums: &mut RowSums)
+    pub fn add_to(&self, trade: &Provisional<'_>, sums: &mut RowSums)
         requires row { let t = trade.now in IsRow t.trees t.weights t.sets self.now }
         requires few { sums.old.weight + self.now.weight ≤ 2 ^ 40 }
         ensures { let t = trade.now in

@@ -1,0 +1,4 @@
+-- tallies of rows
+pub mod Tallying
+-- whether prices are lawful is decided
+pub mod Deciding
