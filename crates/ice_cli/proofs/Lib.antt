@@ -17,3 +17,5 @@ pub mod Writing
 pub mod RegretJournal
 -- what `regret` answers
 pub mod Regretting
+-- what `xor` answers
+pub mod Translating

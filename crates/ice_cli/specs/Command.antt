@@ -6,11 +6,13 @@ pub data Command : Type 0 where
   check : (journal : List ℕ) → Command
   best : (exchange prices : List ℕ) → Command
   regret : (exchange : List ℕ) → Command
+  xor : (file : List ℕ) → Command
 
 abbrev pub words_of : Command → List (List ℕ)
 words_of (check journal) = codes "check" ∷ journal ∷ []
 words_of (best exchange prices) = codes "best" ∷ exchange ∷ prices ∷ []
 words_of (regret exchange) = codes "regret" ∷ exchange ∷ []
+words_of (xor file) = codes "xor" ∷ file ∷ []
 
 abbrev pub IsCommand : List (List ℕ) → Command → Type 0
 IsCommand words c = words ≡ words_of c

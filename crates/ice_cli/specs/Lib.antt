@@ -12,5 +12,7 @@ pub mod BestFound
 pub mod Journals
 pub mod RegretServed
 pub mod RegretJournal
+pub mod XorServed
+pub mod XorParts
 pub mod Served
 pub mod Completeness

@@ -8,6 +8,7 @@ pub enum Command<'a> {
     Check { journal: &'a str },
     Best { exchange: &'a str, prices: &'a str },
     Regret { exchange: &'a str },
+    Xor { file: &'a str },
 }
 
 /// The word, where there is no other.
@@ -53,6 +54,10 @@ pub fn command_in(words: &[String]) -> Option<Command<'_>>
         "regret" => {
             let exchange = one_word(names)?;
             Some(Command::Regret { exchange })
+        }
+        "xor" => {
+            let file = one_word(names)?;
+            Some(Command::Xor { file })
         }
         _ => None,
     }

@@ -14,8 +14,8 @@ use ice_terms::Prices;
 use ice_trade::Exchange;
 use std::alloc::Global;
 
-/// The most bytes of an exchange or prices file.
-const FILE_LIMIT: usize = 16_777_216;
+/// The most bytes of a file that is no journal.
+pub const FILE_LIMIT: usize = 16_777_216;
 
 /// The bytes of the file with this number and name, of which there are at most `limit`, or why they are not had.
 pub fn fetch<H: Shelf>(
@@ -69,7 +69,7 @@ fn line_refusal(file: u8, fault: LineFileFault) -> Refusal
 }
 
 /// What is wrong with the JSON file with this number, of which a value is at fault.
-fn place_refusal(file: u8, fault: ReadFault) -> Refusal
+pub fn place_refusal(file: u8, fault: ReadFault) -> Refusal
     ensures { IsPlaceRefusal file fault result }
 {
     let ReadFault { place, cause } = fault;

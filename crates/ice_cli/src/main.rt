@@ -23,6 +23,9 @@ mod serve;
 #[cfg(test)]
 mod tests;
 mod words;
+mod xor;
+#[cfg(test)]
+mod xor_tests;
 
 use ice_edge::{DirShelf, Status, StdSink};
 use std::process::ExitCode;

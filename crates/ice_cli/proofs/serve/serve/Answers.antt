@@ -1,9 +1,10 @@
 use Rattle.std.proofs.Common.{refl, [], map, string_bytes}
 use Rattle.ice_cli.specs.Call.{Call}
-use Rattle.ice_cli.specs.Command.{check, best, regret}
+use Rattle.ice_cli.specs.Command.{check, best, regret, xor}
 use Rattle.ice_cli.specs.CheckServed.{CheckAnswers}
 use Rattle.ice_cli.specs.BestServed.{BestAnswers}
 use Rattle.ice_cli.specs.RegretServed.{RegretAnswers}
+use Rattle.ice_cli.specs.XorServed.{XorAnswers}
 use Rattle.ice_cli.proofs.Parts.{served, refused_words}
 use Rattle.ice_cli.proofs.serve.serve.Goals as goal
 
@@ -52,6 +53,21 @@ returns-in-Some-Regret g c =
     } in
     served call (regret exchange) (λ one. RegretAnswers one exchange) (g.K.Sink.written c.args.out.now) (g.K.Sink.written c.regret.new.out)
     (rw c.in-Some-Regret.field-0-is at c.in-Some-Regret.ensures) (λ text status h. h) c.regret.ensures
+
+pub returns-in-Some-Xor : goal.returns-in-Some-Xor
+returns-in-Some-Xor g c =
+    let file = c.in-Some-Xor.file.now in
+    let call : Call = record {
+      words = map string_bytes c.args.words.now;
+      before = g.H.Shelf.told c.args.shelf.now;
+      after = g.H.Shelf.told c.xor.new.shelf;
+      sink_faults = g.K.Sink.faults c.args.out.now;
+      sink_faults_after = g.K.Sink.faults c.xor.new.out;
+      text = [];
+      status = c.xor.result;
+    } in
+    served call (xor file) (λ one. XorAnswers one file) (g.K.Sink.written c.args.out.now) (g.K.Sink.written c.xor.new.out)
+    (rw c.in-Some-Xor.field-0-is at c.in-Some-Xor.ensures) (λ text status h. h) c.xor.ensures
 
 pub returns-in-None : goal.returns-in-None
 returns-in-None g c =
