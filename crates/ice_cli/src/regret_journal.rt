@@ -87,7 +87,11 @@ fn put_rival<K: Sink>(exchange: &Exchange, regret: &Regret, out: &mut K) -> Resu
 }
 
 /// Puts what was found where the branches were spent.
-fn put_spent_group<K: Sink>(exchange: &Exchange, spent: &Spent, out: &mut K) -> Result<(), SinkFault>
+fn put_spent_group<K: Sink>(
+    exchange: &Exchange,
+    spent: &Spent,
+    out: &mut K,
+) -> Result<(), SinkFault>
     requires value { IsTotal spent.now.value }
     requires written { AreWritable (length (exact_of exchange.now)) spent.now.found spent.now.log }
     ensures put { IsPut (bytes_of (spent_group exchange.now spent.now)) result
@@ -127,7 +131,13 @@ fn write_rival<K: Sink>(
         (IsRegretJournal exchange.now)
         (K.written out.old) (K.written out.new) (K.faults out.old) (K.faults out.new) result }
 {
-    match regret(alloc, exchange, exchange.bounds(), &found.best, &mut branches) {
+    match regret(
+        alloc,
+        exchange,
+        exchange.bounds(),
+        &found.best,
+        &mut branches,
+    ) {
         Ok(rival) => ended(put_rival(exchange, &rival, out), Status::Done),
         Err(SearchEnd::Spent(spent)) => ended(put_spent(exchange, &spent, out), Status::Spent),
         Err(SearchEnd::NoMemory) => Status::NoMemory,

@@ -41,7 +41,12 @@ const BIDDERS_FAULTS: [Change; 11] = [
     (r#""name":"b""#, r#""name":"s""#, 11, "bidders.1"),
     (SALE, "", 91, "bidders.0.xor"),
     (r#"[{"lo":-10"#, r#"{"lo":-10"#, 1, "-"),
-    (r#""name":"s","own":{"A":1}"#, r#""name":"s s","own":{"C":1}"#, 5, "bidders.0.own"),
+    (
+        r#""name":"s","own":{"A":1}"#,
+        r#""name":"s s","own":{"C":1}"#,
+        5,
+        "bidders.0.own",
+    ),
 ];
 
 const PACKAGES_FAULTS: [Change; 8] = [
@@ -49,10 +54,20 @@ const PACKAGES_FAULTS: [Change; 8] = [
     (r#","units":{"A":-1}"#, "", 2, "bidders.0.xor.0"),
     (r#""lo":-10"#, r#""lo":"x""#, 2, "bidders.0.xor.0.lo"),
     (r#""lo":-10"#, r#""lo":0.5"#, 3, "bidders.0.xor.0.lo"),
-    (r#""lo":-10"#, r#""lo":-1000000001"#, 4, "bidders.0.xor.0.lo"),
+    (
+        r#""lo":-10"#,
+        r#""lo":-1000000001"#,
+        4,
+        "bidders.0.xor.0.lo",
+    ),
     (r#""hi":-8"#, r#""hi":1000000001"#, 4, "bidders.0.xor.0.hi"),
     (r#""hi":5"#, r#""hi":true"#, 2, "bidders.1.or.1.hi"),
-    (r#""lo":20,"hi":30,"units":{"A":1,"B":2}"#, r#""lo":0.5,"hi":0.5,"units":{}"#, 3, "bidders.1.or.0.lo"),
+    (
+        r#""lo":20,"hi":30,"units":{"A":1,"B":2}"#,
+        r#""lo":0.5,"hi":0.5,"units":{}"#,
+        3,
+        "bidders.1.or.0.lo",
+    ),
 ];
 
 const UNITS_FAULTS: [Change; 10] = [
@@ -185,7 +200,10 @@ fn printed(rt: HostRuntime) -> Result<(), Fail> {
     let cause = MakerFault::Tree(TreeFault::Crossed);
     let fault = TranslateFault::Refused { bidder: 3, cause };
     let text = fault.to_string(rt.alloc())?;
-    assert_eq!(rt; text.as_str(), "bidder 3: the lower value is above the upper one");
+    assert_eq!(rt;
+        text.as_str(),
+        "bidder 3: the lower value is above the upper one"
+    );
     let text = TranslateFault::NoMemory.to_string(rt.alloc())?;
     assert_eq!(rt; text.as_str(), "no memory is left");
     Ok(())
