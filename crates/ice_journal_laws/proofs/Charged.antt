@@ -17,6 +17,7 @@ use Rattle.ice_frac.specs.Lowest.{IsLowest}
 use Rattle.ice_frac.proofs.Gcd.{gcd_is}
 use Rattle.ice_frac.proofs.FieldLaws.{lowest_is_unique}
 use Rattle.ice_journal.specs.Ranges.{IsFractionField}
+use Rattle.ice_threshold.proofs.Levels.{size_between}
 use Rattle.ice_journal_laws.specs.Tests.{IsThresholdLine, IsPaymentLine}
 
 minus : (a b : ℤ) → a +ℤ neg_ℤ b ≡ a -ℤ b
@@ -108,13 +109,9 @@ module _ (vickrey worth : ℤ) (cut : Fraction) (p : Payment) (proper : IsFracti
 
 -- ---- a fraction as it is stated
 
-size : (n : ℤ) (m : ℕ) → neg_ℤ (pos m) ≤ℤ n → n ≤ℤ pos m → unsigned_abs n ≤ m
-size (pos k) m low high = omega (arith, ints, high)
-size (negsuc k) m low high = omega (arith, ints, low)
-
 pub stated_lowest : (f : Fraction) → IsFractionField f → IsLowest f
 stated_lowest f h = record {
-  num_fits = omega (arith, size f.num (10 ^ 18) h.num.0 h.num.1);
+  num_fits = omega (arith, size_between f.num (10 ^ 18) h.num.1 h.num.0);
   positive = omega (arith, h.den.0);
   den_fits = omega (arith, h.den.1);
   coprime = gcd_is (unsigned_abs f.num) f.den 1 h.lowest;

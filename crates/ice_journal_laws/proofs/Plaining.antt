@@ -121,7 +121,8 @@ changed_length : (m : Multipliers) (changes : List Change) → length (changed m
 changed_length m [] = refl
 changed_length m (c ∷ later) = changed_length _ later ∙ length-set m c.good c.multiplier
 
-length_after : (goods : ℕ) (m : Multipliers) (x : Step) → length m ≡ goods → CountsGoods goods x → length (multipliers_after m x) ≡ goods
+-- after a step there is still one multiplier per good
+pub length_after : (goods : ℕ) (m : Multipliers) (x : Step) → length m ≡ goods → CountsGoods goods x → length (multipliers_after m x) ≡ goods
 length_after goods m (branch b n) count counts = count
 length_after goods m (leaf new) count counts = counts
 length_after goods m (dead b) count counts = count

@@ -91,7 +91,7 @@ pub fn put_group<K: Sink>(
     requires head { IsRecord (record_of head.now) }
     requires written { AreWritable goods sets.now log.now }
     ensures { IsPut (bytes_of (record_of head.now ∷ map line.set sets.now
-            ++ step_records version_2 (all_zero goods) log.now)) result
+        ++ step_records version_2 (all_zero goods) log.now)) result
         (K.written out.old) (K.written out.new) (K.faults out.old) (K.faults out.new) }
 {
     put_record(head, out)?;

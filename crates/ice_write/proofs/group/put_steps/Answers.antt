@@ -12,7 +12,7 @@ use Rattle.ice_journal.specs.Lines.{record_of}
 use Rattle.ice_journal_laws.specs.Fields.{multipliers_after}
 use Rattle.ice_journal_laws.specs.Showing.{step_record, step_records}
 use Rattle.ice_write.proofs.Changing.{step_is_record}
-use Rattle.ice_write.proofs.Groups.{count_after}
+use Rattle.ice_journal_laws.proofs.Plaining.{length_after}
 use Rattle.ice_write.proofs.Loops.{fails_as, next_all, next_fails, next_taken}
 use Rattle.ice_write.proofs.Stepping.{step_opens, step_there, step_inside}
 use Rattle.ice_write.proofs.group.put_steps.Goals as goal
@@ -70,7 +70,7 @@ loop-step-preserved g c =
     let whole = bytes_of (step_records version_2 (all_zero c.args.goods) log) in
     let rest = bytes_of (step_records version_2 (multipliers_after m x) (drop (i + 1) log)) in
     record {
-      count = ap (λ (l : List ℤ). length l) c.after-multipliers.ensures ∙ count_after c.args.goods m x c.loop-step.invariant.count counts;
+      count = ap (λ (l : List ℤ). length l) c.after-multipliers.ensures ∙ length_after c.args.goods m x c.loop-step.invariant.count counts;
       counts = both.1;
       steps = (next_all IsStepRecord log i x there c.loop-step.invariant.steps).1;
       left = subst
