@@ -1,8 +1,9 @@
 //! Worked exchanges, in line form.
 ghost use Rattle.std.specs.Prelude.{IfOk};
 ghost use Rattle.ice_defs.specs.Exchange.{trees_of};
-ghost use Rattle.ice_bound.specs.Conditions.{AreWeightsOf};
+ghost use Rattle.ice_bound.specs.Conditions.{AreWeightsOf, AreFixingsOf};
 
+use ice_best::Fixings;
 use ice_section::read_exchange_lines;
 use ice_trade::Exchange;
 use ice_tree::AllWeights;
@@ -60,4 +61,12 @@ pub(crate) fn lower(alloc: Global, exchange: &Exchange) -> Result<AllWeights, Al
     let mut weights = AllWeights::new(alloc, exchange.trees())?;
     weights.fill_lower(exchange.bounds());
     Ok(weights)
+}
+
+/// Every node free.
+pub(crate) fn free(alloc: Global, exchange: &Exchange) -> Result<Fixings, AllocError>
+    ensures { IfOk result (AreFixingsOf (trees_of exchange.now)) }
+{
+    let marks = Fixings::free(alloc, exchange.trees())?;
+    Ok(marks)
 }

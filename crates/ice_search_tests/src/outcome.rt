@@ -1,8 +1,7 @@
 //! What a search answers, in numbers.
 ghost use Rattle.std.specs.Prelude.{◌≤◌};
 
-use crate::markets::lower;
-use ice_best::Fixings;
+use crate::markets::{free, lower};
 use ice_refute::{Log, Step};
 use ice_search::{Found, SearchEnd, is_feasible, search};
 use ice_trade::Exchange;
@@ -52,7 +51,25 @@ fn told(answer: Result<Found, SearchEnd>, left: u32) -> Result<Outcome, Fail> {
     })
 }
 
-/// What a search at lower values answers that begins with no trade, with so many branches.
+/// What a search at lower values answers that begins with no trade.
+pub(crate) fn search_lower(
+    alloc: Global,
+    exchange: &Exchange,
+    branches: &mut u32,
+) -> Result<Result<Found, SearchEnd>, Fail>
+    requires { branches.old ≤ 50000 }
+{
+    let weights = lower(alloc, exchange)?;
+    let start = free(alloc, exchange)?;
+    let first = Assignment::empty(alloc, exchange.trees())?;
+    if !is_feasible(exchange, &start, &first) {
+        return Err("no trade is not feasible")?;
+    }
+    let answer = search(alloc, exchange, &weights, &start, &first, branches);
+    Ok(answer)
+}
+
+/// What a search answers with so many branches, in numbers.
 pub(crate) fn search_best(
     alloc: Global,
     exchange: &Exchange,
@@ -60,14 +77,7 @@ pub(crate) fn search_best(
 ) -> Result<Outcome, Fail>
     requires { branches ≤ 50000 }
 {
-    let trees = exchange.trees();
-    let weights = lower(alloc, exchange)?;
-    let start = Fixings::free(alloc, trees)?;
-    let first = Assignment::empty(alloc, trees)?;
-    if !is_feasible(exchange, &start, &first) {
-        return Err("no trade is not feasible")?;
-    }
     let mut left = u32::from(branches);
-    let answer = search(alloc, exchange, &weights, &start, &first, &mut left);
+    let answer = search_lower(alloc, exchange, &mut left)?;
     told(answer, left)
 }

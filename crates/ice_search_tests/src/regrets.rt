@@ -1,10 +1,9 @@
 //! Regrets of the best assignments of worked exchanges.
-use crate::markets::{BUYERS, EXACT_TWO_FOR_ONE, MAYBE, PAIRS, SHARED_NODE, exchange, lower};
-use ice_best::Fixings;
+use crate::markets::{BUYERS, EXACT_TWO_FOR_ONE, MAYBE, PAIRS, SHARED_NODE, exchange, free};
+use crate::outcome::search_lower;
 use ice_regret::{closes, regret};
-use ice_search::{Found, SearchEnd, is_feasible, search};
+use ice_search::{Found, SearchEnd, is_feasible};
 use ice_trade::Exchange;
-use ice_tree::Assignment;
 use std::alloc::Global;
 use std::test::Fail;
 
@@ -28,16 +27,14 @@ fn found(answer: Result<Found, SearchEnd>) -> Result<Found, Fail> {
 
 /// The first settlement of the exchange.
 fn settle(alloc: Global, exchange: &Exchange) -> Result<Settlement, Fail> {
-    let trees = exchange.trees();
-    let weights = lower(alloc, exchange)?;
-    let start = Fixings::free(alloc, trees)?;
-    let first = Assignment::empty(alloc, trees)?;
-    if !is_feasible(exchange, &start, &first) {
-        return Err("no trade is not feasible")?;
+    let mut left = 200;
+    let best = search_lower(alloc, exchange, &mut left)?;
+    let best = found(best)?;
+    let start = free(alloc, exchange)?;
+    if !is_feasible(exchange, &start, &best.best) {
+        return Err("the best assignment is not feasible")?;
     }
     let mut left = 200;
-    let best = search(alloc, exchange, &weights, &start, &first, &mut left);
-    let best = found(best)?;
     match regret(alloc, exchange, exchange.bounds(), &best.best, &mut left) {
         Ok(regret) => Ok(Settlement {
             value: best.value,
