@@ -113,6 +113,13 @@ impl Judge {
         &self.bounds
     }
 
+    /// The bounds at the start of the round, without the rest.
+    pub fn into_bounds(self) -> Vec<Bounds>
+        ensures { result.items ≡ self.bounds }
+    {
+        self.bounds
+    }
+
     /// The bounds that the round leaves, as far as its submissions have come.
     pub fn next_bounds(&self) -> &[Bounds]
         ensures { result.now ≡ self.now.next }
