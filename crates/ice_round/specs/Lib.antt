@@ -1,0 +1,6 @@
+pub mod SessionAt
+pub mod Kept
+pub mod Searches
+pub mod Paying
+pub mod Shown
+pub mod Ends

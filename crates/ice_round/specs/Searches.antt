@@ -1,0 +1,46 @@
+-- The searches of a settlement, and what they find.
+use Rattle.std.specs.Prelude.{ℕ, ◌+◌, List}
+use Rattle.ice_defs.specs.Set.{Weights}
+use Rattle.ice_defs.specs.Steps.{branch_count}
+use Rattle.ice_defs.specs.Weighing.{lower_weights, weighted_weights}
+use Rattle.ice_defs.specs.Group.{free_side, empty_sets}
+use Rattle.ice_defs.specs.Exchange.{Exchange, trees_of}
+use Rattle.ice_defs.specs.Session.{Settlement}
+use Rattle.ice_defs.specs.Right.{IsSettled}
+use Rattle.ice_search.specs.Instance.{Instance, instance_of}
+use Rattle.ice_search.specs.Results.{proved_found, IsFoundBy}
+use Rattle.ice_search.specs.declared.results.Found.{Found}
+use Rattle.ice_regret.specs.Regretted.{IsRegretOf, proved_rival}
+use Rattle.ice_regret.specs.declared.lead.Regret.{Regret}
+use Rattle.ice_vickrey.specs.Economy.{Economy}
+use Rattle.ice_round.specs.SessionAt.{SessionAt}
+
+-- with all nodes free, from the empty sets
+abbrev pub empty_search : Exchange → List Weights → Instance
+empty_search ex weights = instance_of ex weights (free_side (trees_of ex)) (empty_sets (trees_of ex))
+
+-- at lower values
+abbrev pub final_search : SessionAt → Instance
+final_search s = empty_search s.exchange (lower_weights s.bounds)
+
+-- at weighted values
+abbrev pub provisional_search : SessionAt → Instance
+provisional_search s = empty_search s.exchange (weighted_weights s.exchange.settings.weight s.bounds)
+
+-- the market at lower values, with the value of its final sets
+abbrev pub economy_of : SessionAt → Found → Economy
+economy_of s best = record { exchange = s.exchange; bounds = s.bounds; total = best.value }
+
+-- the final sets, their rival and the regret
+abbrev pub settlement_of : Found → Regret → Settlement
+settlement_of best regret = record { final = proved_found best; rival = proved_rival regret; regret = regret.amount }
+
+-- the final sets by the first search, their regret by the second, and both are right
+pub record IsSettlementOf (s : SessionAt) (best : Found) (r : Regret) : Type 0 where
+  pub final : IsFoundBy (final_search s) best
+  pub regret : IsRegretOf s.exchange s.bounds best.best r
+  pub settled : IsSettled s.exchange s.bounds (settlement_of best r)
+
+-- the branch steps of the two logs
+abbrev pub settlement_branches : Found → Regret → ℕ
+settlement_branches best regret = branch_count best.log + branch_count regret.log
