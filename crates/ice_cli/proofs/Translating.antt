@@ -1,5 +1,6 @@
 -- From the line of a translation, or why there is none, to what `xor` answers.
 use Rattle.std.proofs.Common.{◌≡◌, ◌∙◌, ℕ, List, [], ◌∷◌, ◌++◌, Option, Some, None, Ok, Err, refl, ap, sym, subst, inl, inr}
+use Rattle.std.proofs.lemmas.List.{append-nil}
 use Rattle.std.specs.Prelude.{codes, decimal}
 use Rattle.ice_defs.specs.FileFault.{FileFault, Read, Path, refuse, at_path}
 use Rattle.ice_edge.specs.Told.{Told}
@@ -33,7 +34,7 @@ bidder_place number bidder place is =
     let here : ReadFault = record { place = []; cause = NotJson } in
     let same : refuse {X = ℕ} 1 path ≡ Err (fault_at path here) = refused 1 NotJson here refl refl path in
     let shows : at_path 1 path ≡ fault_at path here = cc in
-    ap (λ p. record { number = number; place = shown p }) is ∙ ap (λ (f : FileFault). record { number = number; place = f.place }) (sym shows)
+    ap (λ p. record { number = number; place = shown p }) (is ∙ sym (append-nil ((46 ∷ codes "bidders") ++ ((46 ∷ decimal bidder) ++ [])))) ∙ ap (λ (f : FileFault). record { number = number; place = f.place }) (sym shows)
 
 -- the refusal of a maker, whichever is due
 pub maker_fault : (due : Option Refusal) (bidder number : ℕ) (place : List ℕ) → due ≡ Some (record { bidder = bidder; fault = number }) → place ≡ (46 ∷ codes "bidders") ++ ((46 ∷ decimal bidder) ++ [])
