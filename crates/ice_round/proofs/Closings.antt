@@ -1,5 +1,5 @@
 -- From the parts of a close to the last settlement of a session.
-use Rattle.std.proofs.Common.{ℕ, zero, suc, ◌+◌, ◌≡◌, ◌<◌, List, [], ◌∷◌, length, map, zip, get_or, ℤ, ◌-ℤ◌, refl, arith, ap, sym, subst, ◌∙◌}
+use Rattle.std.proofs.Common.{ℕ, suc, ◌+◌, ◌≡◌, ◌<◌, List, [], ◌∷◌, length, map, zip, get_or, ◌-ℤ◌, refl, arith, ap, sym, subst, ◌∙◌}
 use Rattle.std.specs.List.{AllByRecursion}
 use Rattle.std.proofs.lemmas.List.{length-map}
 use Rattle.ice_defs.specs.Sum.{numbers_below}
@@ -8,11 +8,12 @@ use Rattle.ice_defs.specs.Vickrey.{IsBestWithout}
 use Rattle.ice_defs.specs.Fraction.{Fraction}
 use Rattle.ice_defs.specs.Cut.{IsCut}
 use Rattle.ice_defs.specs.Threshold.{IsThreshold, ArePayments, IsSurplus}
-use Rattle.ice_defs.specs.Exchange.{Bidder, trees_of, exact_of, names_of}
-use Rattle.ice_defs.specs.Session.{Proved, Payment}
+use Rattle.ice_defs.specs.Exchange.{trees_of, exact_of, names_of}
+use Rattle.ice_defs.specs.Session.{Payment}
 use Rattle.ice_defs.specs.Right.{own_values, IsClosed}
 use Rattle.ice_defs.proofs.Below.{length-numbers_below, get_or-numbers_below}
 use Rattle.ice_promise.proofs.OwnValues.{own_count}
+use Rattle.ice_trade.proofs.Weighted.{length-trees, length-names}
 use Rattle.ice_vickrey.specs.Economy.{Economy}
 use Rattle.ice_vickrey.specs.Marginals.{proved_without, AreMarginalsFrom, AreMarginals}
 use Rattle.ice_vickrey.specs.declared.marginal.Marginal.{Marginal}
@@ -67,8 +68,8 @@ closed_is s c at settlement marginals paid =
     let ds = c.payments.discounts.items in
     let ps = c.payments.payments.items in
     let names = names_of s.exchange in
-    let trees = length-map s.exchange.bidders (λ (x : Bidder). x.tree) in
-    let same = length-map s.exchange.bidders (λ (x : Bidder). x.name) in
+    let trees = length-trees s.exchange in
+    let same = length-names s.exchange in
     let counted : length ms ≡ length names = omega (arith, marginals.count, trees, same) in
     let listed : length ds ≡ length names = omega (arith, paid.discounts.within.same_length, length-map ms (λ (m : Marginal). m.discount), counted) in
     let charged : length ps ≡ length names = omega (arith, paid.payments.same_length, own_count s.bounds c.best.best, at.bounds.same_length, trees, same) in
@@ -78,13 +79,13 @@ closed_is s c at settlement marginals paid =
       settled = settlement.settled;
       withouts_count = length-map ms proved_without ∙ marginals.count;
       withouts = numbered (economy_of s c.best) 0 ms (numbers_below (length (map proved_without ms))) marginals.each (numbers ∙ length-map ms proved_without)
-      (λ i l. omega (arith, get_or-numbers_below (length (map proved_without ms)) i 0 (subst (λ n. i < n) numbers l)));
+          (λ i l. omega (arith, get_or-numbers_below (length (map proved_without ms)) i 0 (subst (λ n. i < n) numbers l)));
       names = parts.0;
       vickreys = parts.1 ∙ differences (economy_of s c.best) 0 ms marginals.each;
       cut = subst (λ vs. IsCut vs c.best.value c.payments.cut) (sym parts.1) paid.cut;
       discounts = subst (λ vs. IsThreshold vs c.best.value (map (λ (p : Payment). p.discount) (payments_of names ms ds ps))) (sym parts.1)
-      (subst (IsThreshold (discounts_of ms) c.best.value) (sym parts.2) paid.discounts);
+          (subst (IsThreshold (discounts_of ms) c.best.value) (sym parts.2) paid.discounts);
       payments = subst (λ qs. ArePayments (own_values s.bounds c.best.best) qs (map (λ (p : Payment). p.payment) (payments_of names ms ds ps))) (sym parts.2)
-      (subst (ArePayments (own_values s.bounds c.best.best) ds) (sym parts.3) paid.payments);
+          (subst (ArePayments (own_values s.bounds c.best.best) ds) (sym parts.3) paid.payments);
       surplus = subst (λ qs. IsSurplus c.best.value qs c.payments.surplus) (sym parts.2) paid.surplus;
     }

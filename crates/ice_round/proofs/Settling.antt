@@ -1,15 +1,15 @@
 -- From the searches to the final sets, their rival and the regret.
-use Rattle.std.proofs.Common.{ℕ, ◌≡◌, List, length, ℤ, pos, ◌≤ℤ◌, subst}
+use Rattle.std.proofs.Common.{List, length, pos, ◌≤ℤ◌, subst}
 use Rattle.std.specs.List.{AllByRecursion}
 use Rattle.ice_defs.specs.Set.{Weights}
-use Rattle.ice_defs.specs.Trade.{Assignment, IsFeasible, IsBestOfAll, total_value}
+use Rattle.ice_defs.specs.Trade.{Assignment}
 use Rattle.ice_defs.specs.Bounds.{Bounds}
 use Rattle.ice_defs.specs.Weighing.{lower_weights, perturbed_weights}
 use Rattle.ice_defs.specs.Group.{free_side, empty_sets}
 use Rattle.ice_defs.specs.Searched.{IsFound}
 use Rattle.ice_defs.specs.Session.{Proved}
 use Rattle.ice_defs.specs.Exchange.{Exchange, trees_of, exact_of}
-use Rattle.ice_defs.specs.Right.{IsBestFound, IsSettled}
+use Rattle.ice_defs.specs.Right.{IsBestFound}
 use Rattle.ice_defs.proofs.Starts.{meets_free_side}
 use Rattle.ice_defs.proofs.EmptySets.{empty_feasible, total_value-empty}
 use Rattle.ice_refute.specs.Code.{CountsGoods}
@@ -19,7 +19,7 @@ use Rattle.ice_search.specs.declared.results.Found.{Found}
 use Rattle.ice_regret.specs.Regretted.{IsRegretOf, proved_rival}
 use Rattle.ice_regret.specs.declared.lead.Regret.{Regret}
 use Rattle.ice_round.specs.SessionAt.{SessionAt}
-use Rattle.ice_round.specs.Searches.{final_search, settlement_of, IsSettlementOf}
+use Rattle.ice_round.specs.Searches.{final_search, IsSettlementOf}
 
 -- sets that a search found with all nodes free are the best of all
 pub best_found : (ex : Exchange) (bounds : List Bounds) (ws : List Weights) (first : Assignment) (p : Proved)

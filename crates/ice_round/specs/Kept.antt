@@ -1,5 +1,5 @@
 -- What a session holds, and what is kept of it between rounds.
-use Rattle.std.specs.Prelude.{ℕ, ◌≤◌}
+use Rattle.std.specs.Prelude.{◌≤◌}
 use Rattle.ice_verdicts.specs.Judges.{IsRoundOf}
 use Rattle.ice_round.specs.SessionAt.{SessionAt, RoundAt, IsFresh}
 use Rattle.ice_round.specs.declared.session.Session.{Session}

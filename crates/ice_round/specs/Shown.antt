@@ -1,9 +1,9 @@
 -- What a settlement gives, in the words of a session.
-use Rattle.std.specs.Prelude.{ℕ, ◌+◌, ◌≤◌, ◌≡◌, false, IsTrue, List, [], ◌∷◌, length, map}
+use Rattle.std.specs.Prelude.{ℕ, ◌+◌, ◌≤◌, ◌≡◌, false, IsTrue, List, [], ◌∷◌, map}
 use Rattle.ice_defs.specs.Steps.{branch_count}
 use Rattle.ice_defs.specs.Weighing.{weighted_weights}
 use Rattle.ice_defs.specs.Fraction.{Fraction}
-use Rattle.ice_defs.specs.Exchange.{Exchange, trees_of, names_of}
+use Rattle.ice_defs.specs.Exchange.{Exchange, names_of}
 use Rattle.ice_defs.specs.Session.{Payment, Closed, Going, closes}
 use Rattle.ice_defs.specs.Round.{Judged}
 use Rattle.ice_defs.specs.Right.{IsClosed, IsGoing}
@@ -14,7 +14,6 @@ use Rattle.ice_pricing.specs.Provisional.{ProvisionalTrade, provisional_of}
 use Rattle.ice_price.specs.Ends.{IsPriced}
 use Rattle.ice_vickrey.specs.Marginals.{proved_without, AreMarginals, branches_of}
 use Rattle.ice_vickrey.specs.declared.marginal.Marginal.{Marginal}
-use Rattle.ice_threshold.specs.declared.payments.Payments.{Payments}
 use Rattle.ice_verdicts.specs.Judges.{IsAfter}
 use Rattle.ice_round.specs.SessionAt.{SessionAt, RoundAt}
 use Rattle.ice_round.specs.Searches.{economy_of, provisional_search, settlement_of, settlement_branches, IsSettlementOf}

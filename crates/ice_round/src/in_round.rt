@@ -87,9 +87,9 @@ impl InRound {
         } }
         ensures after { (judged : List Judged) → IsAfter self.old.exchange judged self.old.round
             → IsAfter self.old.exchange (judged ++ record {
-          submission = bid.now;
-          verdict = result;
-        } ∷ []) self.new.round }
+              submission = bid.now;
+              verdict = result;
+            } ∷ []) self.new.round }
     {
         let session = &mut self.session;
         session

@@ -23,7 +23,8 @@ use std::alloc::{AllocError, Global};
 fn own_value(bounds: &[Bounds], sets: &Assignment, bidder: u8) -> i128
     requires bidder { bidder < length bounds.now }
     requires chosen { AreChosen sets.now bounds.now }
-    ensures value { result ≡ value (set_of sets.now bidder) (weights_of (lower_weights bounds.now) bidder) }
+    ensures value { result ≡ value (set_of sets.now bidder)
+        (weights_of (lower_weights bounds.now) bidder) }
     ensures low { neg_ℤ (pos 200000000000) ≤ℤ result }
     ensures high { result ≤ℤ pos 200000000000 }
 {
@@ -31,11 +32,7 @@ fn own_value(bounds: &[Bounds], sets: &Assignment, bidder: u8) -> i128
 }
 
 /// The lower value of each bidder's set.
-fn own_values(
-    alloc: Global,
-    bounds: &[Bounds],
-    sets: &Assignment,
-) -> Result<Vec<i128>, AllocError>
+fn own_values(alloc: Global, bounds: &[Bounds], sets: &Assignment) -> Result<Vec<i128>, AllocError>
     requires chosen { AreChosen sets.now bounds.now }
     requires few { length bounds.now ≤ 40 }
     ensures value { IfOk result (λ values. values.items ≡ own_values bounds.now sets.now) }
@@ -52,7 +49,10 @@ fn own_values(
 fn vickreys(alloc: Global, marginals: &[Marginal]) -> Result<Vec<i128>, AllocError>
     ensures { IfOk result (λ vickreys. vickreys.items ≡ map (λ m. m.discount) marginals.now) }
 {
-    marginals.iter().map(|marginal| marginal.discount).collect(alloc)
+    marginals
+        .iter()
+        .map(|marginal| marginal.discount)
+        .collect(alloc)
 }
 
 /// The Threshold payments for the lower values of the final sets and the Vickrey discounts.
@@ -67,7 +67,8 @@ pub(crate) fn pay(
     requires feasible { IsFeasible (trees_of exchange.now) (exact_of exchange.now) best.now.best }
     requires value { total_value best.now.best (lower_weights bounds.now) ≡ best.now.value }
     requires rich { pos 0 ≤ℤ best.now.value }
-    requires marginals { AreMarginals (economy_at exchange.now bounds.now best.now.value) marginals.now }
+    requires marginals { AreMarginals (economy_at exchange.now bounds.now best.now.value)
+        marginals.now }
     ensures { IfOk result (ArePaymentsOf bounds.now best.now marginals.now) }
 {
     let _bidders = exchange.bidders();

@@ -51,7 +51,8 @@ impl Session {
         requires branches { branches.old ≤ 50000 }
         ensures found { IfOk result (IsFoundBy (final_search (session_at self.now))) }
         ensures branches { IfOk result (λ f. branches.new + branch_count f.log ≡ branches.old) }
-        ensures end { IfErr result (IsEnd (final_search (session_at self.now)) branches.old branches.new) }
+        ensures end { IfErr result (IsEnd (final_search (session_at self.now))
+            branches.old branches.new) }
     {
         let mut weights = AllWeights::new(self.alloc, self.exchange.trees())?;
         weights.fill_lower(self.judge.bounds());
@@ -64,7 +65,8 @@ impl Session {
         requires branches { branches.old ≤ 50000 }
         ensures found { IfOk result (IsFoundBy (provisional_search (session_at self.now))) }
         ensures branches { IfOk result (λ f. branches.new + branch_count f.log ≡ branches.old) }
-        ensures end { IfErr result (IsEnd (provisional_search (session_at self.now)) branches.old branches.new) }
+        ensures end { IfErr result (IsEnd (provisional_search (session_at self.now))
+            branches.old branches.new) }
     {
         let mut weights = AllWeights::new(self.alloc, self.exchange.trees())?;
         weights.fill_weighted(self.judge.bounds(), self.exchange.settings().weight);
@@ -119,15 +121,26 @@ impl Session {
         ensures { IsSettledAs (session_at self) result }
     {
         let mut left = branches;
-        let marginals = match discounts(self.alloc, &self.exchange, self.judge.bounds(), &best, &mut left)
-        {
+        let marginals = match discounts(
+            self.alloc,
+            &self.exchange,
+            self.judge.bounds(),
+            &best,
+            &mut left,
+        ) {
             Ok(marginals) => marginals,
             Err(DiscountEnd::Spent { done, spent }) => {
                 return Settled::Spent(self.halt(Some(best), Some(regret), None, done), spent);
             }
             Err(DiscountEnd::NoMemory) => return Settled::NoMemory,
         };
-        match pay(self.alloc, &self.exchange, self.judge.bounds(), &best, &marginals) {
+        match pay(
+            self.alloc,
+            &self.exchange,
+            self.judge.bounds(),
+            &best,
+            &marginals,
+        ) {
             Ok(payments) => Settled::Closed(Closing {
                 exchange: self.exchange,
                 bounds: self.judge.into_bounds(),
@@ -145,10 +158,13 @@ impl Session {
     fn open(self, opening: &Opening, branches: u32) -> InRound
         requires number { opening.now.number ≡ self.number }
         requires kept { IsKept self }
-        requires goes_on { closing self.exchange.settings self.number opening.now.regret.amount ≡ false }
+        requires goes_on { closing self.exchange.settings self.number
+            opening.now.regret.amount ≡ false }
         requires settlement { IsSettlementOf (session_at self) opening.now.best opening.now.regret }
-        requires provisional { IsFoundBy (provisional_search (session_at self)) opening.now.provisional }
-        requires pricing { IsPriced (priced_trade (session_at self) opening.now) opening.now.pricing }
+        requires provisional { IsFoundBy (provisional_search (session_at self))
+            opening.now.provisional }
+        requires pricing { IsPriced (priced_trade (session_at self) opening.now)
+            opening.now.pricing }
         requires branches { branches + (settlement_branches opening.now.best opening.now.regret
             + branch_count opening.now.provisional.log) ≡ self.branches }
         ensures { IsOpening (session_at self) result opening.now }
@@ -175,7 +191,12 @@ impl Session {
             Ok(provisional) => provisional,
             Err(end) => return self.stop(end, Some(best), Some(regret)),
         };
-        match price(self.alloc, &self.exchange, self.judge.bounds(), &provisional.best) {
+        match price(
+            self.alloc,
+            &self.exchange,
+            self.judge.bounds(),
+            &provisional.best,
+        ) {
             Ok(pricing) => {
                 let opening = Opening {
                     number: self.number,

@@ -52,9 +52,11 @@ impl<'a> Economy<'a> {
         best: &'a Found,
     ) -> Result<Economy<'a>, AllocError>
         requires bounds { AreBoundsOf (trees_of exchange.now) bounds.now }
-        requires feasible { IsFeasible (trees_of exchange.now) (exact_of exchange.now) best.now.best }
+        requires feasible { IsFeasible (trees_of exchange.now) (exact_of exchange.now)
+            best.now.best }
         requires value { total_value best.now.best (lower_weights bounds.now) ≡ best.now.value }
-        requires best { IsBestOfAll (trees_of exchange.now) (exact_of exchange.now) (lower_weights bounds.now) best.now.value }
+        requires best { IsBestOfAll (trees_of exchange.now) (exact_of exchange.now)
+            (lower_weights bounds.now) best.now.value }
         ensures { IfOk result (λ e. e ≡ economy_at exchange.now bounds.now best.now.value) }
     {
         let trees = exchange.trees();

@@ -35,9 +35,11 @@ returns-in-Err-Spent c =
     let spent = c.in-Err-Spent.spent in
     let ended : IsDiscountEnd (economy_at s.exchange c.bounds.result.now best.value) c.args.branches c.discounts.new.branches (Spent c.in-Err-Spent.done spent) =
     subst (IsDiscountEnd (economy_at s.exchange c.bounds.result.now best.value) c.args.branches c.discounts.new.branches) c.in-Err-Spent.field-0-is c.in-Err-Spent.ensures.end in
-    let is = subst (λ (bs : List Bounds). IsSpentWithout (economy_at s.exchange bs best.value) c.args.branches done spent) c.bounds.ensures ended.0 in
-    (c.halt.ensures.session, spent_in s c.halt.result (Some best) (Some c.args.regret) None done c.halt.ensures.best c.halt.ensures.regret c.halt.ensures.provisional
-    (ap (λ v. v.items) c.halt.ensures.marginals) spent (at_without c.args.branches c.requires.closes c.requires.settlement c.requires.branches is))
+    let is = subst (λ (bs : List Bounds). IsSpentWithout (economy_at s.exchange bs best.value) c.args.branches done spent) c.bounds.ensures ended.0 in (
+      c.halt.ensures.session,
+      spent_in s c.halt.result (Some best) (Some c.args.regret) None done c.halt.ensures.best c.halt.ensures.regret c.halt.ensures.provisional
+          (ap (λ v. v.items) c.halt.ensures.marginals) spent (at_without c.args.branches c.requires.closes c.requires.settlement c.requires.branches is),
+    )
 
 pub pay-requires-clause-bounds : goal.pay-requires-clause-bounds
 pay-requires-clause-bounds c =

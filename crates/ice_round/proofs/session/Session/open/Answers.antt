@@ -1,5 +1,4 @@
-use Rattle.std.proofs.Common.{◌≡◌, ◌<◌, ◌∙◌, ap, refl, length, arith}
-use Rattle.ice_defs.specs.Exchange.{trees_of}
+use Rattle.std.proofs.Common.{◌∙◌, ap, refl, arith}
 use Rattle.ice_trade.proofs.Weighted.{length-trees}
 use Rattle.ice_verdicts.specs.Judges.{Round}
 use Rattle.ice_round.specs.Kept.{session_at}
