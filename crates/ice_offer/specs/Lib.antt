@@ -1,0 +1,4 @@
+pub mod Offers
+pub mod Rows
+pub mod Rounds
+pub mod Taking

@@ -1,0 +1,14 @@
+//! What a settlement that goes on offers: its prices with their certificates, and the round at them, tested record by record.
+#![tactic(auto)]
+
+mod fault;
+mod lines;
+mod offer;
+mod place;
+mod pricing;
+mod rounds;
+mod rows;
+
+pub use fault::Fault;
+pub use offer::Offer;
+pub use place::{CertificateList, Place, Went};
