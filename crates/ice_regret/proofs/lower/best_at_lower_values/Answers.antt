@@ -42,8 +42,8 @@ returns-clause-best c =
     let start_is = c.in_ok-start.ensures ∙ ap free_side c.trees-trees.ensures.value in
     IfOk-weaker c.search.result _ _
     (λ f h. best_of_all ex (lower_weights c.args.bounds.now) f.value
-        (subst (λ (xs : Side). IsBest (trees_of ex) (exact_of ex) (lower_weights c.args.bounds.now) xs f.value) start_is
-        (subst (λ (w : List Weights). IsBest (trees_of ex) (exact_of ex) w c.in_ok-start.start f.value) c.fill_lower.ensures.value h)))
+    (subst (λ (xs : Side). IsBest (trees_of ex) (exact_of ex) (lower_weights c.args.bounds.now) xs f.value) start_is
+    (subst (λ (w : List Weights). IsBest (trees_of ex) (exact_of ex) w c.in_ok-start.start f.value) c.fill_lower.ensures.value h)))
     c.search.ensures.best
 
 pub returns-clause-end : goal.returns-clause-end
