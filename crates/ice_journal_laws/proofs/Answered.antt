@@ -1,10 +1,12 @@
 -- Bytes have one answer, and it is the one that the progress of their records ends with.
 use Rattle.std.proofs.Common.{◌≡◌, ℕ, ℤ, List, [], ◌∷◌, refl, sym, ◌∙◌, ap, subst}
-use Rattle.std.specs.Prelude.{Option, Some, None, Result, Ok, Err}
+use Rattle.std.specs.Prelude.{Some, None, Result, Ok, Err}
+use Rattle.std.proofs.lemmas.Option.{none-some}
 use Rattle.ice_defs.specs.Trade.{total_value}
 use Rattle.ice_defs.specs.Weighing.{lower_weights}
 use Rattle.ice_defs.specs.Bounds.{Bounds}
-use Rattle.ice_journal.specs.Records.{Record, Kind, assign_kind, regret_kind}
+use Rattle.ice_defs.specs.Fraction.{Fraction}
+use Rattle.ice_journal.specs.Records.{Record, Kind, assign_kind, regret_kind, session_kind}
 use Rattle.ice_journal.specs.Records as line
 use Rattle.ice_journal.specs.Journal.{LinesFault, grammar, unended, IsJournal, IsLinesFault}
 use Rattle.ice_journal.specs.Plain.{plain}
@@ -12,21 +14,23 @@ use Rattle.ice_journal.proofs.Journals.{one_answer as bytes_tell}
 use Rattle.ice_section.specs.Laws.{SectionIsLawful, SectionRecords}
 use Rattle.ice_section.proofs.Whole.{section_is_lawful, section_records_are}
 use Rattle.ice_journal_laws.specs.declared.answer.Answer.{Answer}
-use Rattle.ice_journal_laws.specs.declared.answer.Answer.TheVariants.{Assign, Regret, No}
+use Rattle.ice_journal_laws.specs.declared.answer.Answer.TheVariants.{Assign, Regret, Closed, No}
 use Rattle.ice_journal_laws.specs.declared.answer.CheckEnd.{CheckEnd}
 use Rattle.ice_journal_laws.specs.declared.answer.CheckEnd.TheVariants.{Grammar, Unended, OtherKind, NoMemory}
 use Rattle.ice_journal_laws.specs.declared.rule.Rule.{Rule}
 use Rattle.ice_journal_laws.specs.State.{State}
 use Rattle.ice_journal_laws.specs.Checks.{Failure, IsChecked, FirstFailure}
 use Rattle.ice_journal_laws.specs.Progress.{nothing, other_kind, passing, failed, out_of_memory, Leads}
-use Rattle.ice_journal_laws.specs.Theorems.{of_assigned, of_regret, IsYes, assigned_at}
-use Rattle.ice_journal_laws.specs.Answers.{AnswersJournal, AnswersBytes, EndsWith, EndIsAnswer, OneAnswer}
+use Rattle.ice_journal_laws.specs.Theorems.{Yes, of_assigned, of_regret, of_session, IsYes, assigned_at}
+use Rattle.ice_journal_laws.specs.Answers.{HasYes, HasNo, AnswersJournal, AnswersBytes, EndsWith, EndIsAnswer, OneAnswer}
 use Rattle.ice_journal_laws.proofs.Single.{same_failure}
 use Rattle.ice_journal_laws.proofs.Leading.{finds}
 use Rattle.ice_journal_laws.proofs.Said.{value_said, value_of_assigned}
 use Rattle.ice_journal_laws.proofs.Amount.{amount_said, amount_of_regretted}
+use Rattle.ice_journal_laws.proofs.SaidSession.{regret_said, regret_of_session, surplus_said, surplus_of_session}
 use Rattle.ice_journal_laws.proofs.Assigned.{done_is_assigned}
 use Rattle.ice_journal_laws.proofs.Regretted.{done_is_right as done_is_regretted}
+use Rattle.ice_journal_laws.proofs.SessionRight.{session_is_yes}
 
 -- ---- one answer
 
@@ -36,54 +40,76 @@ yes_says journal value (a, says, right, is) = is ∙ sym (value_of_assigned a ri
 regret_says : (journal : List Record) (amount : ℤ) → IsYes journal (of_regret amount) → amount ≡ amount_said (plain journal)
 regret_says journal amount (r, says, right, is) = is ∙ sym (amount_of_regretted r) ∙ ap amount_said (sym says)
 
+closing_says : (journal : List Record) (regret : ℤ) (surplus : Fraction) → IsYes journal (of_session regret surplus) → (regret ≡ regret_said (plain journal)) × (surplus ≡ surplus_said (plain journal))
+closing_says journal regret surplus (x, says, right, headline, regret_is, surplus_is) =
+    (regret_is ∙ sym (regret_of_session x) ∙ ap regret_said (sym says), surplus_is ∙ sym (surplus_of_session x) ∙ ap surplus_said (sym says))
+
 -- a journal is of one kind
 abbrev kind_said : List Record → Kind
 kind_said (line.head version kind ∷ rest) = kind
 kind_said (other ∷ rest) = assign_kind
 kind_said [] = assign_kind
 
-kinds_apart : (journal : List Record) (value amount : ℤ) → IsYes journal (of_assigned value) → IsYes journal (of_regret amount) → ⊥
-kinds_apart journal value amount (a, says, right, is) (r, says', right', is') = apart (ap kind_said (sym says ∙ says'))
-  where
-    apart : assign_kind ≡ regret_kind → ⊥
-    apart e = cc
+abbrev kind_of : Yes → Kind
+kind_of (of_assigned value) = assign_kind
+kind_of (of_regret amount) = regret_kind
+kind_of (of_session regret surplus) = session_kind
 
-abbrev failure : ℕ → Rule → Option Failure
-failure line test = Some (record { line = line; rule = test })
+says_kind : (journal : List Record) (said : Yes) → IsYes journal said → kind_said (plain journal) ≡ kind_of said
+says_kind journal (of_assigned value) (a, says, right, is) = ap kind_said says
+says_kind journal (of_regret amount) (r, says, right, is) = ap kind_said says
+says_kind journal (of_session regret surplus) (x, says, right, headline, regret_is, surplus_is) = ap kind_said says
+
+one_kind : (journal : List Record) (one other : Yes) → HasYes journal one → HasYes journal other → kind_of one ≡ kind_of other
+one_kind journal one other h k = sym (says_kind journal one h.1) ∙ says_kind journal other k.1
+
+abbrev failure : ℕ → Rule → Failure
+failure line test = record { line = line; rule = test }
+
+yes_is_no : (journal : List Record) (said : Yes) (line : ℕ) (test : Rule) → HasYes journal said → HasNo journal (failure line test) → ⊥
+yes_is_no journal said line test (checks, says) (checked, fails) = none-some (failure line test) (same_failure journal None (Some (failure line test)) checks.1 fails)
+
+assigned_regret : assign_kind ≡ regret_kind → ⊥
+assigned_regret e = cc
+
+assigned_session : assign_kind ≡ session_kind → ⊥
+assigned_session e = cc
+
+regret_session : regret_kind ≡ session_kind → ⊥
+regret_session e = cc
 
 pub same_answer : (journal : List Record) (one other : Answer) → AnswersJournal journal one → AnswersJournal journal other → one ≡ other
 same_answer journal (Assign v) (Assign w) (checks, says) (checks', says') = ap Assign (yes_says journal v says ∙ sym (yes_says journal w says'))
 same_answer journal (Regret v) (Regret w) (checks, says) (checks', says') = ap Regret (regret_says journal v says ∙ sym (regret_says journal w says'))
-same_answer journal (Assign v) (Regret w) (checks, says) (checks', says') = absurd (kinds_apart journal v w says says')
-same_answer journal (Regret v) (Assign w) (checks, says) (checks', says') = absurd (kinds_apart journal w v says' says)
-same_answer journal (Regret v) (No line test) (checks, says) (checked, fails) = apart (same_failure journal None (failure line test) checks.1 fails)
-  where
-    apart : None ≡ failure line test → Regret v ≡ No line test
-    apart e = cc
-same_answer journal (No line test) (Regret v) (checked, fails) (checks, says) = apart (same_failure journal None (failure line test) checks.1 fails)
-  where
-    apart : None ≡ failure line test → No line test ≡ Regret v
-    apart e = cc
-same_answer journal (Assign v) (No line test) (checks, says) (checked, fails) = apart (same_failure journal None (failure line test) checks.1 fails)
-  where
-    apart : None ≡ failure line test → Assign v ≡ No line test
-    apart e = cc
-same_answer journal (No line test) (Assign v) (checked, fails) (checks, says) = apart (same_failure journal None (failure line test) checks.1 fails)
-  where
-    apart : None ≡ failure line test → No line test ≡ Assign v
-    apart e = cc
+same_answer journal (Closed v x) (Closed w y) (checks, says) (checks', says') =
+    let one = closing_says journal v x says in
+    let other = closing_says journal w y says' in
+    ap (λ (n : ℤ). Closed n x) (one.0 ∙ sym other.0) ∙ ap (Closed w) (one.1 ∙ sym other.1)
+same_answer journal (Assign v) (Regret w) h k = absurd (assigned_regret (one_kind journal (of_assigned v) (of_regret w) h k))
+same_answer journal (Regret v) (Assign w) h k = absurd (assigned_regret (one_kind journal (of_assigned w) (of_regret v) k h))
+same_answer journal (Assign v) (Closed w y) h k = absurd (assigned_session (one_kind journal (of_assigned v) (of_session w y) h k))
+same_answer journal (Closed v x) (Assign w) h k = absurd (assigned_session (one_kind journal (of_assigned w) (of_session v x) k h))
+same_answer journal (Regret v) (Closed w y) h k = absurd (regret_session (one_kind journal (of_regret v) (of_session w y) h k))
+same_answer journal (Closed v x) (Regret w) h k = absurd (regret_session (one_kind journal (of_regret w) (of_session v x) k h))
+same_answer journal (Assign v) (No line test) h k = absurd (yes_is_no journal (of_assigned v) line test h k)
+same_answer journal (Regret v) (No line test) h k = absurd (yes_is_no journal (of_regret v) line test h k)
+same_answer journal (Closed v x) (No line test) h k = absurd (yes_is_no journal (of_session v x) line test h k)
+same_answer journal (No line test) (Assign v) h k = absurd (yes_is_no journal (of_assigned v) line test k h)
+same_answer journal (No line test) (Regret v) h k = absurd (yes_is_no journal (of_regret v) line test k h)
+same_answer journal (No line test) (Closed v x) h k = absurd (yes_is_no journal (of_session v x) line test k h)
 same_answer journal (No line test) (No line' test') (checked, fails) (checked', fails') =
-    same (same_failure journal (failure line test) (failure line' test') fails fails')
+    same (same_failure journal (Some (failure line test)) (Some (failure line' test')) fails fails')
   where
     unwrap : (f g : Failure) → Some f ≡ Some g → f ≡ g
     unwrap f g e = cc
 
-    same : failure line test ≡ failure line' test' → No line test ≡ No line' test'
-    same e = ap (λ (f : Failure). No f.line f.rule) (unwrap (record { line = line; rule = test }) (record { line = line'; rule = test' }) e)
+    same : Some (failure line test) ≡ Some (failure line' test') → No line test ≡ No line' test'
+    same e = ap (λ (f : Failure). No f.line f.rule) (unwrap (failure line test) (failure line' test') e)
 
 answered_is_checked : (journal : List Record) (answer : Answer) → AnswersJournal journal answer → IsChecked journal
 answered_is_checked journal (Assign value) h = h.0.0
 answered_is_checked journal (Regret amount) h = h.0.0
+answered_is_checked journal (Closed regret surplus) h = h.0.0
 answered_is_checked journal (No line test) h = h.0
 
 abbrev refused : CheckEnd → Result Answer CheckEnd
@@ -137,6 +163,10 @@ module _ (lawful : SectionIsLawful) (described : SectionRecords) where
       let found = finds journal (passing s) l in
       let (r, right) = done_is_regretted journal s is.lawful l place kind in
       (journal, is, ((found.0, found.1 place), (r, right.says, right.right, amount_is ∙ sym right.regret)))
+  ends_passing bytes journal s (Ok (Closed regret surplus)) is l (place, kind, regret_is, surplus_is) =
+      let found = finds journal (passing s) l in
+      let (x, says, right, headline, same_regret, same_surplus) = session_is_yes journal s is.lawful l place kind in
+      (journal, is, ((found.0, found.1 place), (x, says, right, headline, regret_is ∙ same_regret, surplus_is ∙ same_surplus)))
   ends_passing bytes journal s (Ok (No line test)) is l (place, line_is, test_is) =
       let found = finds journal (passing s) l in
       (journal, is, (found.0, subst (λ (f : Failure). FirstFailure journal (Some f)) (λ i. record { line = sym line_is i; rule = sym test_is i }) (found.2 place)))

@@ -1,6 +1,5 @@
 -- The records of a session in version 1 are those that say it.
 use Rattle.std.proofs.Common.{◌≡◌, ℕ, suc, List, [], ◌∷◌, ◌++◌, length, map, refl, ◌∙◌, ap, subst}
-use Rattle.std.specs.Prelude.{None}
 use Rattle.std.specs.List.{flat_map}
 use Rattle.ice_defs.specs.Exchange.{exact_of}
 use Rattle.ice_defs.specs.Session.{Proved, Going, Closed, Session}
@@ -8,11 +7,11 @@ use Rattle.ice_journal.specs.Records.{Record, version_1, session_kind, closed_en
 use Rattle.ice_journal.specs.Records as line
 use Rattle.ice_section.specs.Described.{section_records}
 use Rattle.ice_section.specs.Laws.{DescribedAreTaken}
-use Rattle.ice_journal_laws.specs.Checks.{IsChecked, FirstFailure, Checks}
+use Rattle.ice_journal_laws.specs.Checks.{Checks}
 use Rattle.ice_journal_laws.specs.Written.{proved_records, regret_records, row_record, judged_records, opening_records, going_records, without_records, payment_record, closed_records, settlement_records, session_records}
 use Rattle.ice_journal_laws.specs.ShowingSession.{without_group_records, closed_in, opening_in, going_in, settlements_in, session_in, IsShownSession}
 use Rattle.ice_journal_laws.proofs.CarriedRegret.{group_plain, settlement_plain}
-use Rattle.ice_journal_laws.proofs.CarriedSession.{session_passes}
+use Rattle.ice_journal_laws.proofs.CarriedSession.{session_checks}
 
 pub withouts_plain : (goods b : ℕ) (ps : List Proved) → without_group_records version_1 goods b ps ≡ without_records b ps
 withouts_plain goods b [] = refl
@@ -44,8 +43,5 @@ settlements_plain goods number (g ∷ later) c =
 pub session_plain : (s : Session) → session_in version_1 s ≡ session_records s
 session_plain s = ap (λ (rs : List Record). line.head version_1 session_kind ∷ section_records s.exchange ++ rs) (settlements_plain (length (exact_of s.exchange)) 0 s.going s.closed)
 
-pub session_records_pass : DescribedAreTaken → (s : Session) → IsShownSession s → FirstFailure (session_records s) None
-session_records_pass taken s is = subst (λ (rs : List Record). FirstFailure rs None) (session_plain s) (session_passes taken version_1 s is)
-
-pub session_records_check : DescribedAreTaken → (s : Session) → IsShownSession s → IsChecked (session_records s) → Checks (session_records s)
-session_records_check taken s is checked = (checked, session_records_pass taken s is)
+pub session_records_check : DescribedAreTaken → (s : Session) → IsShownSession s → Checks (session_records s)
+session_records_check taken s is = subst Checks (session_plain s) (session_checks taken version_1 s is)

@@ -1,20 +1,20 @@
 -- A session, written whole, passes every test.
 use Rattle.std.proofs.Common.{◌≡◌, ◌<◌, suc, List, [], ◌∷◌, ◌++◌, length, refl}
-use Rattle.std.specs.Prelude.{None}
+use Rattle.std.specs.Prelude.{true}
 use Rattle.ice_defs.specs.Exchange.{exact_of}
 use Rattle.ice_defs.specs.declared.Group.TheVariants.{Final}
 use Rattle.ice_defs.specs.Session.{Going, Closed, Session}
-use Rattle.ice_journal.specs.Records.{Record, Version, session_kind}
+use Rattle.ice_journal.specs.Records.{Record, Version, version_1, version_2, session_kind}
 use Rattle.ice_journal.specs.Records as line
 use Rattle.ice_section.specs.Described.{section_records}
 use Rattle.ice_section.specs.Laws.{DescribedAreTaken}
 use Rattle.ice_journal_laws.specs.State.{at_group, done, State, begun, exchange_at, trees_at, goods_at}
 use Rattle.ice_journal_laws.specs.Next.{go_to, settled}
-use Rattle.ice_journal_laws.specs.Checks.{IsChecked, FirstFailure, Checks}
+use Rattle.ice_journal_laws.specs.Checks.{is_checked, Checks}
 use Rattle.ice_journal_laws.specs.Assigning.{describing, section_of, described}
 use Rattle.ice_journal_laws.specs.Carrying.{Carries}
 use Rattle.ice_journal_laws.specs.ShowingSession.{going_in, settlements_in, session_in, AreShownFrom, IsShownSession}
-use Rattle.ice_journal_laws.proofs.Carried.{TakesTo, carries_join, carries_tested}
+use Rattle.ice_journal_laws.proofs.Carried.{TakesTo, carries_join, carries_checks}
 use Rattle.ice_journal_laws.proofs.CarriedSection.{section_carries, first_settle_takes}
 use Rattle.ice_journal_laws.proofs.CarriedRegret.{some_trees}
 use Rattle.ice_journal_laws.proofs.CarriedRound.{resting_at, settle_takes}
@@ -58,10 +58,11 @@ module _ (taken : DescribedAreTaken) (v : Version) (x : Session) (is : IsShownSe
         ends = rest.ends;
       }
 
-  -- no test fails, in either version
-  pub session_passes : FirstFailure (session_in v x) None
-  session_passes = carries_tested v session_kind (section_records x.exchange ++ settlements_in v (length (exact_of x.exchange)) 0 x.going x.closed) session_carries.after session_carries.carries session_carries.ends
+  checked_session : (u : Version) → is_checked u session_kind ≡ true
+  checked_session version_1 = refl
+  checked_session version_2 = refl
 
-  -- so it passes wherever heads of sessions are checked
-  pub session_checks : IsChecked (session_in v x) → Checks (session_in v x)
-  session_checks checked = (checked, session_passes)
+  -- in either version
+  pub session_checks : Checks (session_in v x)
+  session_checks =
+      carries_checks v session_kind (section_records x.exchange ++ settlements_in v (length (exact_of x.exchange)) 0 x.going x.closed) session_carries.after (checked_session v) session_carries.carries session_carries.ends

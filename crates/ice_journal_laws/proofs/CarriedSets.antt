@@ -50,9 +50,9 @@ module _ (s : State) (g : Group) (value : ℤ) (all : Assignment) (feasible : Is
     counted = record {
       count = (sat front rest x e).same_length;
       bidder = omega (arith, count_there front rest x e);
-      taken = kept_empty g value all front rest x left e;
     };
     faultless = set_fault-none (tree_of (trees_at s) (length front)) x (sat front rest x e);
+    taken = kept_empty g value all front rest x left e;
   }
 
   -- from where these are stated to where all are

@@ -93,11 +93,10 @@ module _ (s : State) (g : Group) (found : Stated) where
         least z (by_excess e h) l = omega (arith, l)
         least z (by_value e h) l = omega (arith, l)
 
-    -- the bits count the nodes of a bidder that is there, and it isn't one that is left out
+    -- the bits count the nodes of a bidder that is there
     pub record IsCounted : Type 0 where
       pub count : length x ≡ length (tree_of (trees_at s) (length found.sets))
       pub bidder : length found.sets < length (trees_at s)
-      pub taken : ¬ HasLeftOut (at_sets g found) (line.set x)
 
     not_miscounted : IsCounted → (length x ≢ length (tree_of (trees_at s) (length found.sets)) ⊎ (length (trees_at s) ≤ length found.sets)) → ⊥
     not_miscounted c (inl ne) = ne c.count
@@ -123,14 +122,26 @@ module _ (s : State) (g : Group) (found : Stated) where
         least : (z : Rule) → SetFailure z → place_of z < place_of (rule_of k) → ⊥
         least z (by_count h) l = not_miscounted c h
         least z (by_fault j h) l = one_fault k j faulty h l
-        least z (by_left_out h) l = c.taken h
+        least z (by_left_out h) l = fault_before k 8 (omega arith) l
         least z (by_excess e h) l = fault_before k 9 (omega arith) l
         least z (by_value e h) l = fault_before k 10 (omega arith) l
 
-    -- the set is one of the bidder, and satisfied
+    -- the set is satisfied, but that of a bidder that is left out, and not empty
+    pub set_left_out : IsCounted → set_fault (tree_of (trees_at s) (length found.sets)) x ≡ None → HasLeftOut (at_sets g found) (line.set x) → TakesOn (go_to (at_sets g found) s) (line.set x) (failed (record { line = s.line; rule = rule.Fixing }))
+    set_left_out c faultless left = fails_set rule.Fixing left least
+      where
+        least : (z : Rule) → SetFailure z → place_of z < 8 → ⊥
+        least z (by_count h) l = not_miscounted c h
+        least z (by_fault j h) l = none-some j (sym faultless ∙ h)
+        least z (by_left_out h) l = omega (arith, l)
+        least z (by_excess e h) l = omega (arith, l)
+        least z (by_value e h) l = omega (arith, l)
+
+    -- the set is one of the bidder, which isn't left out unless it is empty, and satisfied
     pub record IsFit : Type 0 where
       pub counted : IsCounted
       pub faultless : set_fault (tree_of (trees_at s) (length found.sets)) x ≡ None
+      pub taken : ¬ HasLeftOut (at_sets g found) (line.set x)
 
     short_fails : IsLast → AreShort (exchange_at s) (found.sets ++ x ∷ []) → Fails rule.Excess Before (line.set x)
     short_fails last short =
@@ -144,7 +155,7 @@ module _ (s : State) (g : Group) (found : Stated) where
         least : (z : Rule) → SetFailure z → place_of z < 9 → ⊥
         least z (by_count h) l = not_miscounted fit.counted h
         least z (by_fault j h) l = none-some j (sym fit.faultless ∙ h)
-        least z (by_left_out h) l = fit.counted.taken h
+        least z (by_left_out h) l = fit.taken h
         least z (by_excess e h) l = omega (arith, l)
         least z (by_value e h) l = omega (arith, l)
 
@@ -164,7 +175,7 @@ module _ (s : State) (g : Group) (found : Stated) where
         least : (z : Rule) → SetFailure z → place_of z < 10 → ⊥
         least z (by_count h) l = not_miscounted fit.counted h
         least z (by_fault j h) l = none-some j (sym fit.faultless ∙ h)
-        least z (by_left_out h) l = fit.counted.taken h
+        least z (by_left_out h) l = fit.taken h
         least z (by_excess e h) l = balanced_not_short balanced h
         least z (by_value e h) l = omega (arith, l)
 
@@ -174,7 +185,7 @@ module _ (s : State) (g : Group) (found : Stated) where
         quiet : (z : Rule) → SetFailure z → ⊥
         quiet z (by_count h) = not_miscounted fit.counted h
         quiet z (by_fault j h) = none-some j (sym fit.faultless ∙ h)
-        quiet z (by_left_out h) = fit.counted.taken h
+        quiet z (by_left_out h) = fit.taken h
         quiet z (by_excess e h) = balanced_not_short (balanced e) h
         quiet z (by_value e h) = valued e h
 

@@ -2,16 +2,16 @@
 use Rattle.std.specs.Prelude.{ℕ, ◌≡◌, ◌≢◌, List, Some, Result, Ok, Err}
 use Rattle.ice_defs.specs.Trade.{total_value}
 use Rattle.ice_defs.specs.Weighing.{lower_weights}
-use Rattle.ice_journal.specs.Records.{Record, assign_kind, regret_kind}
+use Rattle.ice_journal.specs.Records.{Record, assign_kind, regret_kind, session_kind}
 use Rattle.ice_journal.specs.Journal.{grammar, unended, IsJournal, IsLinesFault}
 use Rattle.ice_journal_laws.specs.declared.answer.Answer.{Answer}
-use Rattle.ice_journal_laws.specs.declared.answer.Answer.TheVariants.{Assign, Regret, No}
+use Rattle.ice_journal_laws.specs.declared.answer.Answer.TheVariants.{Assign, Regret, Closed, No}
 use Rattle.ice_journal_laws.specs.declared.answer.CheckEnd.{CheckEnd}
 use Rattle.ice_journal_laws.specs.declared.answer.CheckEnd.TheVariants.{Grammar, Unended, OtherKind, NoMemory}
 use Rattle.ice_journal_laws.specs.declared.rule.Rule.TheVariants as rule
 use Rattle.ice_journal_laws.specs.State.{done}
 use Rattle.ice_journal_laws.specs.Checks.{Failure, IsChecked, FirstFailure, Checks}
-use Rattle.ice_journal_laws.specs.Theorems.{Yes, of_assigned, of_regret, IsYes}
+use Rattle.ice_journal_laws.specs.Theorems.{Yes, of_assigned, of_regret, of_session, IsYes}
 use Rattle.ice_journal_laws.specs.Progress.{Progress, nothing, other_kind, passing, failed, out_of_memory, Leads}
 
 -- these records are those of the bytes, and this holds of them
@@ -28,6 +28,7 @@ HasNo journal failure = IsChecked journal × FirstFailure journal (Some failure)
 abbrev pub AnswersJournal : List Record → Answer → Type 0
 AnswersJournal journal (Assign value) = HasYes journal (of_assigned value)
 AnswersJournal journal (Regret amount) = HasYes journal (of_regret amount)
+AnswersJournal journal (Closed regret surplus) = HasYes journal (of_session regret surplus)
 AnswersJournal journal (No line test) = HasNo journal (record { line = line; rule = test })
 
 -- the least line at fault comes first, then another kind, then the first failed test or the yes; want of memory is free
@@ -46,6 +47,7 @@ EndsWith out_of_memory answer = answer ≡ Err NoMemory
 EndsWith (failed failure) answer = answer ≡ Ok (No failure.line failure.rule)
 EndsWith (passing s) (Ok (Assign value)) = (s.place ≡ done) × (s.kind ≡ assign_kind) × (value ≡ total_value s.final.sets (lower_weights s.bounds))
 EndsWith (passing s) (Ok (Regret amount)) = (s.place ≡ done) × (s.kind ≡ regret_kind) × (amount ≡ s.regret)
+EndsWith (passing s) (Ok (Closed regret surplus)) = (s.place ≡ done) × (s.kind ≡ session_kind) × (regret ≡ s.regret) × (surplus ≡ s.surplus)
 EndsWith (passing s) (Ok (No line test)) = (s.place ≢ done) × (line ≡ s.line) × (test ≡ rule.Short)
 EndsWith (passing s) (Err fault) = ⊥
 
@@ -61,8 +63,3 @@ HoldsJournal bytes p = OfJournal bytes (λ journal. Leads nothing journal p)
 -- but for want of memory, bytes have one answer
 abbrev pub OneAnswer : Type 0
 OneAnswer = (bytes : List ℕ) (one other : Result Answer CheckEnd) → AnswersBytes bytes one → AnswersBytes bytes other → one ≢ Err NoMemory → other ≢ Err NoMemory → one ≡ other
-
--- bytes are fed: their records lead here, or they have this answer
-abbrev pub IsFed : List ℕ → Result (Unit {0}) CheckEnd → Progress → Type 0
-IsFed bytes (Ok unit) p = HoldsJournal bytes p
-IsFed bytes (Err end) p = AnswersBytes bytes (Err end)

@@ -24,12 +24,12 @@ pub data Tested : State → List Record → Option Failure → Type 0 where
       → ((y : Rule) → ended_list s.place r ≡ Some y → ListHolds s.place s) → ((x : Rule) → ¬ Fails x s r) → Holds s r
       → next s r ≡ Some after → Tested after rest end → Tested s (r ∷ rest) end
 
--- a head that is checked: assign in version 1, and regret in both; kind session is not checked yet
+-- a head that is checked: assign in version 1, and regret and session in both
 abbrev pub is_checked : Version → Kind → Bool
 is_checked version_1 assign_kind = true
 is_checked version_2 assign_kind = false
 is_checked version regret_kind = true
-is_checked version session_kind = false
+is_checked version session_kind = true
 is_checked version other = false
 
 abbrev pub IsChecked : List Record → Type 0

@@ -1,5 +1,5 @@
 -- What a writer's journals come to, as statements.
-use Rattle.std.specs.Prelude.{◌≡◌, List, ◌∷◌, ◌++◌, None}
+use Rattle.std.specs.Prelude.{◌≡◌, List, ◌∷◌, ◌++◌}
 use Rattle.std.specs.List.{AllByRecursion}
 use Rattle.ice_defs.specs.Session.{Regretted, Session}
 use Rattle.ice_journal.specs.Records.{Record, Version, version_2, Kind, session_kind}
@@ -7,7 +7,7 @@ use Rattle.ice_journal.specs.Records as line
 use Rattle.ice_journal.specs.Plain.{plain}
 use Rattle.ice_journal.specs.Ranges.{IsRecord}
 use Rattle.ice_journal_laws.specs.State.{State, begun}
-use Rattle.ice_journal_laws.specs.Checks.{IsChecked, FirstFailure, Checks}
+use Rattle.ice_journal_laws.specs.Checks.{Checks}
 use Rattle.ice_journal_laws.specs.Written.{regretted_records, session_records}
 use Rattle.ice_journal_laws.specs.Carrying.{Carries}
 use Rattle.ice_journal_laws.specs.Showing.{regretted_in, IsShownRegretted}
@@ -18,11 +18,9 @@ use Rattle.ice_journal_laws.specs.SoFar.{IsUnstopped, IsSoFar}
 abbrev pub RegretIsWritten : Type 0
 RegretIsWritten = (r : Regretted) → IsShownRegretted r → Checks (regretted_records r) × ((v : Version) → Checks (regretted_in v r)) × (plain (regretted_in version_2 r) ≡ regretted_records r)
 
--- so does a session of shown settlements, where heads of sessions are checked
+-- so does a session of shown settlements
 abbrev pub SessionIsWritten : Type 0
-SessionIsWritten =
-    (s : Session) → IsShownSession s
-    → FirstFailure (session_records s) None × ((v : Version) → FirstFailure (session_in v s) None) × (IsChecked (session_records s) → Checks (session_records s)) × (plain (session_in version_2 s) ≡ session_records s)
+SessionIsWritten = (s : Session) → IsShownSession s → Checks (session_records s) × ((v : Version) → Checks (session_in v s)) × (plain (session_in version_2 s) ≡ session_records s)
 
 -- each front of records that lead on is a journal so far, and no stop stands in it
 abbrev pub FrontIsSoFar : Type 0

@@ -103,7 +103,7 @@ pub fn regret_is_written()
     ensures { RegretIsWritten }
 {}
 
-/// No test fails of a session of shown settlements.
+/// A session of shown settlements passes every test.
 pub fn session_is_written()
     ensures { SessionIsWritten }
 {}
