@@ -21,33 +21,43 @@ use Rattle.ice_section.specs.declared.faults.SectionFault.TheVariants as fault
 use Rattle.ice_journal_laws.specs.declared.rule.Rule.{Rule}
 use Rattle.ice_journal_laws.specs.declared.rule.Rule.TheVariants as rule
 use Rattle.ice_check.specs.declared.head.Head.{Head}
-use Rattle.ice_check.specs.declared.stage.Stage.{Stage}
-use Rattle.ice_check.specs.declared.stage.Stage.TheVariants as stage
-use Rattle.ice_check.specs.Heads.{version_of_head, kind_of_head, ends_section}
+use Rattle.ice_offer.specs.declared.fault.Fault.TheVariants.{Here}
+use Rattle.ice_check.specs.declared.halt.Halt.TheVariants.{Fails}
+use Rattle.ice_check.specs.Heads.{version_of_head, kind_of_head}
+use Rattle.ice_check.specs.Openings.{ends_section}
 use Rattle.ice_journal_laws.specs.State.{Stated, at_sets, State, trees_at}
 use Rattle.ice_journal_laws.specs.Next.{go_to}
 use Rattle.ice_journal_laws.specs.Tests.{is_refusal, HasLeftOut}
-use Rattle.ice_journal_laws.specs.Progress.{passing, failed, other_kind, TakesOn, IsAfter, next_line}
+use Rattle.ice_journal_laws.specs.Progress.{Progress, passing, failed, TakesOn, IsAfter}
 use Rattle.ice_journal_laws.specs.Assigning.{describing, rule_of}
 use Rattle.ice_check.specs.Stating.{Stating, AreStated}
-use Rattle.ice_check.specs.Stages.{progress_of, IsNumber, Halts, IsBroken, numbered_halt, section_halt}
+use Rattle.ice_check.specs.Stages.{Halts, IsBroken, numbered_halt, section_halt}
 use Rattle.ice_journal_laws.proofs.Places.{section_refused}
 use Rattle.ice_check.proofs.Behind.{section_misplaced}
-use Rattle.ice_journal_laws.proofs.Sets.{set_miscounted, set_unsatisfied, IsFit}
+use Rattle.ice_journal_laws.proofs.Sets.{set_miscounted, set_unsatisfied, set_left_out, IsFit}
 use Rattle.ice_trade.specs.Fault.{make_fault_number}
+
+-- the exchange is being described, and this line is next
+abbrev IsDescribed : Head → Section → ℕ → Progress → Type 0
+IsDescribed h s n p = p ≡ passing (describing (version_of_head h) (kind_of_head h) n s)
+
+-- where so far it is, a record that fails a test fails it
+pub described_fails : (h : Head) (s : Section) (r : Record) (y : Rule) → ((n : ℕ) → TakesOn (describing (version_of_head h) (kind_of_head h) n s) r (failed (record { line = n; rule = y })))
+    → Halts (λ n p. p ≡ passing (describing (version_of_head h) (kind_of_head h) n s)) r (Fails (Here y))
+described_fails h s r y fails n p is = subst (λ (q : Progress). IsAfter q r (failed (record { line = n; rule = y }))) (sym is) (fails n)
 
 -- what a section refuses
 pub section_halts : (h : Head) (s : Section) (r : Record) (why : SectionFault) → (may_end s && ends_section h r) ≡ false → IsRefusal (take_record s r) why
-    → Halts (λ n. passing (describing (version_of_head h) (kind_of_head h) n s)) r (section_halt why)
-section_halts h s r fault.Order more taken = λ n. section_misplaced h n s r taken more
-section_halts h s r fault.Count more taken = λ n. section_refused (version_of_head h) (kind_of_head h) n s r (ap is_refusal taken)
-section_halts h s r fault.NoGood more taken = λ n. section_refused (version_of_head h) (kind_of_head h) n s r (ap is_refusal taken)
-section_halts h s r (fault.Tree refusal) more taken = λ n. section_refused (version_of_head h) (kind_of_head h) n s r (ap is_refusal taken)
+    → Halts (λ n p. p ≡ passing (describing (version_of_head h) (kind_of_head h) n s)) r (section_halt why)
+section_halts h s r fault.Order more taken = described_fails h s r rule.Order (λ n. section_misplaced h n s r taken more)
+section_halts h s r fault.Count more taken = described_fails h s r rule.Exchange (λ n. section_refused (version_of_head h) (kind_of_head h) n s r (ap is_refusal taken))
+section_halts h s r fault.NoGood more taken = described_fails h s r rule.Exchange (λ n. section_refused (version_of_head h) (kind_of_head h) n s r (ap is_refusal taken))
+section_halts h s r (fault.Tree refusal) more taken = described_fails h s r rule.Exchange (λ n. section_refused (version_of_head h) (kind_of_head h) n s r (ap is_refusal taken))
 section_halts h s r (fault.Make refusal) more taken = by (make_fault_number refusal) taken
   where
-    by : (o : Option ℕ) → IfSome o (λ number. take_record s r ≡ Err (maker number)) → Halts (λ n. passing (describing (version_of_head h) (kind_of_head h) n s)) r (numbered_halt o)
+    by : (o : Option ℕ) → IfSome o (λ number. take_record s r ≡ Err (maker number)) → Halts (IsDescribed h s) r (numbered_halt o)
     by None taken = tt
-    by (Some number) taken = λ n. section_refused (version_of_head h) (kind_of_head h) n s r (ap is_refusal taken)
+    by (Some number) taken = described_fails h s r rule.Exchange (λ n. section_refused (version_of_head h) (kind_of_head h) n s r (ap is_refusal taken))
 section_halts h s r fault.NoMemory more taken = tt
 
 -- the rule of a set that isn't satisfied
@@ -56,19 +66,25 @@ broken_by t s Parent count is = (count, Parent, is, refl)
 broken_by t s Few count is = (count, Few, is, refl)
 broken_by t s Many count is = (count, Many, is, refl)
 
--- a set that is broken by itself, in a group that leaves no bidder out
-pub broken_fails : (s : State) (g : Group) (found : Stated) (x : NodeSet) (y : Rule) → ¬ HasLeftOut (at_sets g found) (line.set x) → length found.sets < length (trees_at s) → IsBroken (tree_of (trees_at s) (length found.sets)) x (Some y)
+-- a set that is broken by itself
+pub broken_fails : (s : State) (g : Group) (found : Stated) (x : NodeSet) (y : Rule) → length found.sets < length (trees_at s) → IsBroken (tree_of (trees_at s) (length found.sets)) x (Some y)
     → TakesOn (go_to (at_sets g found) s) (line.set x) (failed (record { line = s.line; rule = y }))
-broken_fails s g found x rule.Count taken room h = set_miscounted s g found x h
-broken_fails s g found x other taken room (count, k, is, e) =
+broken_fails s g found x rule.Count room h = set_miscounted s g found x h
+broken_fails s g found x other room (count, k, is, e) =
     subst (λ (y : Rule). TakesOn (go_to (at_sets g found) s) (line.set x) (failed (record { line = s.line; rule = y }))) (sym e)
-    (set_unsatisfied s g found x k (record { count = count; bidder = room; taken = taken }) is)
+    (set_unsatisfied s g found x k (record { count = count; bidder = room }) is)
+
+-- a satisfied set of a bidder that is left out
+pub left_out_fails : (s : State) (g : Group) (found : Stated) (x : NodeSet) → length found.sets < length (trees_at s) → IsSatisfied (tree_of (trees_at s) (length found.sets)) x → HasLeftOut (at_sets g found) (line.set x)
+    → TakesOn (go_to (at_sets g found) s) (line.set x) (failed (record { line = s.line; rule = rule.Fixing }))
+left_out_fails s g found x room is left = set_left_out s g found x (record { count = is.same_length; bidder = room }) (set_fault-none (tree_of (trees_at s) (length found.sets)) x is) left
 
 -- a satisfied set of a bidder that isn't left out
 pub is_fit : (s : State) (g : Group) (found : Stated) (x : NodeSet) → ¬ HasLeftOut (at_sets g found) (line.set x) → length found.sets < length (trees_at s) → IsSatisfied (tree_of (trees_at s) (length found.sets)) x → IsFit s g found x
 is_fit s g found x taken room is = record {
-  counted = record { count = is.same_length; bidder = room; taken = taken };
+  counted = record { count = is.same_length; bidder = room };
   faultless = set_fault-none (tree_of (trees_at s) (length found.sets)) x is;
+  taken = taken;
 }
 
 -- ---- the sets that are stated
@@ -121,31 +137,3 @@ next_set ex sets taken x now h view room is = (
   where
     count : length (take taken sets) ≡ taken
     count = length-take-le taken sets h.taken_there
-
--- ---- the number of the next line
-
--- it matters only where a test may fail
-pub same_progress : (n m : ℕ) (old next : Stage) (r : Record) → IsNumber n old → IsAfter (progress_of n old) r (progress_of (suc n) next) → next_line (progress_of n old) < 2 ^ 63 → (n < 2 ^ 63 → m ≡ suc n)
-    → progress_of m next ≡ progress_of (suc n) next
-same_progress n m stage.Begin next r h a few same = ap (λ (k : ℕ). progress_of k next) (same (omega (arith, h)))
-same_progress n m stage.OtherKind next r h a few same = by next a
-  where
-    by : (next : Stage) → progress_of (suc n) next ≡ other_kind → progress_of m next ≡ progress_of (suc n) next
-    by stage.OtherKind e = refl
-    by stage.Begin e = refl
-    by (stage.Describing head section) e = cc
-    by (stage.Behind x) e = cc
-    by (stage.Failed k y) e = refl
-    by stage.OutOfMemory e = refl
-same_progress n m (stage.Failed number y) next r h a few same = by next a
-  where
-    by : (next : Stage) → progress_of (suc n) next ≡ failed (record { line = number; rule = y }) → progress_of m next ≡ progress_of (suc n) next
-    by stage.OtherKind e = refl
-    by stage.Begin e = refl
-    by (stage.Describing head section) e = cc
-    by (stage.Behind x) e = cc
-    by (stage.Failed k z) e = refl
-    by stage.OutOfMemory e = refl
-same_progress n m (stage.Describing head section) next r h a few same = ap (λ (k : ℕ). progress_of k next) (same few)
-same_progress n m (stage.Behind x) next r h a few same = ap (λ (k : ℕ). progress_of k next) (same few)
-same_progress n m stage.OutOfMemory next r h a few same = absurd a

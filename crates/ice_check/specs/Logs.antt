@@ -1,14 +1,16 @@
 -- What a record makes of a log.
-use Rattle.std.specs.Prelude.{◌≡◌, Bool, List, length, ℤ, Option, Some, None}
+use Rattle.std.specs.Prelude.{◌≡◌, ◌<◌, Bool, List, length, ℤ, Option, Some, None}
 use Rattle.std.specs.List.{AllByRecursion}
 use Rattle.ice_defs.specs.Tree.{Tree}
 use Rattle.ice_defs.specs.Set.{Weights}
 use Rattle.ice_defs.specs.Bound.{Multipliers}
-use Rattle.ice_defs.specs.Steps.{Step}
-use Rattle.ice_defs.specs.Group.{free_side, group_weights}
+use Rattle.ice_defs.specs.Steps.{Step, Side, with_mark}
+use Rattle.ice_defs.specs.Fixing.{mark_of}
+use Rattle.ice_defs.specs.declared.Mark.TheVariants.{Free, Never}
+use Rattle.ice_defs.specs.Group.{free_side}
 use Rattle.ice_defs.specs.declared.Group.{Group}
-use Rattle.ice_defs.specs.Trade.{Assignment}
-use Rattle.ice_defs.specs.Exchange.{Exchange, opening_bounds}
+use Rattle.ice_defs.specs.declared.Group.TheVariants.{Without}
+use Rattle.ice_defs.specs.Trade.{fixing_of}
 use Rattle.ice_bound.specs.Conditions.{AreWeightsOf}
 use Rattle.ice_bound.specs.Multipliers.{IsInRange}
 use Rattle.ice_refute.specs.Waiting.{nodes_of, first_side}
@@ -30,9 +32,15 @@ pub record IsWalkOf (ts : List Tree) (exact : List Bool) (log : LogWalk) : Type 
   pub flags : log.desk.room ≡ exact
   pub goods : length log.before ≡ length exact
 
--- the weights of a group at the opening bounds
-abbrev pub weights_in : Exchange → Assignment → Group → List Weights
-weights_in ex final group = group_weights ex.settings.weight (opening_bounds ex) final group
+-- where a log begins: at the side where all nodes are free, but for the root of a bidder that is left out
+abbrev pub started : Side → Group → Side
+started free (Without b) = with_mark free b 0 Never
+started free other = free
+
+-- the root of a bidder that a group leaves out is there, and free
+abbrev pub CanStart : Side → Group → Type 0
+CanStart free (Without b) = (b < length free) × (0 < length (fixing_of free b)) × (mark_of (fixing_of free b) 0 ≡ Free)
+CanStart free other = Unit {0}
 
 -- only the open sides and the multipliers differ
 pub record HasSameWalk (old new : LogWalk) : Type 0 where

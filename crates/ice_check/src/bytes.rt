@@ -1,7 +1,8 @@
 //! The check of the bytes of a journal.
-ghost use Rattle.ice_journal_laws.specs.Answers.{AnswersBytes, IsFed};
-ghost use Rattle.ice_journal_laws.specs.Progress.{nothing};
 ghost use Rattle.std.specs.Prelude.{◌≡◌};
+ghost use Rattle.ice_journal_laws.specs.Answers.{AnswersBytes};
+ghost use Rattle.ice_journal_laws.specs.Progress.{nothing};
+ghost use Rattle.ice_check.specs.Checking.{HasCome, IsFed};
 
 use crate::checker::Checker;
 use ice_journal::read_record;
@@ -11,7 +12,8 @@ use std::alloc::Global;
 
 /// Feeds the records of the bytes to a checker that has taken none.
 fn feed_all(checker: &mut Checker, bytes: &[u8]) -> Result<(), CheckEnd>
-    requires { checker.old ≡ nothing }
+    requires come { HasCome checker.old nothing }
+    requires first { checker.old.line ≡ 1 }
     ensures { IsFed bytes.now result checker.new }
 {
     let mut rest = bytes;
@@ -34,7 +36,7 @@ fn feed_all(checker: &mut Checker, bytes: &[u8]) -> Result<(), CheckEnd>
 
 /// Checks the bytes of a journal.
 ///
-/// `Grammar` or `Unended` is answered exactly where a line is no record or the last one has no newline, and names the least such line. Else `OtherKind` is answered exactly where there is no line, or the first is no head of an assign or a regret journal. Else the answer is `Assign` or `Regret` exactly where every test passes, with the value of the sets at lower bounds or with the regret of the final sets, or `No` with the first failed test. `NoMemory` is answered where memory runs out.
+/// `Grammar` or `Unended` is answered exactly where a line is no record or the last one has no newline, and names the least such line. Else `OtherKind` is answered exactly where there is no line, or the first is no head of an assign, a regret or a session journal. Else the answer is `Assign`, `Regret` or `Closed` exactly where every test passes, with the value of the sets at lower bounds, with the regret of the final sets, or with the regret and the surplus of the last settlement, or `No` with the first failed test. `NoMemory` is answered where memory runs out.
 pub fn check(alloc: Global, bytes: &[u8]) -> Result<Answer, CheckEnd>
     ensures { AnswersBytes bytes.now result }
 {

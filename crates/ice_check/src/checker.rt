@@ -1,9 +1,10 @@
 //! The checker, which takes one record at a time.
-ghost use Rattle.std.specs.Prelude.{◌≡◌, ◌<◌, ◌^◌, IsTrue, IfOk, OnOk, OnErr, IsOk};
+ghost use Rattle.std.specs.Prelude.{◌≡◌, ◌<◌, ◌^◌, suc, IsTrue, IfOk, OnOk, OnErr, IsOk, IsOkAnd};
 ghost use Rattle.ice_journal.specs.Lines.{record_of};
 ghost use Rattle.ice_journal.specs.Ranges.{IsRecord};
-ghost use Rattle.ice_journal_laws.specs.Progress.{nothing, out_of_memory, is_ready, next_line, IsAfter};
+ghost use Rattle.ice_journal_laws.specs.Progress.{Progress, nothing, out_of_memory, is_ready};
 ghost use Rattle.ice_journal_laws.specs.Answers.{EndsWith};
+ghost use Rattle.ice_check.specs.Checking.{HasCome, ComesTo};
 
 use crate::stage::Stage;
 use ice_journal::Line;
@@ -12,8 +13,8 @@ use std::alloc::{AllocError, Global};
 use std::marker::Model;
 use std::mem;
 
-/// A checker of one journal, seen as how far the tests have come. It takes the records one after another, and keeps neither
-/// them nor their bytes.
+/// A checker of one journal, seen as the number of the next line and what is known of how far the tests have come. It takes the
+/// records one after another, and keeps neither them nor their bytes.
 #[derive(Drop)]
 pub struct Checker {
     alloc: Global,
@@ -22,12 +23,12 @@ pub struct Checker {
 }
 
 impl Model for Checker {
-    ghost use Rattle.ice_journal_laws.specs.Progress.{Progress};
-    ghost use Rattle.ice_check.specs.Stages.{progress_of, IsAtLine};
+    ghost use Rattle.ice_check.specs.Checking.{Checking};
+    ghost use Rattle.ice_check.specs.Stages.{IsAtLine};
 
-    ghost Value = { Progress };
+    ghost Value = { Checking };
 
-    ghost view = { λ c. progress_of c.next_line c.stage };
+    ghost view = { λ c. record { line = c.next_line; stage = c.stage } };
 
     ghost invariant = { λ c. IsAtLine c.next_line c.stage };
 }
@@ -35,7 +36,8 @@ impl Model for Checker {
 impl Checker {
     /// A checker that has taken no record.
     pub fn new(alloc: Global) -> Result<Checker, AllocError>
-        ensures made { result ≡ Ok nothing }
+        ensures made { IsOkAnd result (λ c. HasCome c nothing) }
+        ensures first { IsOkAnd result (λ c. c.line ≡ 1) }
     {
         Ok(Checker {
             alloc,
@@ -49,21 +51,23 @@ impl Checker {
     /// Fewer than 2^63 records came before it. After `NoMemory` it takes no more records, and each later call answers `NoMemory`. Where `ready` is true, no memory is wanted.
     pub fn feed(&mut self, line: &Line) -> Result<(), AllocError>
         requires lawful { IsRecord (record_of line.now) }
-        requires few { next_line self.old < 2 ^ 63 }
-        ensures after { OnOk result (IsAfter self.old (record_of line.now) self.new) }
-        ensures stopped { OnErr result (self.new ≡ out_of_memory) }
-        ensures ready { IsTrue (is_ready self.old) → IsOk result }
+        requires few { self.old.line < 2 ^ 63 }
+        ensures after { OnOk result ((p : Progress) → HasCome self.old p
+            → ComesTo p (record_of line.now) self.new) }
+        ensures line { OnOk result (self.new.line ≡ suc self.old.line) }
+        ensures stopped { OnErr result (HasCome self.new out_of_memory) }
+        ensures ready { (p : Progress) → HasCome self.old p → IsTrue (is_ready p) → IsOk result }
     {
         let stage = mem::replace(&mut self.stage, Stage::OutOfMemory);
         let next = stage.after(self.alloc, self.next_line, line)?;
         mem::replace(&mut self.stage, next).discard();
-        self.next_line = self.next_line.saturating_add(1);
+        self.next_line += 1;
         Ok(())
     }
 
     /// Whether the exchange and one record after it are taken, or no record matters any more: then `feed` wants no memory.
     pub fn ready(&self) -> bool
-        ensures { result ≡ is_ready self.now }
+        ensures { (p : Progress) → HasCome self.now p → result ≡ is_ready p }
     {
         !matches!(
             self.stage,
@@ -73,7 +77,7 @@ impl Checker {
 
     /// What the tests find, where the records taken so far are the whole journal. It wants no memory.
     pub fn finish(self) -> Result<Answer, CheckEnd>
-        ensures { EndsWith self result }
+        ensures { (p : Progress) → HasCome self p → EndsWith p result }
     {
         let Checker {
             alloc: _,

@@ -1,9 +1,9 @@
 //! What each record makes of a journal up to the end of its exchange.
-ghost use Rattle.std.specs.Prelude.{◌≡◌, ◌&&◌, false, Some, IsTrue, IfOk};
+ghost use Rattle.std.specs.Prelude.{◌≡◌, ◌&&◌, false, IsTrue, IfOk};
 ghost use Rattle.ice_journal.specs.Lines.{record_of};
 ghost use Rattle.ice_journal.specs.Ranges.{IsRecord};
 ghost use Rattle.ice_section.specs.Section.{no_section, may_end, exchange_in};
-ghost use Rattle.ice_check.specs.Heads.{ends_section, first_value};
+ghost use Rattle.ice_check.specs.Openings.{ends_section, Opens};
 ghost use Rattle.ice_check.specs.Stating.{HasSettings};
 ghost use Rattle.ice_check.specs.Stages.{LeadsOn, section_halt};
 
@@ -11,9 +11,11 @@ use crate::groups::Groups;
 use crate::halt::Halt;
 use crate::head::Head;
 use crate::lines::head_in;
+use crate::opening::Opening;
 use crate::stage::Stage;
 use ice_journal::Line;
 use ice_journal_laws::Rule;
+use ice_offer::Fault;
 use ice_section::{Section, SectionFault};
 use ice_trade::Exchange;
 use std::alloc::{AllocError, Global};
@@ -40,12 +42,12 @@ fn section_halt(fault: SectionFault) -> Halt
     ensures { result ≡ section_halt fault }
 {
     match fault {
-        SectionFault::Order => Halt::Fails(Rule::Order),
+        SectionFault::Order => Halt::Fails(Fault::Here(Rule::Order)),
         SectionFault::Count | SectionFault::NoGood | SectionFault::Tree(_) => {
-            Halt::Fails(Rule::Exchange)
+            Halt::Fails(Fault::Here(Rule::Exchange))
         }
         SectionFault::Make(refusal) => match refusal.number() {
-            Some(_) => Halt::Fails(Rule::Exchange),
+            Some(_) => Halt::Fails(Fault::Here(Rule::Exchange)),
             None => Halt::NoMemory,
         },
         SectionFault::NoMemory => Halt::NoMemory,
@@ -73,21 +75,21 @@ fn exchange_in(section: Box<Section>) -> Result<Exchange, AllocError>
     Box::into_inner(section).finish()
 }
 
-/// The exchange is complete, and the record opens the first group with this value.
+/// The exchange is complete, and the record begins this.
 fn open(
     alloc: Global,
     head: Head,
     section: Box<Section>,
-    value: i64,
+    opening: Opening,
     line: &Line,
 ) -> Result<Stage, Halt>
     requires settings { HasSettings section.value }
     requires complete { IsTrue (may_end section.value) }
-    requires opens { first_value head (record_of line.now) ≡ Some value }
+    requires opens { Opens head (record_of line.now) opening }
     ensures { LeadsOn (Stage.Describing head section) (record_of line.now) result }
 {
     let exchange = exchange_in(section)?;
-    let groups = Groups::new(alloc, head, exchange, value)?;
+    let groups = Groups::new(alloc, head, exchange, opening)?;
     match Box::new(alloc, groups) {
         Ok(groups) => Ok(Stage::Behind(groups)),
         Err(_) => Err(Halt::NoMemory),
@@ -102,10 +104,10 @@ fn end(alloc: Global, head: Head, section: Box<Section>, line: &Line) -> Result<
     ensures { LeadsOn (Stage.Describing head section) (record_of line.now) result }
 {
     if head.stops_first(line) {
-        return Err(Halt::Fails(Rule::Closed));
+        return Err(Halt::Fails(Fault::Here(Rule::Closed)));
     }
-    match head.first_value(line) {
-        Some(value) => open(alloc, head, section, value, line),
+    match head.opening(line) {
+        Some(opening) => open(alloc, head, section, opening, line),
         None => describe_more(head, section, line),
     }
 }

@@ -1,22 +1,22 @@
 //! Why the tests of a journal don't go on.
-use ice_journal_laws::Rule;
+use ice_offer::Fault;
 use std::alloc::AllocError;
 
 /// Why the tests don't go on with a record: it fails this test first, or there is no memory for it.
 #[derive(Clone, Copy, PartialEq, Eq, Debug)]
 pub(crate) enum Halt {
-    Fails(Rule),
+    Fails(Fault),
     NoMemory,
 }
 
-impl From<Rule> for Halt {
+impl From<Fault> for Halt {
     ghost use Rattle.std.specs.Prelude.{◌≡◌};
     ghost use Rattle.ice_check.specs.declared.halt.Halt.TheVariants.{Fails};
 
-    ghost from_gives = { λ rule halt. halt ≡ Fails rule };
+    ghost from_gives = { λ fault halt. halt ≡ Fails fault };
 
-    fn from(rule: Rule) -> Halt {
-        Halt::Fails(rule)
+    fn from(fault: Fault) -> Halt {
+        Halt::Fails(fault)
     }
 }
 

@@ -1,9 +1,14 @@
 //! The heads of journals that are checked, and what comes first behind the exchange of each.
 ghost use Rattle.std.specs.Prelude.{◌≡◌};
 ghost use Rattle.ice_journal.specs.Lines.{record_of, version_of};
+ghost use Rattle.ice_journal.specs.declared.line.Version.{Version};
 ghost use Rattle.ice_journal_laws.specs.Fields.{is_end};
+ghost use Rattle.ice_check.specs.Openings.{IsOpening};
 
-use crate::lines::{ends_assign, ends_regret, final_in, is_assign, is_spent};
+use crate::lines::{
+    begins_first, ends_assign, ends_regret, ends_session, final_in, is_assign, is_spent,
+};
+use crate::opening::Opening;
 use ice_defs::Group;
 use ice_journal::{Line, Version};
 
@@ -12,38 +17,60 @@ use ice_journal::{Line, Version};
 pub(crate) enum Head {
     Assign,
     Regret(Version),
+    Session(Version),
+}
+
+/// The sets of an assignment begin where the record says so.
+fn assign_opening(line: &Line) -> Option<Opening>
+    ensures { IsOpening Head.Assign (record_of line.now) result }
+{
+    if !is_assign(line) {
+        return None;
+    }
+    Some(Opening::Sets {
+        group: Group::Assign,
+        value: 0,
+    })
+}
+
+/// The first settlement begins where the record says so.
+fn session_opening(line: &Line) -> Option<Opening>
+    ensures { (v : Version) → IsOpening (Head.Session v) (record_of line.now) result }
+{
+    if begins_first(line) {
+        Some(Opening::Settlement)
+    } else {
+        None
+    }
 }
 
 impl Head {
-    ghost use Rattle.ice_check.specs.Found.{IsFound};
-    ghost use Rattle.ice_check.specs.Heads.{version_of_head, first_group, first_value, stops_first, end_of};
+    ghost use Rattle.ice_check.specs.Heads.{version_of_head, end_of};
+    ghost use Rattle.ice_check.specs.Openings.{stops_first};
 
-    /// The group that comes first.
-    pub(crate) fn first_group(self) -> Group
-        ensures { result ≡ first_group self }
+    /// What the record begins behind the complete exchange, where it begins anything.
+    pub(crate) fn opening(self, line: &Line) -> Option<Opening>
+        ensures { IsOpening self (record_of line.now) result }
     {
         match self {
-            Head::Assign => Group::Assign,
-            Head::Regret(_) => Group::Final,
+            Head::Assign => assign_opening(line),
+            Head::Regret(_) => match final_in(line) {
+                Some(value) => Some(Opening::Sets {
+                    group: Group::Final,
+                    value,
+                }),
+                None => None,
+            },
+            Head::Session(_) => session_opening(line),
         }
     }
 
-    /// The value that the record states for the first group, where it opens that group; the sets of an assignment have none, which counts as 0.
-    pub(crate) fn first_value(self, line: &Line) -> Option<i64>
-        ensures { IsFound result (first_value self (record_of line.now)) }
-    {
-        match self {
-            Head::Assign => { if is_assign(line) { Some(0) } else { None } }
-            Head::Regret(_) => final_in(line),
-        }
-    }
-
-    /// Whether the record begins a stop in the place of the first group.
+    /// Whether the record begins a stop in the place of what comes first.
     pub(crate) fn stops_first(self, line: &Line) -> bool
         ensures { result ≡ stops_first self (record_of line.now) }
     {
         match self {
-            Head::Assign => false,
+            Head::Assign | Head::Session(_) => false,
             Head::Regret(_) => is_spent(line),
         }
     }
@@ -55,6 +82,7 @@ impl Head {
         match self {
             Head::Assign => ends_assign(line),
             Head::Regret(_) => ends_regret(line),
+            Head::Session(_) => ends_session(line),
         }
     }
 
@@ -65,6 +93,7 @@ impl Head {
         match self {
             Head::Assign => Version::One,
             Head::Regret(version) => version,
+            Head::Session(version) => version,
         }
     }
 }

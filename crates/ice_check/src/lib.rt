@@ -4,6 +4,7 @@
 mod broken;
 mod bytes;
 mod checker;
+mod closing;
 mod describing;
 mod groups;
 mod halt;
@@ -11,6 +12,7 @@ mod head;
 mod lines;
 mod log;
 mod next;
+mod opening;
 mod stage;
 mod stated;
 mod steps_in;

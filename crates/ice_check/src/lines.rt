@@ -4,6 +4,7 @@ ghost use Rattle.ice_journal.specs.Lines.{record_of};
 ghost use Rattle.ice_journal.specs.Records as records;
 ghost use Rattle.ice_journal_laws.specs.Fields.{is_assign, is_end, set_in, final_value, rival_value, provisional_value, without_value, head_value, is_spent, amount_in};
 ghost use Rattle.ice_check.specs.Found.{IsFound, IsHeadIn};
+ghost use Rattle.ice_check.specs.Heads.{begins_first};
 
 use crate::head::Head;
 use ice_defs::Group;
@@ -23,6 +24,10 @@ pub(crate) fn head_in(line: &Line) -> Option<Head>
             version,
             kind: Kind::Regret,
         } => Some(Head::Regret(*version)),
+        Line::Head {
+            version,
+            kind: Kind::Session,
+        } => Some(Head::Session(*version)),
         _ => None,
     }
 }
@@ -32,6 +37,13 @@ pub(crate) fn is_assign(line: &Line) -> bool
     ensures { result ≡ is_assign (record_of line.now) }
 {
     matches!(line, Line::Assign)
+}
+
+/// Whether the record begins the first settlement.
+pub(crate) fn begins_first(line: &Line) -> bool
+    ensures { result ≡ begins_first (record_of line.now) }
+{
+    matches!(line, Line::Settle { number: 0 })
 }
 
 /// The set that the record states.
@@ -131,4 +143,11 @@ pub(crate) fn ends_regret(line: &Line) -> bool
     ensures { result ≡ is_end records.regret_end (record_of line.now) }
 {
     matches!(line, Line::End(EndWord::Regret))
+}
+
+/// Whether the record ends a session that closed.
+pub(crate) fn ends_session(line: &Line) -> bool
+    ensures { result ≡ is_end records.closed_end (record_of line.now) }
+{
+    matches!(line, Line::End(EndWord::Closed))
 }

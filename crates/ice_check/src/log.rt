@@ -1,25 +1,28 @@
 //! The logs of a journal's groups, walked step by step.
 ghost use Rattle.std.specs.Prelude.{◌≡◌, ◌<◌, ◌≤◌, ◌↔◌, [], ◌∷◌, length, replicate, pos, IsTrue, Some, IfOk, OnOk, IfErr};
 ghost use Rattle.ice_defs.specs.Exchange.{trees_of, exact_of};
+ghost use Rattle.ice_defs.specs.Lawful.{IsExchange};
+ghost use Rattle.ice_defs.specs.Group.{group_weights};
+ghost use Rattle.ice_bound.specs.Conditions.{AreBoundsOf};
 ghost use Rattle.ice_tree.specs.Alike.{HasSetPerTree};
 ghost use Rattle.ice_refute.specs.Code.{step_of, CountsGoods};
 ghost use Rattle.ice_refute.specs.Waiting.{nodes_of};
 ghost use Rattle.ice_journal.specs.Lines.{record_of, version_of};
 ghost use Rattle.ice_journal.specs.Ranges.{IsRecord};
-ghost use Rattle.ice_defs.specs.Steps.{sides_after};
+ghost use Rattle.ice_defs.specs.Steps.{sides_after, with_mark};
 ghost use Rattle.ice_journal_laws.specs.Fields.{multipliers_after};
-ghost use Rattle.ice_check.specs.Logs.{IsWalkOf, weights_in, IsStepOf, HasSameWalk, PassesThere, FailsThere, GoesOn, BreaksOff};
+ghost use Rattle.ice_check.specs.Logs.{IsWalkOf, started, CanStart, IsStepOf, HasSameWalk, PassesThere, FailsThere, GoesOn, BreaksOff};
 ghost use Rattle.ice_journal_laws.specs.Stepping.{rule_of_fault};
 
 use crate::steps_in::{misstates, step_in};
 use ice_best::Fixings;
 use ice_bound::{Desk, Multipliers};
-use ice_defs::Group;
+use ice_defs::{Group, Mark};
 use ice_journal::{Line, Version};
 use ice_journal_laws::Rule;
 use ice_refute::{LogFault, Step, Walk};
 use ice_trade::Exchange;
-use ice_tree::{AllWeights, Assignment, Tree};
+use ice_tree::{AllWeights, Assignment, Bounds, Tree};
 use std::alloc::{AllocError, Global};
 
 /// What a log is walked with: the weights of its group, the side that it begins with, where the walk has come, and the
@@ -65,14 +68,22 @@ impl LogWalk {
         })
     }
 
-    /// Changes the weights to those of a group, where the final sets are these if they matter.
-    pub(crate) fn weigh(&mut self, exchange: &Exchange, group: Group, final_sets: &Assignment)
+    /// Changes the weights to those of a group at these bounds, where the final sets are these if they matter.
+    pub(crate) fn weigh(
+        &mut self,
+        exchange: &Exchange,
+        bounds: &[Bounds],
+        group: Group,
+        final_sets: &Assignment,
+    )
+        requires lawful { IsExchange exchange.now }
         requires walk { IsWalkOf (trees_of exchange.now) (exact_of exchange.now) self.old }
+        requires bounds { AreBoundsOf (trees_of exchange.now) bounds.now }
         requires room { HasSetPerTree (trees_of exchange.now) final_sets.now }
         ensures walk { IsWalkOf (trees_of exchange.now) (exact_of exchange.now) self.new }
-        ensures weights { self.new.weights ≡ weights_in exchange.now final_sets.now group }
+        ensures weights { self.new.weights
+            ≡ group_weights exchange.now.settings.weight bounds.now final_sets.now group }
     {
-        let bounds = exchange.bounds();
         match group {
             Group::Rival => self.weights.fill_perturbed(bounds, final_sets),
             Group::Provisional => self
@@ -84,16 +95,34 @@ impl LogWalk {
         }
     }
 
-    /// Begins a log.
-    pub(crate) fn begin(&mut self)
+    /// Begins the log of a group.
+    pub(crate) fn begin(&mut self, group: Group)
         requires few { length self.old.start ≤ 40 }
         requires nodes { nodes_of self.old.start ≡ self.old.walk.nodes }
-        ensures sides { self.new.walk.sides ≡ self.old.start ∷ [] }
+        requires starts { CanStart self.old.start group }
+        ensures sides { self.new.walk.sides ≡ started self.old.start group ∷ [] }
         ensures before { self.new.before ≡ replicate (length self.old.before) (pos 0) }
         ensures same { HasSameWalk self.old self.new }
     {
-        self.walk.begin(&self.start);
+        match group {
+            Group::Without { bidder } => self.begin_without(bidder),
+            _ => self.walk.begin(&self.start),
+        }
         self.before = Multipliers::zero(self.before.len());
+    }
+
+    /// Leaves the side without this bidder as the one open side.
+    fn begin_without(&mut self, bidder: u8)
+        requires few { length self.old.start ≤ 40 }
+        requires nodes { nodes_of self.old.start ≡ self.old.walk.nodes }
+        requires starts { CanStart self.old.start (Group.Without bidder) }
+        ensures sides { self.new.walk.sides ≡ with_mark self.old.start bidder 0 Mark.Never ∷ [] }
+        ensures before { self.new.before ≡ self.old.before }
+        ensures same { HasSameWalk self.old self.new }
+    {
+        self.start.mark(bidder, 0, Mark::Never);
+        self.walk.begin(&self.start);
+        self.start.mark(bidder, 0, Mark::Free);
     }
 
     /// Whether the log has closed all its sides.

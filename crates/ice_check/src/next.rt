@@ -11,6 +11,12 @@ pub(crate) enum Next {
     Step(Group),
     /// The amount of the regret.
     Amount,
+    /// A record of the offer: its prices, their certificates, and the round.
+    Offer,
+    /// The cut and the surplus.
+    Threshold,
+    /// The payment of this bidder.
+    Payment(u8),
     /// The end.
     End,
     /// No more record.

@@ -1,10 +1,11 @@
 //! How far the records of a journal have come.
-ghost use Rattle.std.specs.Prelude.{◌≡◌, ◌≢◌, ℕ, suc, Err, IsTrue, IfOk, IsOk, IsErr};
+ghost use Rattle.std.specs.Prelude.{◌≡◌, ◌≢◌, suc, Err, IsTrue, IfOk, IsOk};
 ghost use Rattle.ice_journal.specs.Lines.{record_of};
 ghost use Rattle.ice_journal.specs.Ranges.{IsRecord};
-ghost use Rattle.ice_journal_laws.specs.Progress.{out_of_memory, is_ready, IsAfter};
+ghost use Rattle.ice_journal_laws.specs.Progress.{Progress};
 ghost use Rattle.ice_journal_laws.specs.Answers.{EndsWith};
-ghost use Rattle.ice_check.specs.Stages.{progress_of, IsAtLine, IsKept, LeadsOn};
+ghost use Rattle.ice_check.specs.Stages.{IsProgress, is_ready_stage, IsAtLine, IsKept, LeadsOn, TakesFurther, failed_stage};
+ghost use Rattle.ice_check.specs.Taking.{failure_at};
 
 use crate::describing::{begin, describe};
 use crate::groups::Groups;
@@ -12,6 +13,7 @@ use crate::halt::Halt;
 use crate::head::Head;
 use ice_journal::Line;
 use ice_journal_laws::{Answer, CheckEnd, Rule};
+use ice_offer::Fault;
 use ice_section::Section;
 use std::alloc::{AllocError, Global};
 
@@ -43,14 +45,26 @@ fn take(mut groups: Box<Groups>, line: &Line) -> Result<Stage, Halt>
     Ok(Stage::Behind(groups))
 }
 
+/// The stage of a fault that is found at the line with this number.
+fn failed(number: u64, fault: Fault) -> Stage
+    ensures { result ≡ failed_stage (failure_at number fault) }
+{
+    match fault {
+        Fault::Here(rule) => Stage::Failed { line: number, rule },
+        Fault::List(rule) => Stage::Failed {
+            line: number.saturating_sub(1),
+            rule,
+        },
+    }
+}
+
 impl Stage {
     /// The stage after a record.
     fn step(self, alloc: Global, line: &Line) -> Result<Stage, Halt>
         requires kept { IsKept self }
         requires lawful { IsRecord (record_of line.now) }
         ensures leads { LeadsOn self (record_of line.now) result }
-        ensures ready { (n : ℕ) → IsTrue (is_ready (progress_of n self))
-            → result ≢ Err Halt.NoMemory }
+        ensures ready { IsTrue (is_ready_stage self) → result ≢ Err Halt.NoMemory }
     {
         match self {
             Stage::Begin => begin(alloc, line),
@@ -66,15 +80,14 @@ impl Stage {
     pub(crate) fn after(self, alloc: Global, number: u64, line: &Line) -> Result<Stage, AllocError>
         requires within { IsAtLine number self }
         requires lawful { IsRecord (record_of line.now) }
-        ensures after { IfOk result (λ next. IsAfter (progress_of number self)
-            (record_of line.now) (progress_of (suc number) next)) }
+        ensures after { IfOk result (λ next. (p : Progress) → IsProgress number self p
+            → TakesFurther number next p (record_of line.now)) }
         ensures within { IfOk result (λ next. IsAtLine (suc number) next) }
-        ensures ready { IsTrue (is_ready (progress_of number self)) → IsOk result }
-        ensures stopped { progress_of number self ≡ out_of_memory → IsErr result }
+        ensures ready { IsTrue (is_ready_stage self) → IsOk result }
     {
         match self.step(alloc, line) {
             Ok(next) => Ok(next),
-            Err(Halt::Fails(rule)) => Ok(Stage::Failed { line: number, rule }),
+            Err(Halt::Fails(fault)) => Ok(failed(number, fault)),
             Err(Halt::NoMemory) => Err(AllocError),
         }
     }
@@ -82,7 +95,7 @@ impl Stage {
     /// What the tests find, where the records so far are the whole journal and the line with this number would be the next.
     pub(crate) fn answer(&self, number: u64) -> Result<Answer, CheckEnd>
         requires { IsKept self.now }
-        ensures { EndsWith (progress_of number self.now) result }
+        ensures { (p : Progress) → IsProgress number self.now p → EndsWith p result }
     {
         let short = Answer::No {
             line: number,

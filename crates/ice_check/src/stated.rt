@@ -1,11 +1,12 @@
 //! The sets that a journal states.
-ghost use Rattle.std.specs.Prelude.{◌≡◌, ◌<◌, ◌≤◌, [], length, IfOk, IsTrue, ◌↔◌};
+ghost use Rattle.std.specs.Prelude.{◌≡◌, ◌<◌, ◌≤◌, ℕ, [], length, IfOk, IsTrue, ◌↔◌};
 ghost use Rattle.ice_defs.specs.Exchange.{trees_of};
 ghost use Rattle.ice_defs.specs.Lawful.{IsExchange};
 ghost use Rattle.ice_bound.specs.Conditions.{AreWeightsOf};
 ghost use Rattle.ice_check.specs.Stating.{next_tree, with_next, SatisfiesNext, IsBalance};
 ghost use Rattle.ice_tree.specs.Alike.{HasSetPerTree};
-ghost use Rattle.ice_defs.specs.Trade.{total_value};
+ghost use Rattle.ice_defs.specs.Set.{IsSatisfied};
+ghost use Rattle.ice_defs.specs.Trade.{total_value, tree_of, set_of};
 
 use ice_trade::Exchange;
 use ice_tree::{AllWeights, Assignment, NodeSet, Tree};
@@ -101,6 +102,30 @@ impl Stated {
         ensures { result ≡ total_value self.now.sets weights.now }
     {
         self.sets.value(self.exchange.trees(), weights)
+    }
+
+    /// How many bidders have their set.
+    pub(crate) fn taken(&self) -> u8
+        ensures { result ≡ length self.now.sets }
+    {
+        self.taken
+    }
+
+    /// The sets, where each bidder has one.
+    pub(crate) fn sets(&self) -> &Assignment
+        requires { length self.now.sets ≡ length (trees_of self.now.exchange) }
+        ensures value { result.now ≡ self.now.sets }
+        ensures satisfied { (b : ℕ) → b < length self.now.sets
+            → IsSatisfied (tree_of (trees_of self.now.exchange) b) (set_of self.now.sets b) }
+    {
+        &self.sets
+    }
+
+    /// Drops the sets.
+    pub(crate) fn clear(&mut self)
+        ensures { self.new ≡ record { exchange = self.old.exchange; sets = [] } }
+    {
+        self.taken = 0;
     }
 
     /// Hands over the sets, of which each bidder has one, for room for new ones.

@@ -1,10 +1,10 @@
-use Rattle.std.proofs.Common.{◌∷◌, length, sym, ap, subst, arith, length-append}
+use Rattle.std.proofs.Common.{◌∷◌, length, ap, subst, arith, length-append}
 use Rattle.ice_journal.specs.Lines.{record_of}
-use Rattle.ice_check.proofs.Reading.{HasRead, nothing_read, few_read, few_before, one_read}
+use Rattle.ice_check.proofs.Reading.{HasRead, nothing_read, few_read, one_read, all_read}
 use Rattle.ice_check.proofs.bytes.feed_all.Goals as goal
 
 pub loop-rest-init : goal.loop-rest-init
-loop-rest-init c = subst (HasRead c.args.bytes.now c.args.bytes.now 0) (sym c.requires) (nothing_read c.args.bytes.now)
+loop-rest-init c = nothing_read c.args.bytes.now c.args.checker.now c.requires.come c.requires.first
 
 pub overflow_add-result : goal.overflow_add-result
 overflow_add-result c =
@@ -23,10 +23,10 @@ overflow_add-read c =
 
 pub feed-requires-clause-few : goal.feed-requires-clause-few
 feed-requires-clause-few c =
-    let few = few_before c.args.bytes.now c.loop-rest.rest.now c.loop-rest.read c.loop-rest.checker c.loop-rest.invariant in
-    omega (arith, few, ap length c.in-Some.ensures.0, length-append c.in-Some.text.now (10 ∷ c.in-Some.after.now))
+    let few = few_read c.args.bytes.now c.loop-rest.rest.now c.loop-rest.read c.loop-rest.checker c.loop-rest.invariant in
+    omega (arith, few, c.loop-rest.invariant.line, ap length c.in-Some.ensures.0, length-append c.in-Some.text.now (10 ∷ c.in-Some.after.now))
 
 pub loop-rest-preserved : goal.loop-rest-preserved
 loop-rest-preserved c =
     one_read c.args.bytes.now c.loop-rest.rest.now c.in-Some.text.now c.in-Some.after.now c.loop-rest.read c.loop-rest.checker c.feed.new.self (record_of c.in-Some-read_record.line)
-    c.loop-rest.invariant c.in-Some.ensures.0 c.in-Some-read_record.ensures.0 c.in-Some-read_record.ensures.1 c.in-Ok.ensures.after
+    c.loop-rest.invariant c.in-Some.ensures.0 c.in-Some-read_record.ensures.0 c.in-Some-read_record.ensures.1 c.in-Ok.ensures.after c.in-Ok.ensures.line

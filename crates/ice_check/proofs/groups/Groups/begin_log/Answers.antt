@@ -1,4 +1,4 @@
-use Rattle.std.proofs.Common.{rules, ◌≡◌, List, length, replicate, refl, sym, ◌∙◌, ap, arith}
+use Rattle.std.proofs.Common.{rules, ◌≡◌, List, [], ◌∷◌, length, replicate, refl, sym, ◌∙◌, ap, subst, arith}
 use Rattle.std.proofs.lemmas.Bool.{true≢false}
 use Rattle.std.proofs.lemmas.List.{length-map}
 use Rattle.std.proofs.lemmas.Int.{to_z-of_z}
@@ -7,12 +7,14 @@ use mir.Val.{SFits, to_z, of_z}
 use Rattle.ice_defs.specs.declared.Mark.TheVariants.{Free}
 use Rattle.ice_defs.specs.Tree.{Tree}
 use Rattle.ice_defs.specs.Set.{Weights}
+use Rattle.ice_defs.specs.Steps.{Side}
 use Rattle.ice_defs.specs.Trade.{total_value}
 use Rattle.ice_defs.specs.Exchange.{trees_of}
 use Rattle.ice_refute.specs.Waiting.{nodes_of}
 use Rattle.ice_refute.proofs.NodeCounts.{nodes_of-free}
+use Rattle.ice_check.specs.Logs.{started, CanStart}
 use Rattle.ice_check.specs.Groups.{weights_for}
-use Rattle.ice_check.proofs.Walks.{few_trees}
+use Rattle.ice_check.proofs.Walks.{few_trees, can_start, started_is}
 use Rattle.ice_check.proofs.groups.Groups.begin_log.Goals as goal
 
 pub returns-then-not-is_same : goal.returns-then-not-is_same
@@ -30,3 +32,8 @@ begin-requires-clause-few c =
 
 pub begin-requires-clause-nodes : goal.begin-requires-clause-nodes
 begin-requires-clause-nodes c = ap nodes_of c.requires.kept.walk.start ∙ nodes_of-free (trees_of c.args.self.now.stated.exchange) ∙ sym c.requires.kept.walk.nodes
+
+pub begin-requires-clause-starts : goal.begin-requires-clause-starts
+begin-requires-clause-starts c =
+    let g = c.args.self.now in
+    subst (λ (free : Side). CanStart free c.args.group) (sym c.requires.kept.walk.start) (can_start g.stated.exchange c.args.group c.requires.kept.lawful c.requires.group.there)

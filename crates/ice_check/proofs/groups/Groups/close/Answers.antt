@@ -1,7 +1,7 @@
 use Rattle.std.proofs.Common.{sym, subst}
 use Rattle.std.specs.Prelude.{Ok}
 use Rattle.ice_defs.specs.declared.Group.{Group}
-use Rattle.ice_check.specs.Groups.{are_short, Closes}
+use Rattle.ice_check.specs.Taking.{are_short, Closes}
 use Rattle.ice_check.proofs.Grouped.{log_follows}
 use Rattle.ice_check.proofs.groups.Groups.close.Goals as goal
 

@@ -1,9 +1,10 @@
-use Rattle.std.proofs.Common.{rules, ◌≡◌, sym, ap, subst}
+use Rattle.std.proofs.Common.{rules, ◌≡◌, ◌≤◌, sym, ap, subst}
 use Rattle.std.proofs.lemmas.Int.{to_z-of_z}
 use mir.Syntax.{w64}
 use mir.Val.{SFits, to_z, of_z}
 use Rattle.ice_defs.specs.Exchange.{Exchange, trees_of, exact_of}
 use Rattle.ice_defs.specs.Lawful.{IsExchange}
+use Rattle.ice_offer.specs.Offers as offers
 use Rattle.ice_check.specs.Logs.{IsWalkOf}
 use Rattle.ice_check.specs.Stating.{Stating}
 use Rattle.ice_tree.specs.Alike.{HasSetPerTree}
@@ -23,5 +24,7 @@ returns c =
         lawful = subst (λ (ex : Exchange). IsExchange ex) (sym same) c.requires.kept.lawful;
         walk = subst (λ (ex : Exchange). IsWalkOf (trees_of ex) (exact_of ex) g.log) (sym same) c.requires.kept.walk;
         room = subst (λ (ex : Exchange). HasSetPerTree (trees_of ex) sets) (sym same) c.hand_over.ensures.room;
+        offer = subst (λ (ex : Exchange). offers.IsKept ex g.offer) (sym same) c.requires.kept.offer;
+        number = subst (λ (ex : Exchange). g.number ≤ ex.settings.rounds) (sym same) c.requires.kept.number;
       };
     }

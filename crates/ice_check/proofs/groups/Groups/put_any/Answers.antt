@@ -9,4 +9,4 @@ pub returns-in-Some : goal.returns-in-Some
 returns-in-Some c =
     let x = c.args.set.now in
     let y = c.in-Some.rule in
-    broken_set c.args.group c.args.self.now c.requires.ready.0 x y c.requires.ready.1 (subst (λ (t : Tree). IsBroken t x (Some y)) c.tree.ensures c.in-Some.ensures)
+    broken_set c.args.group c.args.self.now x y c.requires.ready.1 (subst (λ (t : Tree). IsBroken t x (Some y)) c.tree.ensures c.in-Some.ensures)

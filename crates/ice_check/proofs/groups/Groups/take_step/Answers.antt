@@ -4,7 +4,7 @@ use Rattle.std.proofs.lemmas.Result.{err_from_is_err_and}
 use mir.Syntax.{w64, w128}
 use mir.Val.{SFits, to_z, of_z}
 use Rattle.ice_journal.specs.Lines.{record_of}
-use Rattle.ice_check.proofs.Grouped.{step_fails, step_taken}
+use Rattle.ice_check.proofs.Logged.{step_fails, step_taken}
 use Rattle.ice_check.proofs.groups.Groups.take_step.Goals as goal
 
 pub returns : goal.returns
@@ -14,8 +14,8 @@ returns c =
     let target_fits : SFits w128 c.from-target.result = search rules in
     let target : ℤ = to_z w128 (of_z w128 c.from-target.result) in
     let target_is : target ≡ g.value = to_z-of_z w128 c.from-target.result target_fits ∙ c.from-target.ensures ∙ to_z-of_z w64 g.value value_fits in
-    step_taken c.args.group g (record g { log = c.take.new.self }) c.leave.new.self c.trees.result.now g.log.weights target _ (record_of c.args.line.now)
-    c.requires.ready.0 (record { trees = c.trees.ensures.value; weights = c.requires.ready.2; target_is = target_is; version_is = c.version.ensures }) c.requires.kept c.requires.ready.3 refl c.in_ok-take.ensures.passes c.leave.ensures
+    step_taken c.args.group g c.take.new.self c.leave.new.self c.trees.result.now g.log.weights target _ (record_of c.args.line.now)
+    c.requires.ready.0.log (record { trees = c.trees.ensures.value; weights = c.requires.ready.0.weights; target_is = target_is; version_is = c.version.ensures }) c.requires.kept c.requires.ready.1 c.in_ok-take.ensures.passes c.leave.ensures
 
 pub returns-in_err-take : goal.returns-in_err-take
 returns-in_err-take c =
@@ -27,4 +27,4 @@ returns-in_err-take c =
     let p = err_from_is_err_and c.from_residual.result c.from_residual.ensures.1 in
     rw (p.1, p.2)
     (step_fails c.args.group g c.trees.result.now g.log.weights target _ (record_of c.args.line.now) _
-    (record { trees = c.trees.ensures.value; weights = c.requires.ready.2; target_is = target_is; version_is = c.version.ensures }) c.requires.kept c.requires.ready.3 c.in_err-take.ensures.fails)
+    (record { trees = c.trees.ensures.value; weights = c.requires.ready.0.weights; target_is = target_is; version_is = c.version.ensures }) c.requires.kept c.requires.ready.1 c.in_err-take.ensures.fails)

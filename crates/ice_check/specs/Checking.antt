@@ -1,0 +1,28 @@
+-- What a checker is seen as.
+use Rattle.std.specs.Prelude.{ℕ, List, Result, Ok, Err}
+use Rattle.ice_journal.specs.Records.{Record}
+use Rattle.ice_journal_laws.specs.Progress.{Progress, IsAfter}
+use Rattle.ice_journal_laws.specs.declared.answer.CheckEnd.{CheckEnd}
+use Rattle.ice_journal_laws.specs.Answers.{AnswersBytes, HoldsJournal}
+use Rattle.ice_check.specs.declared.stage.Stage.{Stage}
+use Rattle.ice_check.specs.Stages.{IsProgress}
+
+-- the number of the next line, and what is known of the tests
+pub record Checking : Type 0 where
+  pub line : ℕ
+  pub stage : Stage
+
+-- the tests may have come so far
+abbrev pub HasCome : Checking → Progress → Type 0
+HasCome c p = IsProgress c.line c.stage p
+
+-- a record takes them on to where the checker then is
+pub record ComesTo (p : Progress) (r : Record) (c : Checking) : Type 0 where
+  pub after : Progress
+  pub leads : IsAfter p r after
+  pub come : HasCome c after
+
+-- bytes are fed: their records lead to where the checker may be, or they have this answer
+abbrev pub IsFed : List ℕ → Result (Unit {0}) CheckEnd → Checking → Type 0
+IsFed bytes (Ok unit) c = (p : Progress) × HoldsJournal bytes p × HasCome c p
+IsFed bytes (Err end) c = AnswersBytes bytes (Err end)
