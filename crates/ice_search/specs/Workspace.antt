@@ -12,15 +12,15 @@ pub record Looking : Type 0 where
   pub instance : Instance
   pub side : Side
 
--- kept bounds are of the instance, and so are the marks of the desk, the goods that it knows, and the trees that are tallied
-pub record IsWorkspace (x : Instance) (kept : Standing) (marks : List Fixing) (goods : List Bool) (tallied : ℕ) : Type 0 where
+-- kept bounds are of the instance, and so are the marks of the desk, the goods that it knows, and the trees of the relaxation
+pub record IsWorkspace (x : Instance) (kept : Standing) (marks : List Fixing) (goods : List Bool) (relaxed : ℕ) : Type 0 where
   pub instance : IsInstance x
   pub trees : kept.trees ≡ x.trees
   pub weights : kept.weights ≡ x.weights
   pub exact : kept.exact ≡ x.exact
   pub desk : AreFixingsOf x.trees marks
   pub room : goods ≡ x.exact
-  pub tally : tallied ≡ length x.trees
+  pub relaxation : relaxed ≡ length x.trees
 
 -- the incumbent is as it was, or a better one that meets the side
 abbrev pub IsOfferedAt : Instance → Side → Incumbent → Incumbent → Type 0

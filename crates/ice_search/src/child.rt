@@ -44,13 +44,8 @@ impl<'a> Workspace<'a> {
         ensures sets { length incumbent.new.sets ≡ length self.old.instance.trees }
         ensures offered { IsOfferedAt self.old.instance self.old.side incumbent.old incumbent.new }
     {
-        let evaluated = polish(&mut self.kept, incumbent, &mut self.tally, steps);
-        let candidates = pick(
-            self.problem.trees(),
-            self.problem.weights(),
-            self.kept.marks(),
-            &self.tally,
-        );
+        let evaluated = polish(&mut self.kept, incumbent, &mut self.relaxation, steps);
+        let candidates = pick(self.problem.trees(), self.kept.marks(), &self.relaxation);
         Polished {
             bounded: bounded(evaluated),
             candidates,
@@ -102,9 +97,21 @@ impl<'a> Workspace<'a> {
             candidate.bidder candidate.node mark) incumbent.old incumbent.new }
     {
         self.kept.mark(candidate.bidder, candidate.node, mark);
+        self.relaxation.look_at_tree(
+            self.problem.trees(),
+            self.problem.weights(),
+            self.kept.marks(),
+            candidate.bidder,
+        );
         self.kept.put_multipliers(from);
         let polished = self.polish(incumbent, steps);
         self.kept.mark(candidate.bidder, candidate.node, Mark::Free);
+        self.relaxation.look_at_tree(
+            self.problem.trees(),
+            self.problem.weights(),
+            self.kept.marks(),
+            candidate.bidder,
+        );
         polished
     }
 }

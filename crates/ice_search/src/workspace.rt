@@ -8,7 +8,7 @@ use crate::problem::Problem;
 use crate::sides::put_side;
 use ice_assembly::Part;
 use ice_bound::{Desk, Kept, Multipliers};
-use ice_subgradient::Tally;
+use ice_subgradient::Relaxation;
 use std::alloc::{AllocError, Global};
 use std::marker::Model;
 
@@ -18,7 +18,7 @@ pub(crate) struct Workspace<'a> {
     pub(crate) problem: Problem<'a>,
     pub(crate) kept: Kept<'a>,
     pub(crate) desk: Desk,
-    pub(crate) tally: Tally,
+    pub(crate) relaxation: Relaxation,
 }
 
 impl<'a> Model for Workspace<'a> {
@@ -28,7 +28,7 @@ impl<'a> Model for Workspace<'a> {
 
     ghost view = { λ w. record { instance = w.problem; side = w.kept.marks } };
 
-    ghost invariant = { λ w. IsWorkspace w.problem w.kept w.desk.marks w.desk.room w.tally };
+    ghost invariant = { λ w. IsWorkspace w.problem w.kept w.desk.marks w.desk.room w.relaxation };
 }
 
 impl<'a> Workspace<'a> {
@@ -43,12 +43,13 @@ impl<'a> Workspace<'a> {
         let zeros = Multipliers::zero(problem.goods());
         kept.put_side(problem.start, &zeros);
         let desk = Desk::new(alloc, trees, exact)?;
-        let tally = Tally::new(alloc, trees)?;
+        let mut relaxation = Relaxation::new(alloc, trees)?;
+        relaxation.look_at(trees, problem.weights(), problem.start);
         Ok(Workspace {
             problem,
             kept,
             desk,
-            tally,
+            relaxation,
         })
     }
 
@@ -62,5 +63,10 @@ impl<'a> Workspace<'a> {
         put_side(&self.problem, parts, number, &mut self.desk.marks);
         self.kept
             .put_side(&self.desk.marks, &parts[number as usize].m);
+        self.relaxation.look_at(
+            self.problem.trees(),
+            self.problem.weights(),
+            self.kept.marks(),
+        );
     }
 }

@@ -1,2 +1,2 @@
 pub mod Offering
-pub mod Polishing
+pub mod Stepping

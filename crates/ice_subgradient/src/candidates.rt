@@ -1,14 +1,14 @@
 //! Nodes to split a side at.
 ghost use Rattle.std.specs.Prelude.{◌≡◌, ◌<◌, ◌≤◌, length, IsTrue};
 ghost use Rattle.std.specs.List.{All};
-ghost use Rattle.ice_bound.specs.Conditions.{AreWeightsOf, AreFixingsOf};
+ghost use Rattle.ice_bound.specs.Conditions.{AreFixingsOf};
 ghost use Rattle.ice_subgradient.specs.Candidates.{IsFreeAt};
 
-use crate::openness::Openness;
-use crate::tally::Tally;
+use crate::operations::Rule;
+use crate::relaxation::Relaxation;
 use arrayvec::ArrayVec;
 use ice_best::{Fixings, Mark};
-use ice_tree::{AllWeights, Tree};
+use ice_tree::Tree;
 
 /// A node of a bidder's tree.
 #[derive(Clone, Copy, Debug, Default, PartialEq, Eq)]
@@ -50,8 +50,8 @@ impl Ranking {
 
 /// How much a branch at a node promises: the nearer it was to being taken half of the time and the more it is worth, the
 /// more is lost on either side. Among nodes that were always or never taken the worth alone decides.
-fn score(halfness: u32, worth: i128) -> i128 {
-    let size = worth.saturating_abs().saturating_mul(64);
+fn score(halfness: u32, worth: i64) -> i128 {
+    let size = i128::from(worth).saturating_abs();
     size.saturating_add(64)
         .saturating_mul(i128::from(halfness))
         .saturating_add(size / 1024)
@@ -71,15 +71,14 @@ fn is_free(trees: &[Tree], marks: &Fixings, candidate: Candidate) -> bool
 
 /// Free nodes that look worth a branch, the best first: those that the choices above them leave open, that were taken
 /// about half of the time and that are worth much. There may be none. That a mark on them leaves its bidder alive is
-/// likely, and isn't promised. Takes no memory. Time: four passes over the nodes of each tree.
-pub fn pick(trees: &[Tree], weights: &AllWeights, marks: &Fixings, tally: &Tally) -> Candidates
+/// likely, and isn't promised. Takes no memory. Time: a pass over the open nodes of each tree.
+pub fn pick(trees: &[Tree], marks: &Fixings, relaxation: &Relaxation) -> Candidates
     requires few { length trees.now ≤ 40 }
-    requires weights { AreWeightsOf trees.now weights.now }
     requires marks { AreFixingsOf trees.now marks.now }
-    requires tally { tally.now ≡ length trees.now }
+    requires relaxation { relaxation.now ≡ length trees.now }
     ensures { All (IsFreeAt trees.now marks.now) result.items }
 {
-    let ranking = rank(trees, weights, marks, tally);
+    let ranking = rank(relaxation);
     let mut candidates = ArrayVec::new();
     for scored in ranking.best.as_slice() {
         if is_free(trees, marks, scored.candidate) {
@@ -90,25 +89,46 @@ pub fn pick(trees: &[Tree], weights: &AllWeights, marks: &Fixings, tally: &Tally
 }
 
 /// The optional nodes of the best scores.
-fn rank(trees: &[Tree], weights: &AllWeights, marks: &Fixings, tally: &Tally) -> Ranking
-    requires few { length trees.now ≤ 40 }
-    requires weights { AreWeightsOf trees.now weights.now }
-    requires marks { AreFixingsOf trees.now marks.now }
-    requires tally { tally.now ≡ length trees.now }
+fn rank(relaxation: &Relaxation) -> Ranking
+    requires { relaxation.now ≤ 40 }
 {
-    let mut openness = Openness::new();
     let mut ranking = Ranking {
         best: ArrayVec::new(),
     };
-    for bidder in 0..trees.len() as u8 {
-        let tree = &trees[usize::from(bidder)];
-        openness.fill(tree, weights.of(bidder), marks.of(bidder));
-        for node in 0..tree.nodes() {
-            if openness.is_optional(tree, node) {
-                let score = score(tally.halfness(bidder, node), openness.worth(node));
-                ranking.put(Candidate { bidder, node }, score);
-            }
-        }
+    for bidder in 0..relaxation.trees.len() as u8 {
+        rank_tree(relaxation, bidder, &mut ranking);
     }
     ranking
+}
+
+/// Ranks the optional nodes of a tree.
+fn rank_tree(relaxation: &Relaxation, bidder: u8, ranking: &mut Ranking)
+    requires { bidder < relaxation.now }
+{
+    let tree = &relaxation.trees[usize::from(bidder)];
+    for number in 0..tree.len() {
+        let operation = tree.of(number);
+        if operation.rule == Rule::Row {
+            continue;
+        }
+        for place in operation.offered..operation.end {
+            rank_node(relaxation, bidder, tree.operand(place), ranking);
+        }
+    }
+    if tree.is_optional() {
+        rank_node(relaxation, bidder, tree.len().saturating_sub(1), ranking);
+    }
+}
+
+/// Ranks the node of an operation.
+fn rank_node(relaxation: &Relaxation, bidder: u8, number: u8, ranking: &mut Ranking)
+    requires { bidder < relaxation.now }
+{
+    let operation = relaxation.trees[usize::from(bidder)].of(number);
+    let candidate = Candidate {
+        bidder,
+        node: u16::from(operation.node),
+    };
+    let halfness = relaxation.halfness(bidder, number);
+    ranking.put(candidate, score(halfness, operation.weight));
 }

@@ -4,16 +4,19 @@
 
 mod candidates;
 mod course;
+mod descent;
 mod incumbent;
 mod laws;
 mod level;
 mod openness;
-mod tally;
+mod operations;
+mod polishing;
+mod relaxation;
 #[cfg(test)]
 mod tests;
 
 pub use candidates::{Candidate, Candidates, pick};
 pub use incumbent::Incumbent;
 pub use laws::offers_are_one;
-pub use level::{Evaluated, polish};
-pub use tally::Tally;
+pub use polishing::{Evaluated, polish};
+pub use relaxation::Relaxation;

@@ -6,7 +6,7 @@ use ice_tree::{NodeKind, Tree, Weights};
 
 /// What is open among the children of a node, where it is inside.
 #[derive(Clone, Copy, Debug, PartialEq, Eq)]
-enum Choice {
+pub(crate) enum Choice {
     /// None but the forced children may be inside.
     None,
     /// All children that may be inside must be.
@@ -15,21 +15,50 @@ enum Choice {
     Some,
 }
 
+/// What is known of a node.
+#[derive(Clone, Copy)]
+pub(crate) struct Open {
+    /// What it is worth, with all that it brings along.
+    pub(crate) worth: i128,
+    /// What is open among its children.
+    pub(crate) choice: Choice,
+    /// So many children must be inside beside the forced ones ..
+    pub(crate) need: u16,
+    /// .. and so many may be.
+    pub(crate) room: u16,
+    /// The last node below it, or the node itself.
+    pub(crate) last: u16,
+    /// Whether it must be inside: it is marked so, or has such a child.
+    pub(crate) is_forced: bool,
+    /// Whether it may be inside.
+    pub(crate) is_live: bool,
+    /// Whether the choices above it can reach it.
+    pub(crate) is_reached: bool,
+    /// Whether nothing is open below it, so that it brings the same nodes along each time.
+    pub(crate) is_whole: bool,
+}
+
+impl Open {
+    /// Of a node that may not be inside.
+    fn closed() -> Open {
+        Open {
+            worth: 0,
+            choice: Choice::None,
+            need: 0,
+            room: 0,
+            last: 0,
+            is_forced: false,
+            is_live: false,
+            is_reached: false,
+            is_whole: false,
+        }
+    }
+}
+
 /// What the marks of a tree leave open, node by node.
 #[derive(Drop)]
 pub(crate) struct Openness {
-    /// Which nodes must be inside: those marked so, and those with such a child.
-    forced: [bool; 200],
-    /// Which nodes may be inside.
-    live: [bool; 200],
-    /// What is open among the children of each node.
-    choices: [Choice; 200],
-    /// Which nodes the choices above them can reach.
-    reached: [bool; 200],
-    /// Which nodes have nothing open below them, so that each brings the same nodes along.
-    whole: [bool; 200],
-    /// What each node is worth, with all that it brings along.
-    worth: [i128; 200],
+    nodes: [Open; 200],
 }
 
 /// The least and the most children inside.
@@ -40,16 +69,22 @@ fn interval(kind: NodeKind) -> (u16, u16) {
     }
 }
 
+/// What is open among children of whom so many may be inside beside the forced ones.
+fn choice_of(need: u16, room: u16, offered: u16) -> Choice {
+    if offered == 0 || room == 0 {
+        Choice::None
+    } else if offered == need {
+        Choice::All
+    } else {
+        Choice::Some
+    }
+}
+
 impl Openness {
     /// That of no tree yet.
     pub(crate) fn new() -> Openness {
         Openness {
-            forced: [false; 200],
-            live: [false; 200],
-            choices: [Choice::None; 200],
-            reached: [false; 200],
-            whole: [false; 200],
-            worth: [0; 200],
+            nodes: [Open::closed(); 200],
         }
     }
 
@@ -61,8 +96,7 @@ impl Openness {
         for node in (0..tree.nodes()).rev() {
             self.force(tree, fixing.get(node), node);
         }
-        self.reached = [false; 200];
-        self.reached[0] = self.live[0];
+        self.nodes[0].is_reached = self.nodes[0].is_live;
         for node in 0..tree.nodes() {
             self.reach(tree, node);
         }
@@ -76,32 +110,30 @@ impl Openness {
         requires few { length tree.now ≤ 200 }
         requires node { node < length tree.now }
     {
-        let place = usize::from(node);
         let (least, most) = interval(tree.kind(node));
-        let mut is_forced = mark == Mark::Must;
-        let mut is_live = mark != Mark::Never;
+        let mut open = Open::closed();
+        open.last = node;
+        open.is_forced = mark == Mark::Must;
+        open.is_live = mark != Mark::Never;
         let mut taken: u16 = 0;
         let mut offered: u16 = 0;
-        for &child in tree.children(node) {
-            let child = usize::from(child);
-            if self.forced[child] {
-                is_forced = true;
-                is_live = is_live && self.live[child];
+        for &number in tree.children(node) {
+            let child = self.nodes[usize::from(number)];
+            open.last = child.last;
+            if child.is_forced {
+                open.is_forced = true;
+                open.is_live = open.is_live && child.is_live;
                 taken = taken.saturating_add(1);
-            } else if self.live[child] {
+            } else if child.is_live {
                 offered = offered.saturating_add(1);
             }
         }
         let all = taken.saturating_add(offered);
-        self.forced[place] = is_forced;
-        self.live[place] = is_live && taken <= most && least <= all;
-        self.choices[place] = if offered == 0 || taken >= most {
-            Choice::None
-        } else if all == least {
-            Choice::All
-        } else {
-            Choice::Some
-        };
+        open.is_live = open.is_live && taken <= most && least <= all;
+        open.need = least.saturating_sub(taken);
+        open.room = most.saturating_sub(taken);
+        open.choice = choice_of(open.need, open.room, offered);
+        self.nodes[usize::from(node)] = open;
     }
 
     /// Which children of a node are reached.
@@ -109,14 +141,13 @@ impl Openness {
         requires few { length tree.now ≤ 200 }
         requires node { node < length tree.now }
     {
-        let place = usize::from(node);
-        if !self.reached[place] {
+        let open = self.nodes[usize::from(node)];
+        if !open.is_reached {
             return;
         }
-        let is_closed = self.choices[place] == Choice::None;
-        for &child in tree.children(node) {
-            let child = usize::from(child);
-            self.reached[child] = self.forced[child] || self.live[child] && !is_closed;
+        for &number in tree.children(node) {
+            let child = &mut self.nodes[usize::from(number)];
+            child.is_reached = child.is_forced || child.is_live && open.choice != Choice::None;
         }
     }
 
@@ -125,35 +156,32 @@ impl Openness {
         requires few { length tree.now ≤ 200 }
         requires node { node < length tree.now }
     {
-        let place = usize::from(node);
-        let mut is_whole = self.choices[place] != Choice::Some;
+        let mut open = self.nodes[usize::from(node)];
         let mut worth = weight;
-        for &child in tree.children(node) {
-            let child = usize::from(child);
-            if self.reached[child] {
-                is_whole = is_whole && self.whole[child];
-                worth = worth.saturating_add(self.worth[child]);
+        open.is_whole = open.choice != Choice::Some;
+        for &number in tree.children(node) {
+            let child = self.nodes[usize::from(number)];
+            if child.is_reached {
+                open.is_whole = open.is_whole && child.is_whole;
+                worth = worth.saturating_add(child.worth);
             }
         }
-        self.whole[place] = is_whole;
-        self.worth[place] = if is_whole { worth } else { weight };
+        open.worth = if open.is_whole { worth } else { weight };
+        self.nodes[usize::from(node)] = open;
     }
 
-    /// Whether the set of a bidder may have the node and may go without it, as far as the choices above it show.
-    pub(crate) fn is_optional(&self, tree: &Tree, node: u16) -> bool
+    /// What is known of the node.
+    pub(crate) fn of(&self, node: u16) -> Open
+        requires { node < 200 }
+    {
+        self.nodes[usize::from(node)]
+    }
+
+    /// Whether the node is reached and comes along with its parent, each time the same.
+    pub(crate) fn is_bound(&self, tree: &Tree, node: u16) -> bool
         requires few { length tree.now ≤ 200 }
         requires node { node < length tree.now }
     {
-        let place = usize::from(node);
-        let above = usize::from(tree.parent(node));
-        let is_offered = node == 0 || self.choices[above] == Choice::Some;
-        is_offered && self.reached[place] && !self.forced[place]
-    }
-
-    /// What the node is worth, with all that it brings along.
-    pub(crate) fn worth(&self, node: u16) -> i128
-        requires { node < 200 }
-    {
-        self.worth[usize::from(node)]
+        node > 0 && self.nodes[usize::from(tree.parent(node))].is_whole
     }
 }

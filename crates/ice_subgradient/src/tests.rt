@@ -4,7 +4,7 @@ ghost use Rattle.ice_defs.specs.Lawful.{AreBounds};
 ghost use Rattle.ice_defs.specs.Sweep.{IsLive};
 ghost use Rattle.ice_bound.specs.Conditions.{AreWeightsOf, AreBoundsOf};
 
-use crate::{Incumbent, Tally, pick, polish};
+use crate::{Incumbent, Relaxation, pick, polish};
 use ice_bound::{Kept, NetSum};
 use ice_tree::{AllWeights, Assignment, Bounds, NodeKind, Tree, TreeFault, TreeMaker};
 use std::alloc::{AllocError, Global};
@@ -69,11 +69,12 @@ fn a_small_market(rt: HostRuntime) -> Result<(), Fail> {
     let mut incumbent = nothing(alloc, &trees)?;
     incumbent.offer(&kept);
     assert_eq!(rt; incumbent.value, 0, "the buyer alone is not feasible");
-    let mut tally = Tally::new(alloc, &trees)?;
-    let least = polish(&mut kept, &mut incumbent, &mut tally, 500);
+    let mut relaxation = Relaxation::new(alloc, &trees)?;
+    relaxation.look_at(&trees, &weights, kept.marks());
+    let least = polish(&mut kept, &mut incumbent, &mut relaxation, 500);
     assert_eq!(rt; least.total, 640);
     assert_eq!(rt; incumbent.value, 10);
-    let candidates = pick(&trees, &weights, kept.marks(), &tally);
+    let candidates = pick(&trees, kept.marks(), &relaxation);
     assert_eq!(rt; candidates.len(), 2);
     Ok(())
 }
@@ -90,8 +91,9 @@ fn the_greatest_multiplier(rt: HostRuntime) -> Result<(), Fail> {
     kept.multiplier(0, 1 << 56);
     assert!(rt; is_live(&kept));
     let mut incumbent = nothing(alloc, &trees)?;
-    let mut tally = Tally::new(alloc, &trees)?;
-    let least = polish(&mut kept, &mut incumbent, &mut tally, 500);
+    let mut relaxation = Relaxation::new(alloc, &trees)?;
+    relaxation.look_at(&trees, &weights, kept.marks());
+    let least = polish(&mut kept, &mut incumbent, &mut relaxation, 500);
     assert_eq!(rt; least.total, 640);
     Ok(())
 }

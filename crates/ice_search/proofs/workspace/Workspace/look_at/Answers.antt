@@ -30,5 +30,5 @@ invariant_of-self c =
       exact = c.put_side-2.ensures.exact ∙ c.self.invariant.exact;
       desk = subst (AreFixingsOf x.trees) (sym c.put_side.ensures) (fixings_at x c.args.parts.now c.args.number c.self.invariant.instance is c.requires.there);
       room = c.self.invariant.room;
-      tally = c.self.invariant.tally;
+      relaxation = c.look_at.ensures ∙ c.self.invariant.relaxation;
     }

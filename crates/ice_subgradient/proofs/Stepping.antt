@@ -7,7 +7,7 @@ use Rattle.ice_defs.specs.Sweep.{IsLive}
 use Rattle.ice_bound.specs.Conditions.{AreMultipliersOf}
 use Rattle.ice_bound.specs.Kept.{Standing}
 use Rattle.ice_subgradient.specs.declared.incumbent.Incumbent.{Incumbent}
-use Rattle.ice_subgradient.specs.declared.level.Evaluated.{Evaluated}
+use Rattle.ice_subgradient.specs.declared.polishing.Evaluated.{Evaluated}
 use Rattle.ice_subgradient.specs.Offers.{AreCovered, IsOffered}
 use Rattle.ice_subgradient.proofs.Offering.{offered_again}
 

@@ -1,5 +1,5 @@
 use Rattle.ice_bound.specs.Conditions.{AreMultipliersOf}
-use Rattle.ice_subgradient.proofs.course.go.Given as goal
+use Rattle.ice_subgradient.proofs.polishing.multipliers_of.Given as goal
 
 abbrev pub invariant-loop-good : goal.invariant-loop-good
 invariant-loop-good l = AreMultipliersOf l.kept.exact l.m

@@ -1,0 +1,488 @@
+//! A tree under marks as a short list of operations, which work out its greatest net and take the nodes of it.
+ghost use Rattle.std.specs.Prelude.{◌≡◌, ◌<◌, ◌≤◌, length};
+
+use crate::openness::{Choice, Open, Openness};
+use ice_tree::{NodeKind, Tree};
+
+/// No operation has this number, since a tree has at most 200 nodes.
+const NONE: u8 = 255;
+
+/// How the set of a node is chosen.
+#[derive(Clone, Copy, Debug, PartialEq, Eq)]
+pub(crate) enum Rule {
+    /// Nothing is open: the node brings the same leaves along each time.
+    Row,
+    /// The operands that come along, and no others.
+    Bound,
+    /// Beside those, each other one that adds value.
+    Each,
+    /// Beside those, the best other one, where it adds value.
+    BestGain,
+    /// Beside those, the best other one.
+    Best,
+    /// Beside those, as many of the best as are needed, and then those that add value, as long as there is room.
+    Several,
+}
+
+/// The work at one node.
+#[derive(Clone, Copy)]
+pub(crate) struct Operation {
+    /// What the node is worth, with what is bound to it, in 64ths.
+    pub(crate) weight: i64,
+    pub(crate) rule: Rule,
+    pub(crate) node: u8,
+    need: u8,
+    room: u8,
+    /// The first operand that comes along, or the first leaf of a row.
+    first: u8,
+    /// The first operand that may be taken.
+    pub(crate) offered: u8,
+    /// Where its operands or leaves end.
+    pub(crate) end: u8,
+}
+
+/// What a leaf buys, or sells.
+#[derive(Clone, Copy)]
+struct Leaf {
+    units: i64,
+    good: u8,
+}
+
+/// An operand that may be taken, with what it adds.
+#[derive(Clone, Copy)]
+struct Offer {
+    value: i64,
+    number: u8,
+}
+
+/// The operations of one tree, each after those of its operands, with what they worked out last. Numbers of operations,
+/// operands, leaves and nodes all fit in a byte, which spares the tests whether they are in range.
+#[derive(Drop)]
+pub(crate) struct Operations {
+    list: [Operation; 256],
+    count: u8,
+    operands: [u8; 256],
+    operand_count: u8,
+    leaves: [Leaf; 256],
+    leaf_count: u8,
+    /// The number of the operation of each node.
+    numbers: [u8; 200],
+    is_forced: bool,
+    has_good: [bool; 32],
+    /// What the operations worked out.
+    values: [i64; 256],
+    /// The operand that each took as the best, or `NONE`.
+    bests: [u8; 256],
+    /// Which operands of `Rule::Several` were taken.
+    is_taken: [bool; 256],
+    offers: [Offer; 256],
+    waiting: [u8; 256],
+    /// How often the node of each operation was taken.
+    pub(crate) counts: [u32; 256],
+}
+
+/// A number in 64ths that steps can be reckoned with.
+fn in_64ths(worth: i128) -> i64 {
+    let most = 1 << 60;
+    worth.saturating_mul(64).clamp(-most, most) as i64
+}
+
+/// How the set of a node is chosen of which nothing more is bound.
+fn rule_of(open: &Open, offered: u8) -> Rule {
+    match (open.need, open.room) {
+        _ if open.choice != Choice::Some => Rule::Bound,
+        (0, 1) => Rule::BestGain,
+        (1, 1) => Rule::Best,
+        (0, room) if room >= u16::from(offered) => Rule::Each,
+        _ => Rule::Several,
+    }
+}
+
+/// A number of children, which fits in a byte.
+fn byte(number: u16) -> u8 {
+    number.min(255) as u8
+}
+
+/// Puts so many offers in order, the one that adds least first.
+fn sort_offers(offers: &mut [Offer; 256], count: u8) {
+    let offers = &mut offers[..usize::from(count)];
+    offers.sort_unstable_by_key(|offer| offer.value);
+}
+
+impl Operations {
+    /// Those of no tree yet.
+    pub(crate) fn new() -> Operations {
+        let blank = Operation {
+            weight: 0,
+            rule: Rule::Bound,
+            node: 0,
+            need: 0,
+            room: 0,
+            first: 0,
+            offered: 0,
+            end: 0,
+        };
+        Operations {
+            list: [blank; 256],
+            count: 0,
+            operands: [0; 256],
+            operand_count: 0,
+            leaves: [Leaf { units: 0, good: 0 }; 256],
+            leaf_count: 0,
+            numbers: [NONE; 200],
+            is_forced: false,
+            has_good: [false; 32],
+            values: [0; 256],
+            bests: [NONE; 256],
+            is_taken: [false; 256],
+            offers: [Offer {
+                value: 0,
+                number: 0,
+            }; 256],
+            waiting: [0; 256],
+            counts: [0; 256],
+        }
+    }
+
+    /// Makes them those of a tree of which this is open.
+    pub(crate) fn fill(&mut self, tree: &Tree, openness: &Openness) {
+        self.count = 0;
+        self.operand_count = 0;
+        self.leaf_count = 0;
+        self.has_good = [false; 32];
+        self.is_forced = openness.of(0).is_forced;
+        for node in (0..tree.nodes()).rev() {
+            if openness.of(node).is_reached && !openness.is_bound(tree, node) {
+                self.add(tree, openness, node);
+            }
+        }
+    }
+
+    /// Adds the operation of a node.
+    fn add(&mut self, tree: &Tree, openness: &Openness, node: u16)
+        requires few { length tree.now ≤ 200 }
+        requires node { node < length tree.now }
+    {
+        let open = openness.of(node);
+        let operation = if open.is_whole {
+            self.row(tree, openness, node)
+        } else {
+            self.choice(tree, openness, node)
+        };
+        self.numbers[usize::from(node)] = self.count;
+        self.list[usize::from(self.count)] = operation;
+        self.count = self.count.saturating_add(1);
+    }
+
+    /// The row of a node that brings the same leaves along each time.
+    fn row(&mut self, tree: &Tree, openness: &Openness, node: u16) -> Operation
+        requires few { length tree.now ≤ 200 }
+        requires node { node < length tree.now }
+    {
+        let open = openness.of(node);
+        let first = self.leaf_count;
+        for below in node..tree.nodes() {
+            if below > open.last {
+                break;
+            }
+            if openness.of(below).is_reached {
+                self.add_leaf(tree.kind(below));
+            }
+        }
+        Operation {
+            weight: in_64ths(open.worth),
+            rule: Rule::Row,
+            node: byte(node),
+            need: 0,
+            room: 0,
+            first,
+            offered: self.leaf_count,
+            end: self.leaf_count,
+        }
+    }
+
+    /// Adds a leaf to a row.
+    fn add_leaf(&mut self, kind: NodeKind) {
+        let (good, units) = match kind {
+            NodeKind::Choose { .. } => return,
+            NodeKind::Buy { good, units } => (good % 32, i64::from(units)),
+            NodeKind::Sell { good, units } => (good % 32, -i64::from(units)),
+        };
+        self.leaves[usize::from(self.leaf_count)] = Leaf { units, good };
+        self.leaf_count = self.leaf_count.saturating_add(1);
+        self.has_good[usize::from(good)] = true;
+    }
+
+    /// The choice of a node among its children.
+    fn choice(&mut self, tree: &Tree, openness: &Openness, node: u16) -> Operation
+        requires few { length tree.now ≤ 200 }
+        requires node { node < length tree.now }
+    {
+        let open = openness.of(node);
+        let first = self.operand_count;
+        self.add_operands(tree, openness, node, true);
+        let offered = self.operand_count;
+        self.add_operands(tree, openness, node, false);
+        let end = self.operand_count;
+        Operation {
+            weight: in_64ths(open.worth),
+            rule: rule_of(&open, end.saturating_sub(offered)),
+            node: byte(node),
+            need: byte(open.need),
+            room: byte(open.room),
+            first,
+            offered,
+            end,
+        }
+    }
+
+    /// Adds the children of a node that come along with it, or those that may be taken.
+    fn add_operands(&mut self, tree: &Tree, openness: &Openness, node: u16, along: bool)
+        requires few { length tree.now ≤ 200 }
+        requires node { node < length tree.now }
+    {
+        let brings_all = openness.of(node).choice == Choice::All;
+        for &number in tree.children(node) {
+            let child = openness.of(number);
+            if child.is_reached && (child.is_forced || brings_all) == along {
+                self.operands[usize::from(self.operand_count)] = self.numbers[usize::from(number)];
+                self.operand_count = self.operand_count.saturating_add(1);
+            }
+        }
+    }
+
+    /// How many operations there are.
+    pub(crate) fn len(&self) -> u8 {
+        self.count
+    }
+
+    /// An operation.
+    pub(crate) fn of(&self, number: u8) -> Operation {
+        self.list[usize::from(number)]
+    }
+
+    /// An operand.
+    pub(crate) fn operand(&self, place: u8) -> u8 {
+        self.operands[usize::from(place)]
+    }
+
+    /// Whether the root may be left out.
+    pub(crate) fn is_optional(&self) -> bool {
+        self.count > 0 && !self.is_forced
+    }
+
+    /// Whether units of the good may be bought or sold.
+    pub(crate) fn has_good(&self, good: u8) -> bool {
+        self.has_good[usize::from(good % 32)]
+    }
+
+    /// The greatest net at the multipliers, in 64ths.
+    pub(crate) fn evaluate(&mut self, m: &[i64; 32]) -> i64 {
+        for number in 0..self.count {
+            let value = self.value_of(number, m);
+            self.values[usize::from(number)] = value;
+        }
+        if self.takes_root() {
+            self.root_value()
+        } else {
+            0
+        }
+    }
+
+    /// What the root adds.
+    fn root_value(&self) -> i64 {
+        self.values[usize::from(self.count.saturating_sub(1))]
+    }
+
+    /// Whether the root is taken.
+    fn takes_root(&self) -> bool {
+        self.count > 0 && (self.is_forced || self.root_value() > 0)
+    }
+
+    /// What a node adds where it is inside. Numbers that wrap around would only mislead the steps, and none does: weights
+    /// stay below 2^60, and what units cost below 2^54.
+    fn value_of(&mut self, number: u8, m: &[i64; 32]) -> i64 {
+        let operation = self.list[usize::from(number)];
+        match operation.rule {
+            Rule::Row => return self.row_value(operation, m),
+            Rule::Several => {
+                let value = self.bound_value(operation);
+                return value.wrapping_add(self.take_several(operation));
+            }
+            _ => {}
+        }
+        let value = self.bound_value(operation);
+        let added = match operation.rule {
+            Rule::Each => self.each_value(operation),
+            Rule::BestGain => self.best_value(number, operation, 0),
+            Rule::Best => self.best_value(number, operation, i64::MIN),
+            _ => 0,
+        };
+        value.wrapping_add(added)
+    }
+
+    /// What a row adds.
+    fn row_value(&self, operation: Operation, m: &[i64; 32]) -> i64 {
+        let mut value = operation.weight;
+        for place in operation.first..operation.end {
+            let leaf = self.leaves[usize::from(place)];
+            let cost = m[usize::from(leaf.good % 32)].wrapping_mul(leaf.units);
+            value = value.wrapping_sub(cost);
+        }
+        value
+    }
+
+    /// What a node adds with the operands that come along.
+    fn bound_value(&self, operation: Operation) -> i64 {
+        let mut value = operation.weight;
+        for place in operation.first..operation.offered {
+            let number = self.operands[usize::from(place)];
+            value = value.wrapping_add(self.values[usize::from(number)]);
+        }
+        value
+    }
+
+    /// What those of the other operands add that add value.
+    fn each_value(&self, operation: Operation) -> i64 {
+        let mut value: i64 = 0;
+        for place in operation.offered..operation.end {
+            let number = self.operands[usize::from(place)];
+            value = value.wrapping_add(self.values[usize::from(number)].max(0));
+        }
+        value
+    }
+
+    /// Takes the best of the other operands that adds more than this, and says what is added.
+    fn best_value(&mut self, number: u8, operation: Operation, more_than: i64) -> i64 {
+        let mut best = NONE;
+        let mut value = more_than;
+        for place in operation.offered..operation.end {
+            let operand = self.operands[usize::from(place)];
+            let other = self.values[usize::from(operand)];
+            if other > value {
+                value = other;
+                best = operand;
+            }
+        }
+        self.bests[usize::from(number)] = best;
+        value
+    }
+
+    /// Takes the other operands that are needed and those that add value, as long as there is room, and says what they add.
+    fn take_several(&mut self, operation: Operation) -> i64 {
+        let count = operation.end.saturating_sub(operation.offered);
+        for offset in 0..count {
+            let number = self.operands[usize::from(operation.offered.saturating_add(offset))];
+            self.is_taken[usize::from(number)] = false;
+            self.offers[usize::from(offset)] = Offer {
+                value: self.values[usize::from(number)],
+                number,
+            };
+        }
+        sort_offers(&mut self.offers, count);
+        self.take_best(operation, count)
+    }
+
+    /// Takes an operand of `Rule::Several`.
+    fn take_operand(&mut self, number: u8) {
+        self.is_taken[usize::from(number)] = true;
+    }
+
+    /// Takes the best of so many offers, which are in order, and says what they add.
+    fn take_best(&mut self, operation: Operation, count: u8) -> i64 {
+        let mut value: i64 = 0;
+        for taken in 0..count.min(operation.room) {
+            let place = count.saturating_sub(taken).saturating_sub(1);
+            let offer = self.offers[usize::from(place)];
+            if taken >= operation.need && offer.value <= 0 {
+                break;
+            }
+            self.take_operand(offer.number);
+            value = value.wrapping_add(offer.value);
+        }
+        value
+    }
+
+    /// Adds the units of the set that was found to the excess, and the weight to the count of each of its operations.
+    pub(crate) fn take(&mut self, weight: u32, excess: &mut [i64; 32]) {
+        if !self.takes_root() {
+            return;
+        }
+        self.waiting[0] = self.count.saturating_sub(1);
+        let mut height: u8 = 1;
+        for _taken in 0..self.count {
+            if height == 0 {
+                break;
+            }
+            height -= 1;
+            let number = self.waiting[usize::from(height)];
+            let count = &mut self.counts[usize::from(number)];
+            *count = count.saturating_add(weight);
+            height = self.take_operands(number, height, excess);
+        }
+    }
+
+    /// Lets the operands that an operation takes wait, of which there are so many then; a row's units are added.
+    fn take_operands(&mut self, number: u8, height: u8, excess: &mut [i64; 32]) -> u8 {
+        let operation = self.list[usize::from(number)];
+        if operation.rule == Rule::Row {
+            self.add_units(operation, excess);
+            return height;
+        }
+        let mut height = height;
+        for place in operation.first..operation.offered {
+            let operand = self.operands[usize::from(place)];
+            height = self.wait(operand, height);
+        }
+        match operation.rule {
+            Rule::BestGain | Rule::Best => {
+                let best = self.bests[usize::from(number)];
+                if best == NONE {
+                    height
+                } else {
+                    self.wait(best, height)
+                }
+            }
+            Rule::Each | Rule::Several => self.take_offered(operation, height),
+            _ => height,
+        }
+    }
+
+    /// Lets those of the other operands wait that were taken.
+    fn take_offered(&mut self, operation: Operation, height: u8) -> u8 {
+        let mut height = height;
+        for place in operation.offered..operation.end {
+            let operand = self.operands[usize::from(place)];
+            let is_taken = match operation.rule {
+                Rule::Each => self.values[usize::from(operand)] > 0,
+                _ => self.is_taken[usize::from(operand)],
+            };
+            if is_taken {
+                height = self.wait(operand, height);
+            }
+        }
+        height
+    }
+
+    /// Lets one more wait.
+    fn wait(&mut self, number: u8, height: u8) -> u8 {
+        self.waiting[usize::from(height)] = number;
+        height.saturating_add(1)
+    }
+
+    /// Adds the units of a row.
+    fn add_units(&self, operation: Operation, excess: &mut [i64; 32]) {
+        for place in operation.first..operation.end {
+            let leaf = self.leaves[usize::from(place)];
+            let sum = &mut excess[usize::from(leaf.good % 32)];
+            *sum = sum.wrapping_add(leaf.units);
+        }
+    }
+
+    /// Sets all counts to 0.
+    pub(crate) fn clear(&mut self) {
+        for number in 0..self.count {
+            self.counts[usize::from(number)] = 0;
+        }
+    }
+}

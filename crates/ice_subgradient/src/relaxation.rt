@@ -1,0 +1,123 @@
+//! The relaxation of a side, worked out quickly: what the steps of a search are guided by.
+ghost use Rattle.std.specs.Prelude.{◌≡◌, ◌<◌, ◌≤◌, length, IfOk};
+ghost use Rattle.ice_bound.specs.Conditions.{AreWeightsOf, AreFixingsOf};
+
+use crate::openness::Openness;
+use crate::operations::Operations;
+use ice_best::Fixings;
+use ice_tree::{AllWeights, Tree};
+use std::alloc::{AllocError, Global};
+use std::marker::Model;
+
+/// What is seen at multipliers.
+#[derive(Clone, Copy)]
+pub(crate) struct Sight {
+    /// The sum of the greatest nets, in 64ths.
+    pub(crate) total: i128,
+    /// By how much more of each good is bought than sold.
+    pub(crate) excess: [i64; 32],
+}
+
+/// The relaxation of a side: each tree under its marks, made ready to be worked out at many multipliers, and how often
+/// each node was taken. It is seen as the number of trees: what it says is a guide, which decides nothing.
+///
+/// Only `new` takes memory.
+#[derive(Drop)]
+pub struct Relaxation {
+    pub(crate) trees: Vec<Operations>,
+    openness: Openness,
+    weight: u32,
+}
+
+impl Model for Relaxation {
+    ghost use Rattle.std.specs.Prelude.{ℕ, vec_len};
+
+    ghost Value = { ℕ };
+
+    ghost view = { λ r. vec_len r.trees };
+}
+
+impl Relaxation {
+    /// Room for these trees.
+    pub fn new(alloc: Global, trees: &[Tree]) -> Result<Relaxation, AllocError>
+        ensures { IfOk result (λ relaxation. relaxation ≡ length trees.now) }
+    {
+        let trees = trees.iter().map(|_tree| Operations::new()).collect(alloc)?;
+        Ok(Relaxation {
+            trees,
+            openness: Openness::new(),
+            weight: 0,
+        })
+    }
+
+    /// Looks at the side of these marks. Time: some passes over the nodes of all trees.
+    pub fn look_at(&mut self, trees: &[Tree], weights: &AllWeights, marks: &Fixings)
+        requires few { length trees.now ≤ 40 }
+        requires weights { AreWeightsOf trees.now weights.now }
+        requires marks { AreFixingsOf trees.now marks.now }
+        requires same { self.old ≡ length trees.now }
+        ensures { self.new ≡ self.old }
+    {
+        for bidder in 0..trees.len() as u8 {
+            self.look_at_tree(trees, weights, marks, bidder);
+        }
+    }
+
+    /// Looks at new marks of one tree. Time: some passes over its nodes.
+    pub fn look_at_tree(
+        &mut self,
+        trees: &[Tree],
+        weights: &AllWeights,
+        marks: &Fixings,
+        bidder: u8,
+    )
+        requires few { length trees.now ≤ 40 }
+        requires weights { AreWeightsOf trees.now weights.now }
+        requires marks { AreFixingsOf trees.now marks.now }
+        requires same { self.old ≡ length trees.now }
+        requires bidder { bidder < length trees.now }
+        ensures { self.new ≡ self.old }
+    {
+        let place = usize::from(bidder);
+        let tree = &trees[place];
+        self.openness
+            .fill(tree, weights.of(bidder), marks.of(bidder));
+        self.trees[place].fill(tree, &self.openness);
+    }
+
+    /// Sets the counts of all nodes to 0.
+    pub(crate) fn clear(&mut self)
+        ensures { self.new ≡ self.old }
+    {
+        for tree in self.trees.iter_mut() {
+            tree.clear();
+        }
+        self.weight = 0;
+    }
+
+    /// What is seen at the multipliers. The weight is added to the count of each node that is taken.
+    pub(crate) fn evaluate(&mut self, m: &[i64; 32], weight: u32) -> Sight
+        ensures { self.new ≡ self.old }
+    {
+        let mut sight = Sight {
+            total: 0,
+            excess: [0; 32],
+        };
+        for tree in self.trees.iter_mut() {
+            let net = tree.evaluate(m);
+            sight.total = sight.total.saturating_add(i128::from(net));
+            tree.take(weight, &mut sight.excess);
+        }
+        self.weight = self.weight.saturating_add(weight);
+        sight
+    }
+
+    /// How near the operation's node was to being taken half of the time: the count of the times that it was taken, or of
+    /// those that it wasn't, whichever is less.
+    pub(crate) fn halfness(&self, bidder: u8, number: u8) -> u32
+        requires { bidder < self.now }
+    {
+        let count = self.trees[usize::from(bidder)].counts[usize::from(number)];
+        count.min(self.weight.saturating_sub(count))
+    }
+}
