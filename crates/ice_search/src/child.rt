@@ -11,7 +11,10 @@ use crate::sweep::Bounded;
 use crate::workspace::Workspace;
 use ice_best::Mark;
 use ice_bound::{Multipliers, floor_64th};
-use ice_subgradient::{Candidate, Candidates, Evaluated, Incumbent, pick, polish};
+use ice_subgradient::{Candidate, Candidates, Evaluated, Incumbent, most_promising, pick, polish};
+
+/// So many steps are taken at a child.
+pub(crate) const CHILD_STEPS: u16 = 60;
 
 /// A side with multipliers, their bound and nodes to split it at.
 #[derive(Drop)]
@@ -33,6 +36,26 @@ fn bounded(evaluated: Evaluated) -> Bounded
 }
 
 impl<'a> Workspace<'a> {
+    /// The candidate that promises most, where both of its children are looked at from the multipliers that are kept.
+    pub(crate) fn most_promising(
+        &mut self,
+        candidates: &Candidates,
+        value: i128,
+    ) -> Option<Candidate>
+        ensures { self.new ≡ self.old }
+    {
+        most_promising(
+            candidates,
+            self.problem.trees(),
+            self.problem.weights(),
+            self.kept.marks(),
+            &mut self.relaxation,
+            &self.kept,
+            value,
+            CHILD_STEPS,
+        )
+    }
+
     /// Steps from the multipliers that are kept. The relaxed sets of each step are offered.
     pub(crate) fn polish(&mut self, incumbent: &mut Incumbent, steps: u16) -> Polished
         requires live { IsLive self.old.instance.trees self.old.side }

@@ -1,6 +1,7 @@
 //! Hints: what makes a part's sweep and its split quick. What they say decides nothing.
-ghost use Rattle.std.specs.Prelude.{◌+◌, ◌≤◌, vec_len, vec_capacity};
+ghost use Rattle.std.specs.Prelude.{◌≡◌, ◌+◌, ◌≤◌, vec_len, vec_capacity};
 
+use crate::workspace::Workspace;
 use ice_bound::Multipliers;
 use ice_subgradient::{Candidate, Candidates};
 
@@ -28,9 +29,19 @@ pub(crate) fn keep_near(hints: &mut Vec<Hint>, number: u32, near: &Multipliers) 
     }
 }
 
-/// The node to split the part at.
-pub(crate) fn first_candidate(hints: &[Hint], number: u32) -> Option<Candidate> {
-    hints.get(number as usize)?.candidates.first().copied()
+/// The node that promises most, of those that the hint has for the part, which is looked at.
+pub(crate) fn most_promising(
+    hints: &[Hint],
+    number: u32,
+    space: &mut Workspace,
+    value: i128,
+) -> Option<Candidate>
+    ensures { space.new ≡ space.old }
+{
+    match hints.get(number as usize) {
+        Some(hint) => space.most_promising(&hint.candidates, value),
+        None => None,
+    }
 }
 
 /// Hints for the two children of a part, for which there is room.

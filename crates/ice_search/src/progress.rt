@@ -8,8 +8,9 @@ ghost use Rattle.ice_search.specs.Nodes.{IsSplitNode};
 ghost use Rattle.ice_search.specs.Open.{IsGreatestOpen};
 ghost use Rattle.ice_search.specs.State.{unswept_count, LooksAt};
 
+use crate::child::CHILD_STEPS;
 use crate::frontier::{greatest, open_children, take_out};
-use crate::hints::{Hint, first_candidate, keep_near, near, push_hints};
+use crate::hints::{Hint, keep_near, most_promising, near, push_hints};
 use crate::parts::{is_open, lower, push_children};
 use crate::workspace::Workspace;
 use ice_assembly::Part;
@@ -17,9 +18,6 @@ use ice_best::Mark;
 use ice_subgradient::{Candidate, Incumbent};
 use std::alloc::AllocError;
 use std::marker::Model;
-
-/// So many steps are taken at a child.
-const CHILD_STEPS: u16 = 60;
 
 /// A search as it goes on: its parts with a hint for each, the best assignment so far, and the open parts.
 #[derive(Drop)]
@@ -93,7 +91,8 @@ impl<'a> Progress<'a> {
         ensures some { IfSome result (λ node. IsSplitNode self.old.instance.trees self.old.side node.bidder node.node) }
         ensures same { self.new ≡ self.old }
     {
-        if let Some(candidate) = first_candidate(&self.hints, number) {
+        let value = self.incumbent.value;
+        if let Some(candidate) = most_promising(&self.hints, number, &mut self.space, value) {
             if self.space.splits(candidate) {
                 return Some(candidate);
             }

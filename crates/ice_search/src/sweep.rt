@@ -10,7 +10,7 @@ ghost use Rattle.ice_search.specs.Workspace.{IsOfferedAt};
 use crate::workspace::Workspace;
 use ice_bound::{Bound, Kept, Multipliers};
 use ice_mult::improve_near;
-use ice_subgradient::Incumbent;
+use ice_subgradient::{Incumbent, forecast};
 
 /// Multipliers, and the bound at them.
 #[derive(Drop)]
@@ -48,17 +48,13 @@ impl<'a> Workspace<'a> {
         ensures offered { IsOfferedAt self.old.instance self.old.side incumbent.old incumbent.new }
     {
         let zeros = Multipliers::zero(self.problem.goods());
-        let near = if guess.len() == zeros.len() {
-            guess
-        } else {
-            &zeros
-        };
+        let near = forecast(&mut self.relaxation, &self.kept, guess);
         let m = improve_near(
             self.problem.trees(),
             self.problem.weights(),
             self.kept.marks(),
             &zeros,
-            near,
+            &near,
             &mut self.desk,
         );
         self.kept.put_multipliers(&m);

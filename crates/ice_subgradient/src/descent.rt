@@ -63,6 +63,11 @@ impl Descent {
         &self.sought
     }
 
+    /// The least sum that was seen.
+    pub(crate) fn least_total(&self) -> i128 {
+        self.least.total
+    }
+
     /// Goes on until an assignment above the value comes up, or to the end.
     pub(crate) fn go(&mut self, relaxation: &mut Relaxation, value: i128)
         ensures { relaxation.new ≡ relaxation.old }

@@ -5,6 +5,7 @@
 mod candidates;
 mod course;
 mod descent;
+mod forecasting;
 mod incumbent;
 mod laws;
 mod level;
@@ -14,9 +15,12 @@ mod polishing;
 mod relaxation;
 #[cfg(test)]
 mod tests;
+mod trial;
 
 pub use candidates::{Candidate, Candidates, pick};
+pub use forecasting::forecast;
 pub use incumbent::Incumbent;
 pub use laws::offers_are_one;
 pub use polishing::{Evaluated, polish};
 pub use relaxation::Relaxation;
+pub use trial::most_promising;

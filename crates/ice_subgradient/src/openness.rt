@@ -80,6 +80,14 @@ fn choice_of(need: u16, room: u16, offered: u16) -> Choice {
     }
 }
 
+/// The mark of a node, where one node may have another one.
+fn mark_of(mark: Mark, node: u16, trial: Option<(u16, Mark)>) -> Mark {
+    match trial {
+        Some((other, tried)) if other == node => tried,
+        _ => mark,
+    }
+}
+
 impl Openness {
     /// That of no tree yet.
     pub(crate) fn new() -> Openness {
@@ -88,13 +96,19 @@ impl Openness {
         }
     }
 
-    /// Makes it that of a tree with these weights and marks.
-    pub(crate) fn fill(&mut self, tree: &Tree, weights: &Weights, fixing: &Fixing)
+    /// Makes it that of a tree with these weights and marks, where one node may have another mark.
+    pub(crate) fn fill(
+        &mut self,
+        tree: &Tree,
+        weights: &Weights,
+        fixing: &Fixing,
+        trial: Option<(u16, Mark)>,
+    )
         requires weights { length weights.now ≡ length tree.now }
         requires fixing { length fixing.now ≡ length tree.now }
     {
         for node in (0..tree.nodes()).rev() {
-            self.force(tree, fixing.get(node), node);
+            self.force(tree, mark_of(fixing.get(node), node, trial), node);
         }
         self.nodes[0].is_reached = self.nodes[0].is_live;
         for node in 0..tree.nodes() {

@@ -43,7 +43,7 @@ fn allowed(number: i64, exact: bool) -> i64
 }
 
 /// The multipliers of these numbers.
-fn multipliers_of(kept: &Kept<'_>, numbers: &[i64; 32]) -> Multipliers
+pub(crate) fn multipliers_of(kept: &Kept<'_>, numbers: &[i64; 32]) -> Multipliers
     ensures { AreMultipliersOf kept.now.exact result }
 {
     let mut m = kept.multipliers().copy();
@@ -55,7 +55,7 @@ fn multipliers_of(kept: &Kept<'_>, numbers: &[i64; 32]) -> Multipliers
 }
 
 /// The numbers of the multipliers.
-fn numbers_of(m: &Multipliers) -> [i64; 32] {
+pub(crate) fn numbers_of(m: &Multipliers) -> [i64; 32] {
     let mut numbers = [0; 32];
     for good in 0..m.len() {
         numbers[good as usize] = m.get(good);
@@ -64,7 +64,7 @@ fn numbers_of(m: &Multipliers) -> [i64; 32] {
 }
 
 /// Which goods are exact.
-fn goods_of(kept: &Kept<'_>) -> Goods {
+pub(crate) fn goods_of(kept: &Kept<'_>) -> Goods {
     let count = kept.multipliers().len();
     let mut exact = [false; 32];
     for good in 0..count {

@@ -4,7 +4,7 @@ ghost use Rattle.ice_bound.specs.Conditions.{AreWeightsOf, AreFixingsOf};
 
 use crate::openness::Openness;
 use crate::operations::Operations;
-use ice_best::Fixings;
+use ice_best::{Fixings, Mark};
 use ice_tree::{AllWeights, Tree};
 use std::alloc::{AllocError, Global};
 use std::marker::Model;
@@ -78,10 +78,29 @@ impl Relaxation {
         requires bidder { bidder < length trees.now }
         ensures { self.new ≡ self.old }
     {
+        self.fill(trees, weights, marks, bidder, None);
+    }
+
+    /// Looks at one tree, of which one node may have another mark.
+    pub(crate) fn fill(
+        &mut self,
+        trees: &[Tree],
+        weights: &AllWeights,
+        marks: &Fixings,
+        bidder: u8,
+        trial: Option<(u16, Mark)>,
+    )
+        requires few { length trees.now ≤ 40 }
+        requires weights { AreWeightsOf trees.now weights.now }
+        requires marks { AreFixingsOf trees.now marks.now }
+        requires same { self.old ≡ length trees.now }
+        requires bidder { bidder < length trees.now }
+        ensures { self.new ≡ self.old }
+    {
         let place = usize::from(bidder);
         let tree = &trees[place];
         self.openness
-            .fill(tree, weights.of(bidder), marks.of(bidder));
+            .fill(tree, weights.of(bidder), marks.of(bidder), trial);
         self.trees[place].fill(tree, &self.openness);
     }
 
@@ -110,6 +129,19 @@ impl Relaxation {
         }
         self.weight = self.weight.saturating_add(weight);
         sight
+    }
+
+    /// The sum of the greatest nets of those trees that may buy or sell the good.
+    pub(crate) fn part_at(&mut self, m: &[i64; 32], good: u8) -> i128
+        ensures { self.new ≡ self.old }
+    {
+        let mut total: i128 = 0;
+        for tree in self.trees.iter_mut() {
+            if tree.has_good(good) {
+                total = total.saturating_add(i128::from(tree.evaluate(m)));
+            }
+        }
+        total
     }
 
     /// How near the operation's node was to being taken half of the time: the count of the times that it was taken, or of
