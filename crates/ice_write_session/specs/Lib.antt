@@ -1,0 +1,4 @@
+pub mod Records
+pub mod Writable
+pub mod Payments
+pub mod Pieces

@@ -1,0 +1,21 @@
+//! The records of a session's settlements, put into a sink one line at a time, in version 2. No call takes memory.
+#![tactic(auto)]
+
+mod closing;
+mod fraction;
+mod group;
+mod halt;
+mod opening;
+mod payment;
+mod pricing;
+mod record;
+mod regret;
+mod submission;
+mod without;
+
+pub use closing::put_closing;
+pub use group::{put_final, put_provisional, put_rival, put_spent};
+pub use halt::{put_halt, put_limit};
+pub use opening::put_opening;
+pub use regret::put_regret;
+pub use submission::put_judged;

@@ -1,0 +1,96 @@
+//! What the bidders of a settlement that closes pay.
+ghost use Rattle.std.specs.Prelude.{◌≡◌, ◌<◌, ◌∷◌, [], length, map};
+ghost use Rattle.ice_edge.specs.Puts.{IsPut};
+ghost use Rattle.ice_journal.specs.Records as line;
+ghost use Rattle.ice_journal.specs.Ranges.{IsRecord};
+ghost use Rattle.ice_journal.specs.Journal.{bytes_of};
+ghost use Rattle.ice_journal.specs.Lines.{record_of};
+ghost use Rattle.ice_journal_laws.specs.Written.{payment_record};
+ghost use Rattle.ice_round.specs.Shown.{closed_of};
+ghost use Rattle.ice_write_session.specs.Payments.{payment_at};
+ghost use Rattle.ice_write_session.specs.Writable.{IsWritableClosing, IsWritablePayment};
+
+use crate::fraction::lowest_fraction;
+use crate::record::put_line;
+use ice_edge::{Sink, SinkFault};
+use ice_frac::Frac;
+use ice_journal::Line;
+use ice_round::Closing;
+use ice_terms::Name;
+use ice_vickrey::Marginal;
+use ice_write::put_record;
+
+/// Puts the cut and the surplus.
+fn put_threshold<K: Sink>(closing: &Closing, out: &mut K) -> Result<(), SinkFault>
+    requires { IsWritableClosing closing.now }
+    ensures { IsPut (bytes_of (line.threshold closing.now.payments.cut closing.now.payments.surplus ∷ [])) result
+        (K.written out.old) (K.written out.new) (K.faults out.old) (K.faults out.new) }
+{
+    let line = Line::Threshold {
+        cut: lowest_fraction(&closing.payments.cut),
+        surplus: lowest_fraction(&closing.payments.surplus),
+    };
+    put_line(&line, out)
+}
+
+/// The line of a payment.
+fn paid_line(name: Name, marginal: &Marginal, discount: &Frac, payment: &Frac) -> Line
+    requires { IsWritablePayment (record {
+      name = name;
+      vickrey = marginal.now.discount;
+      discount = discount.now;
+      payment = payment.now;
+    }) }
+    ensures { record_of result ≡ payment_record (record {
+      name = name;
+      vickrey = marginal.now.discount;
+      discount = discount.now;
+      payment = payment.now;
+    }) }
+{
+    Line::Payment {
+        name,
+        vickrey: marginal.discount as i64,
+        discount: lowest_fraction(discount),
+        payment: lowest_fraction(payment),
+    }
+}
+
+/// The line of what a bidder pays.
+fn payment_line(closing: &Closing, bidder: u8) -> Line
+    requires written { IsWritableClosing closing.now }
+    requires bidder { bidder < length closing.now.exchange.bidders }
+    ensures line { record_of result ≡ payment_record (payment_at closing.now bidder) }
+    ensures record { IsRecord (record_of result) }
+{
+    let at = usize::from(bidder);
+    paid_line(
+        closing.exchange.bidder_name(bidder).copy(),
+        &closing.marginals[at],
+        &closing.payments.discounts[at],
+        &closing.payments.payments[at],
+    )
+}
+
+/// Puts what each bidder pays, in order.
+fn put_payments<K: Sink>(closing: &Closing, out: &mut K) -> Result<(), SinkFault>
+    requires { IsWritableClosing closing.now }
+    ensures { IsPut (bytes_of (map payment_record (closed_of closing.now.exchange closing.now).payments)) result
+        (K.written out.old) (K.written out.new) (K.faults out.old) (K.faults out.new) }
+{
+    for bidder in 0..closing.exchange.bidders() {
+        put_record(&payment_line(closing, bidder), out)?;
+    }
+    Ok(())
+}
+
+/// Puts the cut and the surplus, and what each bidder pays.
+pub(crate) fn put_charges<K: Sink>(closing: &Closing, out: &mut K) -> Result<(), SinkFault>
+    requires { IsWritableClosing closing.now }
+    ensures { IsPut (bytes_of (line.threshold closing.now.payments.cut closing.now.payments.surplus
+        ∷ map payment_record (closed_of closing.now.exchange closing.now).payments)) result
+        (K.written out.old) (K.written out.new) (K.faults out.old) (K.faults out.new) }
+{
+    put_threshold(closing, out)?;
+    put_payments(closing, out)
+}
