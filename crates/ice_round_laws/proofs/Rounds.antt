@@ -57,7 +57,7 @@ run_begins ex s lawful e = subst (IsRunning []) (sym e) (begun_runs ex lawful)
 pub few_settlements : (going : List Going) (s : SessionAt) → IsRunning going s → s.number ≤ 20
 few_settlements going s run = omega (arith, run.few, run.exchange.settings.rounds)
 
-opening_going : (ex : Exchange) (number : ℕ) (o : Opening) → o.number ≡ number → opening_records ex o ≡ going_in version_2 (length (exact_of ex)) number (going_of o [])
+pub opening_going : (ex : Exchange) (number : ℕ) (o : Opening) → o.number ≡ number → opening_records ex o ≡ going_in version_2 (length (exact_of ex)) number (going_of o [])
 opening_going ex number o same =
     ap (λ (n : ℕ). opening_records ex (record o { number = n })) same ∙ sym (append-nil (opening_records ex (record o { number = number })))
 
