@@ -1,0 +1,71 @@
+//! Prices of the provisional sets, with the work that it took to find them.
+
+use crate::provisional::best_sets;
+use ice_cuts::{Work, cut_prices};
+use ice_price::{PriceEnd, Pricing, RunWork, run_prices};
+use ice_pricing::{Provisional, weighted_values};
+use ice_search::SearchEnd;
+use ice_trade::Exchange;
+use std::alloc::{AllocError, Global};
+
+// The violation, the greatest price, both over the prices' denominator, and the rows of both certificates.
+fn figures(alloc: Global, pricing: &Pricing) -> Result<String, AllocError> {
+    let prices = &pricing.prices;
+    let top = prices.nums().iter().copied().max().unwrap_or(0);
+    let den = prices.den();
+    let delta = pricing.delta;
+    let accuracy = pricing.accuracy.rows.len();
+    let balance = pricing.balance.rows.len();
+    format!(in alloc; "{delta}/{den} {top}/{den} rows {accuracy} {balance}")
+}
+
+// By cutting planes.
+fn by_cuts(alloc: Global, trade: &Provisional<'_>) -> Result<String, AllocError> {
+    let mut work = Work::none();
+    let found = cut_prices(alloc, trade, &mut work);
+    let Work {
+        turns,
+        pivots,
+        columns,
+        is_rounded,
+    } = work;
+    let text = match found {
+        Ok(pricing) => figures(alloc, &pricing)?,
+        Err(end) => format!(in alloc; "given up {end:?}")?,
+    };
+    format!(in alloc; "turns {turns} pivots {pivots} pool {columns} rounded {is_rounded} {text}")
+}
+
+// By the stated run.
+fn by_run(alloc: Global, trade: &Provisional<'_>) -> Result<String, AllocError> {
+    let mut work = RunWork::none();
+    let found = run_prices(alloc, trade, &mut work);
+    let text = match found {
+        Ok(pricing) => figures(alloc, &pricing)?,
+        Err(PriceEnd::NoMemory) => String::from_str(alloc, "no memory is left")?,
+        Err(PriceEnd::Limit(limit)) => {
+            let stage = limit.stage;
+            let kind = limit.kind;
+            let pool = limit.pool.len();
+            format!(in alloc; "limit {stage:?} {kind:?} pool {pool}")?
+        }
+    };
+    let RunWork { turns, pivots } = work;
+    format!(in alloc; "turns {turns} pivots {pivots} {text}")
+}
+
+/// What this way finds of the exchange's first provisional trade, with its work.
+pub fn measured(alloc: Global, exchange: &Exchange, way: &str) -> Result<String, AllocError> {
+    let weights = weighted_values(alloc, exchange, exchange.bounds())?;
+    let sets = match best_sets(alloc, exchange, &weights) {
+        Ok(sets) => sets,
+        Err(SearchEnd::Spent(_)) => return String::from_str(alloc, "spent"),
+        Err(SearchEnd::NoMemory) => return String::from_str(alloc, "no memory is left"),
+    };
+    let trade = Provisional::of(exchange, &weights, &sets);
+    match way {
+        "cuts" => by_cuts(alloc, &trade),
+        "run" => by_run(alloc, &trade),
+        _ => String::from_str(alloc, "sets"),
+    }
+}
