@@ -1,145 +1,43 @@
-//! Small exchanges, and sets of their bidders.
-ghost use Rattle.std.specs.Prelude.{◌≡◌, ◌≤◌, ◌<◌, IfOk, IsTrue, length};
-ghost use Rattle.std.specs.List.{AllByRecursion};
+//! Worked exchanges in line form, and sets of their bidders.
+ghost use Rattle.std.specs.Prelude.{◌≡◌, IsTrue, length};
 ghost use Rattle.ice_defs.specs.Exchange.{trees_of};
-ghost use Rattle.ice_defs.specs.Lawful.{IsLimitedTree, AreBounds};
-ghost use Rattle.ice_tree.specs.Making.{IsLeaf};
 ghost use Rattle.ice_rows.specs.Laws.{AreSatisfied};
 
-use ice_terms::Settings;
-use ice_trade::{Exchange, ExchangeMaker, MakeFault};
-use ice_tree::{Assignment, Bounds, NodeKind, NodeSet, Tree, TreeMaker};
+use ice_section::read_exchange_lines;
+use ice_trade::Exchange;
+use ice_tree::{Assignment, NodeSet};
 use std::alloc::Global;
 use std::test::Fail;
 
-/// A maker of an exchange of so many goods, at most 3, whose lower values have this weight. The cap is 100.
-fn maker(alloc: Global, weight: u8, goods: u8) -> Result<ExchangeMaker, Fail>
-    ensures { IfOk result (λ maker. length maker.goods ≡ goods) }
-{
-    let settings = Settings::new(weight, 0, 100, 1, 5, 200).ok_or("settings")?;
-    let mut maker = ExchangeMaker::new(alloc, settings)?;
-    for name in ["A", "B", "C"] {
-        if maker.goods() < goods {
-            maker.good(name)?;
-        }
-    }
-    if maker.goods() != goods {
-        return Err(Fail::from("goods"));
-    }
-    Ok(maker)
-}
+/// A seller of a unit of A, and a buyer of one.
+pub(crate) const SALE: &str = "ice 1 exchange\nsettings 50 0 100 1 5 200\ngood A\n\
+    bidder s 1\nnode sell 0 1 -15 -8\nbidder b 0\nnode buy 0 1 10 12\nend exchange\n";
 
-/// A leaf over so many goods.
-fn leaf(goods: u8, kind: NodeKind, lo: i64, hi: i64) -> Result<(Tree, Bounds), Fail>
-    requires some { 0 < goods }
-    requires few { goods ≤ 32 }
-    requires leaf { IsLeaf kind }
-    ensures tree { IfOk result (λ r. IsLimitedTree goods r.0) }
-    ensures bounds { IfOk result (λ r. AreBounds (length r.0) r.1) }
-{
-    let mut maker = TreeMaker::new(goods);
-    maker.leaf(kind, lo, hi)?;
-    Ok(maker.finish()?)
-}
-
-/// Buying a unit of A for 10, or selling one for 0.
-fn buys_or_sells() -> Result<(Tree, Bounds), Fail>
-    ensures tree { IfOk result (λ r. IsLimitedTree 1 r.0) }
-    ensures bounds { IfOk result (λ r. AreBounds (length r.0) r.1) }
-{
-    let mut maker = TreeMaker::new(1);
-    maker.open_choose(1, 1, 0, 0)?;
-    maker.leaf(NodeKind::Buy { good: 0, units: 1 }, 10, 10)?;
-    maker.leaf(NodeKind::Sell { good: 0, units: 1 }, 0, 0)?;
-    maker.close()?;
-    Ok(maker.finish()?)
-}
-
-/// Buying a unit of A, one of B and 983 of C for 5,001 together.
-fn buys_all_three() -> Result<(Tree, Bounds), Fail>
-    ensures tree { IfOk result (λ r. IsLimitedTree 3 r.0) }
-    ensures bounds { IfOk result (λ r. AreBounds (length r.0) r.1) }
-{
-    let mut maker = TreeMaker::new(3);
-    maker.open_choose(3, 3, 5001, 5001)?;
-    maker.leaf(NodeKind::Buy { good: 0, units: 1 }, 0, 0)?;
-    maker.leaf(NodeKind::Buy { good: 1, units: 1 }, 0, 0)?;
-    maker.leaf(
-        NodeKind::Buy {
-            good: 2,
-            units: 983,
-        },
-        0,
-        0,
-    )?;
-    maker.close()?;
-    Ok(maker.finish()?)
-}
-
-/// Adds a bidder to an exchange of so many goods.
-fn add(
-    maker: &mut ExchangeMaker,
-    goods: u8,
-    name: &str,
-    own: &[u32],
-    tree: Tree,
-    bounds: Bounds,
-) -> Result<u8, MakeFault>
-    requires goods { length maker.old.goods ≡ goods }
-    requires count { length own.now ≡ goods }
-    requires own { AllByRecursion (λ amount. amount ≤ 1000000) own.now }
-    requires tree { IsLimitedTree goods tree }
-    requires bounds { AreBounds (length tree) bounds }
-    ensures { length maker.new.goods ≡ goods }
-{
-    maker.bidder(name, own, tree, bounds)
-}
-
-/// A seller that owns a unit of A, and a buyer of one, with the bounds of their values.
-pub(crate) fn sale(
-    alloc: Global,
-    weight: u8,
-    sold: (i64, i64),
-    bought: (i64, i64),
-) -> Result<Exchange, Fail> {
-    let mut maker = maker(alloc, weight, 1)?;
-    let (tree, bounds) = leaf(1, NodeKind::Sell { good: 0, units: 1 }, sold.0, sold.1)?;
-    add(&mut maker, 1, "s", &[1], tree, bounds)?;
-    let (tree, bounds) = leaf(1, NodeKind::Buy { good: 0, units: 1 }, bought.0, bought.1)?;
-    add(&mut maker, 1, "b", &[0], tree, bounds)?;
-    Ok(maker.finish()?)
-}
+/// The same with other bounds, whose lower values have a weight of 60.
+pub(crate) const OTHER_SALE: &str = "ice 1 exchange\nsettings 60 0 100 1 5 200\ngood A\n\
+    bidder s 1\nnode sell 0 1 -15 -15\nbidder b 0\nnode buy 0 1 10 20\nend exchange\n";
 
 /// Three bidders that own a unit of A each, and may buy one for 10 or sell one for 0.
-pub(crate) fn three_alike(alloc: Global) -> Result<Exchange, Fail> {
-    let mut maker = maker(alloc, 50, 1)?;
-    for name in ["x", "y", "z"] {
-        let (tree, bounds) = buys_or_sells()?;
-        add(&mut maker, 1, name, &[1], tree, bounds)?;
-    }
-    Ok(maker.finish()?)
-}
+pub(crate) const THREE_ALIKE: &str = "ice 1 exchange\nsettings 50 0 100 1 5 200\ngood A\n\
+    bidder x 1\nnode choose 1 1 2 0 0\nnode buy 0 1 10 10\nnode sell 0 1 0 0\n\
+    bidder y 1\nnode choose 1 1 2 0 0\nnode buy 0 1 10 10\nnode sell 0 1 0 0\n\
+    bidder z 1\nnode choose 1 1 2 0 0\nnode buy 0 1 10 10\nnode sell 0 1 0 0\nend exchange\n";
 
 /// A seller of 997 units of A and one of 991 units of B, and a buyer of all three goods that no one can serve: of
 /// prices at which no one would rather trade, the greatest one is least at one place alone, and there the prices have a
 /// denominator of 100 * 997 * 991 * 983.
-pub(crate) fn three_primes(alloc: Global) -> Result<Exchange, Fail> {
-    let mut maker = maker(alloc, 33, 3)?;
-    let sold = NodeKind::Sell {
-        good: 0,
-        units: 997,
-    };
-    let (tree, bounds) = leaf(3, sold, -1001, -1000)?;
-    add(&mut maker, 3, "s", &[997, 0, 0], tree, bounds)?;
-    let sold = NodeKind::Sell {
-        good: 1,
-        units: 991,
-    };
-    let (tree, bounds) = leaf(3, sold, -1001, -1000)?;
-    add(&mut maker, 3, "t", &[0, 991, 0], tree, bounds)?;
-    let (tree, bounds) = buys_all_three()?;
-    add(&mut maker, 3, "b", &[0, 0, 0], tree, bounds)?;
-    Ok(maker.finish()?)
+pub(crate) const THREE_PRIMES: &str =
+    "ice 1 exchange\nsettings 33 0 100 1 5 200\ngood A\ngood B\ngood C\n\
+    bidder s 997 0 0\nnode sell 0 997 -1001 -1000\nbidder t 0 991 0\nnode sell 1 991 -1001 -1000\n\
+    bidder b 0 0 0\nnode choose 3 3 3 5001 5001\nnode buy 0 1 0 0\nnode buy 1 1 0 0\nnode buy 2 983 0 0\n\
+    end exchange\n";
+
+/// The exchange that the lines describe.
+pub(crate) fn exchange(alloc: Global, lines: &str) -> Result<Exchange, Fail> {
+    match read_exchange_lines(alloc, lines.as_bytes()) {
+        Ok(exchange) => Ok(exchange),
+        Err(_) => Err("no exchange")?,
+    }
 }
 
 /// The root of a tree of three nodes and one of its leaves, or the empty set where there is no such leaf.

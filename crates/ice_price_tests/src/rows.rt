@@ -1,7 +1,9 @@
 //! Worked prices, and certificates that pass or fail the tests.
 ghost use Rattle.std.specs.Prelude.{◌≡◌, length};
 
-use crate::markets::{are_satisfied, sale, sets_with, three_alike, three_primes, with_leaf};
+use crate::markets::{
+    OTHER_SALE, SALE, THREE_ALIKE, THREE_PRIMES, are_satisfied, exchange, sets_with, with_leaf,
+};
 use ice_price::{LimitKind, PriceEnd, price};
 use ice_pricing::{Certificate, CertificateRow, Pricing, Scratch, check_pricing, weighted_values};
 use ice_terms::Prices;
@@ -55,11 +57,8 @@ fn certificate(alloc: Global, den: u64, leaves: &[(u8, u16)]) -> Result<Certific
 #[test]
 fn prices_of_empty_sets(rt: HostRuntime) -> Result<(), Fail> {
     let alloc = rt.alloc();
-    for (weight, sold, bought, wanted) in [
-        (50, (-15, -8), (10, 12), 11),
-        (60, (-15, -15), (10, 20), 14),
-    ] {
-        let exchange = sale(alloc, weight, sold, bought)?;
+    for (lines, wanted) in [(SALE, 11), (OTHER_SALE, 14)] {
+        let exchange = exchange(alloc, lines)?;
         let sets = sets_with(alloc, &exchange, &[])?;
         let pricing = priced(alloc, &exchange, &sets)??;
         assert_eq!(rt; pricing.prices.den(), 1);
@@ -73,7 +72,7 @@ fn prices_of_empty_sets(rt: HostRuntime) -> Result<(), Fail> {
 #[test]
 fn prices_that_one_bidder_minds(rt: HostRuntime) -> Result<(), Fail> {
     let alloc = rt.alloc();
-    let exchange = three_alike(alloc)?;
+    let exchange = exchange(alloc, THREE_ALIKE)?;
     let sets = sets_with(alloc, &exchange, &[(0, 1), (1, 2)])?;
     let pricing = priced(alloc, &exchange, &sets)??;
     assert_eq!(rt; pricing.prices.den(), 1);
@@ -86,7 +85,7 @@ fn prices_that_one_bidder_minds(rt: HostRuntime) -> Result<(), Fail> {
 #[test]
 fn certificates_of_prices(rt: HostRuntime) -> Result<(), Fail> {
     let alloc = rt.alloc();
-    let exchange = three_alike(alloc)?;
+    let exchange = exchange(alloc, THREE_ALIKE)?;
     let sets = sets_with(alloc, &exchange, &[(0, 1), (1, 2)])?;
     // Buying and selling are worth 1,000 to the third bidder, whose set is empty; balance has its buying alone.
     for (num, delta, den, wanted) in [
@@ -124,7 +123,7 @@ fn limit(alloc: Global, exchange: &Exchange) -> Result<Option<LimitKind>, Fail> 
 #[test]
 fn prices_over_a_long_denominator(rt: HostRuntime) -> Result<(), Fail> {
     let alloc = rt.alloc();
-    let exchange = three_primes(alloc)?;
+    let exchange = exchange(alloc, THREE_PRIMES)?;
     assert_eq!(rt; limit(alloc, &exchange)?, Some(LimitKind::Den));
     Ok(())
 }
