@@ -6,7 +6,7 @@ use ice_tree::TreeFault;
 use std::alloc::Global;
 use std::test::Fail;
 
-const CAUSES: [(ReadCause, &str); 8] = [
+const CAUSES: [(ReadCause, &str); 10] = [
     (ReadCause::NotJson, "this is not JSON"),
     (
         ReadCause::Shape,
@@ -15,6 +15,8 @@ const CAUSES: [(ReadCause, &str); 8] = [
     (ReadCause::NotWhole, "this number is not whole"),
     (ReadCause::Range, "this is out of range"),
     (ReadCause::UnknownGood, "there is no good of this name"),
+    (ReadCause::NoUnits, "a package has no good"),
+    (ReadCause::NoPackages, "a bidder has no package"),
     (
         ReadCause::Tree(TreeFault::Crossed),
         "the lower value is above the upper one",
