@@ -138,30 +138,40 @@ fn many_bidders(alloc: Global) -> Result<String, Fail> {
     Ok(bidders)
 }
 
-/// Calls `best` on an exchange file and the prices, and compares what it writes.
-fn expect_answer<R: Abort + AllocGlobal>(
+/// Calls a command on an exchange file `e` and a prices file `p`, and compares what it writes and how it ends.
+fn expect<R: Abort + AllocGlobal>(
     rt: &R,
+    words: &[&str],
     exchange: &[u8],
     output: &str,
+    wanted: Status,
 ) -> Result<(), Fail> {
     let alloc = rt.alloc();
     let mut shelf = MemShelf::new(alloc)?;
     shelf.add("e", exchange)?;
     shelf.add("p", PRICES.as_bytes())?;
     let mut out = MemSink::new(alloc, 256)?;
-    let mut words = Vec::new(alloc);
-    for word in ["best", "e", "p"] {
-        words.push(String::from_str(alloc, word)?)?;
+    let mut all = Vec::new(alloc);
+    for word in words {
+        all.push(String::from_str(alloc, word)?)?;
     }
-    let status = serve(alloc, &words, &mut shelf, &mut out);
+    let status = serve(alloc, &all, &mut shelf, &mut out);
     assert_eq!(rt; out.bytes(), output.as_bytes());
-    let wanted = if output.starts_with("best") {
-        Status::Done
-    } else {
-        Status::Input
-    };
     assert_eq!(rt; status, wanted);
     Ok(())
+}
+
+/// What `best` writes of an exchange file and the prices; where it refuses the file, `regret` does so with the same text.
+fn expect_answer<R: Abort + AllocGlobal>(
+    rt: &R,
+    exchange: &[u8],
+    output: &str,
+) -> Result<(), Fail> {
+    if output.starts_with("best") {
+        return expect(rt, &["best", "e", "p"], exchange, output, Status::Done);
+    }
+    expect(rt, &["best", "e", "p"], exchange, output, Status::Input)?;
+    expect(rt, &["regret", "e"], exchange, output, Status::Input)
 }
 
 #[test]
@@ -186,4 +196,54 @@ fn limits_of_json_exchanges_are_kept(rt: HostRuntime) -> Result<(), Fail> {
     expect_answer(&rt, bidders.as_bytes(), "refused 1 12 bidders.40\n")?;
     let long = vec![in alloc; b' '; 16_777_217]?;
     expect_answer(&rt, &long, "refused 1 61 -\n")
+}
+
+/// Files in line form, each with the refusal of its first fault.
+const LINES: [(&str, &str); 11] = [
+    ("ice 1 assign\n", "refused 1 50 1\n"),
+    ("ice 1 exchange\n", "refused 1 50 2\n"),
+    (
+        "ice 1 exchange\nsettings 50 0 100 1 5 200\ngood A\nend exchange",
+        "refused 1 51 4\n",
+    ),
+    (
+        "ice 1 exchange\nsettings 50 0 100 1 5 200\ngood A\ngood A\n",
+        "refused 1 10 4\n",
+    ),
+    (
+        "ice 1 exchange\nsettings 50 0 100 1 5 200\ngood A\nbidder s 1 2\n",
+        "refused 1 50 4\n",
+    ),
+    (
+        "ice 1 exchange\nsettings 50 0 100 1 5 200\ngood A\nbidder s 1\nnode sell 1 1 0 0\n",
+        "refused 1 5 5\n",
+    ),
+    (
+        "ice 1 exchange\nsettings 50 0 100 1 5 200\ngood A\nbidder s 0\nnode sell 0 1 0 0\n",
+        "refused 1 14 5\n",
+    ),
+    (
+        "ice 1 exchange\nsettings 50 0 100 1 5 200\ngood A\nbidder b 0\nnode choose 0 0 0 0 0\n",
+        "refused 1 20 5\n",
+    ),
+    (
+        "ice 1 exchange\nsettings 50 0 100 1 5 200\ngood A\nbidder b 0\nnode buy 0 1 30 20\n",
+        "refused 1 21 5\n",
+    ),
+    (
+        "ice 1 exchange\nsettings 50 0 100 1 5 200\ngood A\nbidder b 0\nnode buy 0 1 1 1\nbidder b 0\nnode buy 0 1 1 1\n",
+        "refused 1 11 7\n",
+    ),
+    (
+        "ice 1 exchange\nsettings 50 0 100 1 5 200\ngood A\nbidder b 0\nnode choose 1 1 2 0 0\nnode buy 0 1 1 1\n",
+        "refused 1 50 7\n",
+    ),
+];
+
+#[test]
+fn exchanges_in_line_form_are_refused(rt: HostRuntime) -> Result<(), Fail> {
+    for (exchange, output) in LINES {
+        expect_answer(&rt, exchange.as_bytes(), output)?;
+    }
+    Ok(())
 }

@@ -24,6 +24,8 @@ mod serve;
 mod tests;
 mod words;
 mod xor;
+#[cfg(test)]
+mod xor_tests;
 
 use ice_edge::{DirShelf, Status, StdSink};
 use std::process::ExitCode;
