@@ -3,6 +3,10 @@
 #![tactic(auto)]
 
 #[cfg(test)]
+mod found;
+#[cfg(test)]
 mod journals;
 #[cfg(test)]
 mod samples;
+#[cfg(test)]
+mod sessions;
