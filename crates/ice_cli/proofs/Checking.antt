@@ -1,7 +1,7 @@
 -- From the checker's answer on a file, or why there is none, to what `check` answers.
 use Rattle.std.proofs.Common.{◌≡◌, ◌∙◌, refl, ap, ℕ, List, Ok}
 use Rattle.ice_journal_laws.specs.declared.answer.Answer.{Answer}
-use Rattle.ice_journal_laws.specs.declared.answer.Answer.TheVariants.{Assign, Regret, No}
+use Rattle.ice_journal_laws.specs.declared.answer.Answer.TheVariants.{Assign, Regret, Closed, No}
 use Rattle.ice_journal_laws.specs.Answers.{AnswersBytes}
 use Rattle.ice_edge.specs.Told.{Told}
 use Rattle.ice_cli.specs.declared.refusal.Refusal.{Refusal}
@@ -19,6 +19,8 @@ answer_answers before after file (Assign value) (bytes, is, told) call part text
     (Assign value, (bytes, is, told_in_call call before after file journal_limit (λ other. other ≡ bytes) part told), refl, text)
 answer_answers before after file (Regret amount) (bytes, is, told) call part text =
     (Regret amount, (bytes, is, told_in_call call before after file journal_limit (λ other. other ≡ bytes) part told), refl, text)
+answer_answers before after file (Closed regret surplus) (bytes, is, told) call part text =
+    (Closed regret surplus, (bytes, is, told_in_call call before after file journal_limit (λ other. other ≡ bytes) part told), refl, text)
 answer_answers before after file (No line rule) (bytes, is, told) call part text =
     (No line rule, (bytes, is, told_in_call call before after file journal_limit (λ other. other ≡ bytes) part told), refl, text)
 

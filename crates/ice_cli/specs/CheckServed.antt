@@ -7,7 +7,7 @@ use Rattle.ice_journal_laws.specs.declared.answer.Answer.{Answer}
 use Rattle.ice_journal_laws.specs.declared.answer.Answer.TheVariants as answer
 use Rattle.ice_journal_laws.specs.declared.answer.CheckEnd.{CheckEnd}
 use Rattle.ice_journal_laws.specs.declared.answer.CheckEnd.TheVariants as ending
-use Rattle.ice_journal_laws.specs.Theorems.{of_assigned, of_regret}
+use Rattle.ice_journal_laws.specs.Theorems.{of_assigned, of_regret, of_session}
 use Rattle.ice_journal_laws.specs.Answers.{AnswersBytes}
 use Rattle.ice_cli.specs.Call.{Call, FaultRose, journal_limit, OfFile, IsRefused}
 use Rattle.ice_cli.specs.Output.{yes_line, no_line, refused_line, unread_line}
@@ -28,11 +28,13 @@ IsCheckFault bytes fault = (end : CheckEnd) × AnswersBytes bytes (Err end) × I
 abbrev pub answer_line : Answer → List ℕ
 answer_line (answer.Assign value) = yes_line (of_assigned value)
 answer_line (answer.Regret amount) = yes_line (of_regret amount)
+answer_line (answer.Closed regret surplus) = yes_line (of_session regret surplus)
 answer_line (answer.No line rule) = no_line (record { line = line; rule = rule })
 
 abbrev pub answer_status : Answer → Status
 answer_status (answer.Assign value) = Done
 answer_status (answer.Regret amount) = Done
+answer_status (answer.Closed regret surplus) = Done
 answer_status (answer.No line rule) = No
 
 -- the checker has this answer to the bytes of the file, which are those that are told

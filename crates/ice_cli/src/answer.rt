@@ -1,5 +1,7 @@
 //! The line of the checker's answer.
-ghost use Rattle.std.specs.Prelude.{◌≡◌, [], ◌≤◌, length};
+ghost use Rattle.std.specs.Prelude.{◌≡◌, [], ◌+◌, ◌≤◌, length};
+ghost use Rattle.ice_line.specs.Writing.{with_field};
+ghost use Rattle.ice_journal.specs.Spelling.{fraction_text};
 ghost use Rattle.ice_cli.specs.Output.{rule_word};
 ghost use Rattle.ice_cli.specs.Parts.{IsSaid};
 ghost use Rattle.ice_cli.specs.CheckServed.{answer_line, answer_status};
@@ -7,6 +9,7 @@ ghost use Rattle.ice_cli.specs.CheckServed.{answer_line, answer_status};
 use crate::say::ended;
 use ice_check::{Answer, Rule};
 use ice_edge::{Sink, Status};
+use ice_frac::Frac;
 use ice_line::LineWriter;
 
 /// The word that a rule is printed as.
@@ -42,6 +45,15 @@ fn rule_word(rule: Rule) -> &'static [u8]
     }
 }
 
+/// A fraction in lowest terms.
+fn write_fraction(fraction: &Frac, to: &mut LineWriter)
+    requires { length to.old ≤ 1000 }
+    ensures field { to.new ≡ with_field to.old (fraction_text fraction.now) }
+    ensures len { length to.new ≤ length to.old + 82 }
+{
+    to.fraction(fraction.num(), fraction.den() as i128);
+}
+
 /// Its line with the newline, written into an empty writer.
 fn write_answer<'a>(answer: &Answer, to: &'a mut LineWriter) -> &'a [u8]
     requires { to.old ≡ [] }
@@ -51,6 +63,11 @@ fn write_answer<'a>(answer: &Answer, to: &'a mut LineWriter) -> &'a [u8]
         Answer::Assign { value: amount } | Answer::Regret { amount } => {
             to.word(b"yes");
             to.number(*amount);
+        }
+        Answer::Closed { regret, surplus } => {
+            to.word(b"yes");
+            to.number(*regret);
+            write_fraction(surplus, to);
         }
         Answer::No { line, rule } => {
             to.word(b"no");
@@ -66,7 +83,7 @@ fn status_of(answer: &Answer) -> Status
     ensures { result ≡ answer_status answer.now }
 {
     match answer {
-        Answer::Assign { .. } | Answer::Regret { .. } => Status::Done,
+        Answer::Assign { .. } | Answer::Regret { .. } | Answer::Closed { .. } => Status::Done,
         Answer::No { .. } => Status::No,
     }
 }
