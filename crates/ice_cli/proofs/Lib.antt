@@ -19,3 +19,13 @@ pub mod RegretJournal
 pub mod Regretting
 -- what `xor` answers
 pub mod Translating
+-- faults of round files as records
+pub mod RoundFaults
+-- the rounds of a run's journal are the bids of its files
+pub mod RunRounds
+-- the journal that `run` writes is one of which its contract speaks
+pub mod RunJournal
+-- bids that are judged and put one after another
+pub mod RunJudging
+-- the steps of a run: each is put behind what was put before
+pub mod RunPlaying

@@ -75,7 +75,7 @@ use Rattle.ice_cli.specs.RegretJournal.{begun_records, final_records, rival_reco
 
 -- ---- the exchange of a file
 
-told_also : (told : Option (Option (List ℕ))) (limit : ℕ) (P Q : List ℕ → Type 0) → ((bytes : List ℕ) → P bytes → Q bytes) → OfTold limit P told → OfTold limit Q told
+pub told_also : (told : Option (Option (List ℕ))) (limit : ℕ) (P Q : List ℕ → Type 0) → ((bytes : List ℕ) → P bytes → Q bytes) → OfTold limit P told → OfTold limit Q told
 told_also None limit P Q also h = tt
 told_also (Some None) limit P Q also h = h
 told_also (Some (Some bytes)) limit P Q also h = (h.0, also bytes h.1)

@@ -1,4 +1,4 @@
--- Exchange and prices files.
+-- Exchange, prices and round files.
 use Rattle.std.specs.Prelude.{ℕ, ◌≡◌, ◌==◌, Bool, true, false, List, [], ◌∷◌, Option, Some, None, Ok, Err}
 use Rattle.ice_edge.specs.Told.{Told}
 use Rattle.ice_defs.specs.Prices.{Prices}
@@ -8,7 +8,9 @@ use Rattle.ice_section.specs.FaultNumbers.{line_cause_number}
 use Rattle.ice_section.specs.LineFile.{IsExchangeOfLines, IsPricesOfLines}
 use Rattle.ice_section.specs.declared.faults.LineFileFault.{LineFileFault}
 use Rattle.ice_section.specs.declared.faults.LineFileFault.TheVariants as fault
+use Rattle.ice_defs.specs.Round.{Submission}
 use Rattle.ice_read.specs.ExchangeFile.{exchange_of}
+use Rattle.ice_read.specs.RoundFile.{bids_of}
 use Rattle.ice_read.specs.declared.fault.ReadFault.{ReadFault}
 use Rattle.ice_read.specs.Cause.{cause_number}
 use Rattle.ice_cli.specs.declared.refusal.FileFault.TheVariants.{AtLine, AtPlace}
@@ -37,6 +39,10 @@ IsExchangeFault bytes fault = IsExchangeOf bytes (Err fault)
 abbrev pub IsPricesFault : ℕ → List ℕ → FileFault → Type 0
 IsPricesFault goods bytes fault = IsPricesOfLines goods bytes (Err fault)
 
+-- a fault of a round's bids
+abbrev pub IsRoundFault : List ℕ → FileFault → Type 0
+IsRoundFault bytes fault = bids_of bytes ≡ Err fault
+
 -- the file of this name, where it is told, is this exchange
 abbrev pub HoldsExchange : Told → List ℕ → Exchange → Type 0
 HoldsExchange shelf name exchange = OfTold file_limit (λ bytes. IsExchangeOf bytes (Ok exchange)) (shelf.holds name)
@@ -44,6 +50,10 @@ HoldsExchange shelf name exchange = OfTold file_limit (λ bytes. IsExchangeOf by
 -- the file of this name, where it is told, has these prices for so many goods
 abbrev pub HoldsPrices : Told → List ℕ → ℕ → Prices → Type 0
 HoldsPrices shelf name goods prices = OfTold file_limit (λ bytes. IsPricesOfLines goods bytes (Ok prices)) (shelf.holds name)
+
+-- the file of this name, where it is told, has these bids
+abbrev pub HoldsBids : Told → List ℕ → List Submission → Type 0
+HoldsBids shelf name bids = OfTold file_limit (λ bytes. bids_of bytes ≡ Ok bids) (shelf.holds name)
 
 -- a fault with this number at a line of the file; want of memory has no number
 abbrev pub IsRefusalAt : ℕ → Option ℕ → ℕ → Refusal → Type 0

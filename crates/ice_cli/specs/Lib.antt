@@ -12,6 +12,10 @@ pub mod BestFound
 pub mod Journals
 pub mod RegretServed
 pub mod RegretJournal
+pub mod Rounds
+pub mod RunServed
+pub mod RunJournal
+pub mod RunSteps
 pub mod XorServed
 pub mod XorParts
 pub mod Served
