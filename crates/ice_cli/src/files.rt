@@ -2,11 +2,13 @@
 ghost use Rattle.std.specs.Prelude.{◌≡◌, IfOk, IfErr, Ok as Found};
 ghost use Rattle.ice_section.specs.LineFile.{IsPricesOfLines};
 ghost use Rattle.ice_edge.specs.Told.{IsLater};
-ghost use Rattle.ice_cli.specs.Files.{is_line_form, IsExchangeOf, IsExchangeFault, IsPricesFault, HoldsExchange, HoldsPrices, IsLineRefusal, IsPlaceRefusal};
+ghost use Rattle.ice_read.specs.RoundFile.{bids_of as read_bids};
+ghost use Rattle.ice_cli.specs.Files.{is_line_form, IsExchangeOf, IsExchangeFault, IsPricesFault, IsRoundFault, HoldsExchange, HoldsPrices, HoldsBids, IsLineRefusal, IsPlaceRefusal};
 ghost use Rattle.ice_cli.specs.Parts.{AreFetched};
 ghost use Rattle.ice_cli.specs.Refusals.{NoFault, IsFaultOf, Refuses};
 
 use crate::refusal::{FileFault, Refusal};
+use ice_bid::Bid;
 use ice_edge::{FetchFault, Shelf};
 use ice_read::ReadFault;
 use ice_section::{LineFileFault, read_exchange_lines, read_prices_lines};
@@ -111,6 +113,17 @@ fn prices_of(file: u8, bytes: &[u8], goods: u8) -> Result<Prices, Refusal>
     }
 }
 
+/// The bids of the bytes of the round file with this number.
+fn bids_of(alloc: Global, file: u8, bytes: &[u8]) -> Result<Vec<Bid>, Refusal>
+    ensures bids { IfOk result (λ bids. read_bids bytes.now ≡ Found bids.items) }
+    ensures refusal { IfErr result (IsFaultOf file (IsRoundFault bytes.now)) }
+{
+    match ice_read::read_round(alloc, bytes) {
+        Ok(bids) => Ok(bids),
+        Err(fault) => Err(place_refusal(file, fault)),
+    }
+}
+
 /// The exchange of the file with this number and name, or why there is none.
 pub fn read_exchange<H: Shelf>(
     alloc: Global,
@@ -142,4 +155,20 @@ pub fn read_prices<H: Shelf>(
 {
     let bytes = fetch(alloc, file, name, FILE_LIMIT, shelf)?;
     prices_of(file, &bytes, goods)
+}
+
+/// The bids of the round file with this number and name, or why there are none.
+pub fn read_round<H: Shelf>(
+    alloc: Global,
+    file: u8,
+    name: &str,
+    shelf: &mut H,
+) -> Result<Vec<Bid>, Refusal>
+    ensures bids { IfOk result (λ bids. HoldsBids (H.told shelf.old) name.now bids.items) }
+    ensures refusal { IfErr result
+        (Refuses file name.now FILE_LIMIT IsRoundFault (H.told shelf.old) (H.told shelf.new)) }
+    ensures later { IsLater (H.told shelf.old) (H.told shelf.new) }
+{
+    let bytes = fetch(alloc, file, name, FILE_LIMIT, shelf)?;
+    bids_of(alloc, file, &bytes)
 }

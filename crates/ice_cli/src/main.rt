@@ -18,6 +18,7 @@ mod regret;
 mod regret_journal;
 #[cfg(test)]
 mod regret_tests;
+mod run_journal;
 mod say;
 mod serve;
 #[cfg(test)]
