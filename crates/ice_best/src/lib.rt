@@ -8,8 +8,6 @@ mod fill;
 mod fixing;
 mod nets;
 mod sale;
-#[cfg(test)]
-mod tests;
 
 pub use best_set::best;
 pub use fill::Scratch;

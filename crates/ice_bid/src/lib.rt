@@ -2,8 +2,6 @@
 #![tactic(auto)]
 
 mod bid;
-#[cfg(test)]
-mod tests;
 
 pub use bid::Bid;
 pub use ice_terms::Name;

@@ -12,8 +12,6 @@ mod laws;
 mod multipliers;
 mod net;
 mod room;
-#[cfg(test)]
-mod tests;
 mod total_units;
 
 pub use answer::{Bound, NetSum};

@@ -4,8 +4,6 @@
 mod certified;
 mod gains;
 mod sums;
-#[cfg(test)]
-mod tests;
 
 pub use gains::{Excess, Scratch, best_excess};
 pub use sums::{RowSums, units_above, worth_above};

@@ -10,6 +10,3 @@ pub use fields::Fields;
 pub use numbers::{integer, natural, number};
 pub use reader::{LineFault, LineReader, split_line};
 pub use writer::LineWriter;
-
-#[cfg(test)]
-mod tests;

@@ -92,6 +92,3 @@ pub fn solve(alloc: Global, program: &Program, pivots: &mut u32) -> Result<LpAns
     let entering = run(alloc, &mut dictionary, pivots)?;
     Ok(read(alloc, program, &dictionary, entering)?)
 }
-
-#[cfg(test)]
-mod tests;

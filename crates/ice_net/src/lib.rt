@@ -2,8 +2,6 @@
 #![tactic(auto)]
 
 mod nets;
-#[cfg(test)]
-mod tests;
 
 pub use ice_best::Scratch;
 pub use nets::{BestAtPrices, best_at_prices, net};

@@ -7,8 +7,6 @@ mod judge;
 mod laws;
 mod sides;
 mod step;
-#[cfg(test)]
-mod tests;
 mod walk;
 
 pub use check::check_log;

@@ -1,16 +1,12 @@
 //! The activity rules: whether new bounds of a bidder are tight enough.
 #![tactic(auto)]
 
-#[cfg(test)]
-mod comparison;
 mod gains;
 mod judging;
 mod laws;
 mod profiles;
 mod rules;
 mod standing;
-#[cfg(test)]
-mod tests;
 
 pub use gains::loss;
 pub use ice_best::Scratch;

@@ -13,8 +13,6 @@ mod openness;
 mod operations;
 mod polishing;
 mod relaxation;
-#[cfg(test)]
-mod tests;
 mod trial;
 
 pub use candidates::{Candidate, Candidates, pick};

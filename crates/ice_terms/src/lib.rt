@@ -8,6 +8,3 @@ mod settings;
 pub use name::Name;
 pub use prices::Prices;
 pub use settings::Settings;
-
-#[cfg(test)]
-mod tests;

@@ -15,6 +15,3 @@ pub use exchange::Exchange;
 pub use faults::{MakeFault, TradeFault};
 pub use ice_terms::{Name, Prices, Settings};
 pub use maker::ExchangeMaker;
-
-#[cfg(test)]
-mod tests;

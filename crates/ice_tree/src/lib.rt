@@ -6,8 +6,6 @@ mod bounds;
 mod faults;
 mod maker;
 mod rows;
-#[cfg(test)]
-mod tests;
 mod tree;
 mod units;
 mod weights;

@@ -1,0 +1,265 @@
+//! Worked values: a seller of a unit at -10 and a buyer of it at 20, and a side that no set meets.
+ghost use Rattle.std.specs.Prelude.{◌≡◌, ◌<◌, ◌≤◌, [], ◌∷◌, length, true, false, pos, neg_ℤ, IfOk};
+ghost use Rattle.ice_defs.specs.Lawful.{AreBounds};
+ghost use Rattle.ice_defs.specs.Trade.{tree_of};
+ghost use Rattle.ice_bound.specs.Conditions.{AreWeightsOf, AreBoundsOf, AreFixingsOf};
+
+use ice_best::{Fixings, Mark};
+use ice_bound::{Bound, Desk, Kept, Multipliers, NetSum, bound, bound_here};
+use ice_tree::{AllWeights, Bounds, NodeKind, Tree, TreeFault, TreeMaker};
+use std::alloc::{AllocError, Global};
+use std::test::Fail;
+
+/// A tree of one leaf that sells units of the one good.
+fn sells(units: u16, value: i64) -> Result<(Tree, Bounds), TreeFault>
+    ensures bounds { IfOk result (λ r. AreBounds (length r.0) r.1) }
+    ensures node { IfOk result (λ r. 0 < length r.0) }
+{
+    let mut maker = TreeMaker::new(1);
+    maker.leaf(NodeKind::Sell { good: 0, units }, value, value)?;
+    let (tree, bounds) = maker.finish()?;
+    let _nodes = tree.nodes();
+    Ok((tree, bounds))
+}
+
+/// A tree of one leaf that buys a unit of the one good.
+fn buys(value: i64) -> Result<(Tree, Bounds), TreeFault>
+    ensures bounds { IfOk result (λ r. AreBounds (length r.0) r.1) }
+{
+    let mut maker = TreeMaker::new(1);
+    maker.leaf(NodeKind::Buy { good: 0, units: 1 }, value, value)?;
+    maker.finish()
+}
+
+/// A node that may have its one leaf, which buys a unit, or not.
+fn may_buy(value: i64) -> Result<(Tree, Bounds), TreeFault>
+    ensures bounds { IfOk result (λ r. AreBounds (length r.0) r.1) }
+    ensures nodes { IfOk result (λ r. length r.0 ≡ 2) }
+{
+    let mut maker = TreeMaker::new(1);
+    maker.open_choose(0, 1, 0, 0)?;
+    maker.leaf(NodeKind::Buy { good: 0, units: 1 }, value, value)?;
+    maker.close()?;
+    maker.finish()
+}
+
+/// The lower values as weights.
+fn lower(alloc: Global, trees: &[Tree], bounds: &[Bounds]) -> Result<AllWeights, AllocError>
+    requires { AreBoundsOf trees.now bounds.now }
+    ensures { IfOk result (AreWeightsOf trees.now) }
+{
+    let mut weights = AllWeights::new(alloc, trees)?;
+    weights.fill_lower(bounds);
+    Ok(weights)
+}
+
+/// A desk for the trees, with every node free.
+fn desk(alloc: Global, trees: &[Tree], exact: &[bool]) -> Result<Desk, AllocError>
+    requires { length exact.now ≤ 32 }
+    ensures marks { IfOk result (λ desk. AreFixingsOf trees.now desk.marks) }
+    ensures exact { IfOk result (λ desk. desk.room ≡ exact.now) }
+{
+    Desk::new(alloc, trees, exact)
+}
+
+/// Every node free.
+fn free(alloc: Global, trees: &[Tree]) -> Result<Fixings, AllocError>
+    ensures { IfOk result (AreFixingsOf trees.now) }
+{
+    Fixings::free(alloc, trees)
+}
+
+/// Marks a node.
+fn mark(trees: &[Tree], marks: &mut Fixings, bidder: u8, node: u16, mark: Mark)
+    requires marks { AreFixingsOf trees.now marks.old }
+    requires bidder { bidder < length trees.now }
+    requires node { node < length (tree_of trees.now bidder) }
+    ensures { AreFixingsOf trees.now marks.new }
+{
+    let _bidders = trees.len();
+    marks.mark(bidder, node, mark);
+}
+
+/// A multiplier of one good, 0 or more.
+fn at(number: u16) -> Multipliers
+    ensures { result ≡ pos number ∷ [] }
+{
+    let mut m = Multipliers::zero(1);
+    m.put(0, i64::from(number));
+    m
+}
+
+/// A multiplier of one good, 0 or less.
+fn below(number: u16) -> Multipliers
+    ensures { result ≡ neg_ℤ (pos number) ∷ [] }
+{
+    let mut m = Multipliers::zero(1);
+    m.put(0, -i64::from(number));
+    m
+}
+
+#[test]
+fn multipliers_are_kept(rt: HostRuntime) {
+    let mut m = Multipliers::zero(2);
+    m.put(1, -576);
+    let copy = m.copy();
+    assert_eq!(rt; copy.len(), 2);
+    assert_eq!(rt; copy.get(0), 0);
+    assert_eq!(rt; copy.get(1), -576);
+}
+
+#[test]
+fn bounds_of_a_small_market(rt: HostRuntime) -> Result<(), Fail> {
+    let alloc = rt.alloc();
+    let (seller, asked) = sells(1, -10)?;
+    let (buyer, offered) = buys(20)?;
+    let trees = [seller, buyer];
+    let bounds = [asked, offered];
+    let weights = lower(alloc, &trees, &bounds)?;
+    let mut desk = desk(alloc, &trees, &[false])?;
+    assert!(rt; !desk.is_exact(0));
+    let free = free(alloc, &trees)?;
+    assert_eq!(rt;
+        bound(&trees, &weights, &at(0), &free, &mut desk),
+        Bound::AtMost(20)
+    );
+    assert_eq!(rt;
+        bound(&trees, &weights, &at(576), &free, &mut desk),
+        Bound::AtMost(11)
+    );
+    assert_eq!(rt;
+        bound(&trees, &weights, &at(577), &free, &mut desk),
+        Bound::AtMost(10)
+    );
+    assert_eq!(rt;
+        bound(&trees, &weights, &at(640), &free, &mut desk),
+        Bound::AtMost(10)
+    );
+    mark(&trees, &mut desk.marks, 0, 0, Mark::Never);
+    assert_eq!(rt;
+        bound_here(&trees, &weights, &at(576), &mut desk),
+        Bound::AtMost(11)
+    );
+    assert_eq!(rt;
+        bound_here(&trees, &weights, &at(1280), &mut desk),
+        Bound::AtMost(0)
+    );
+    Ok(())
+}
+
+#[test]
+fn negative_multipliers_of_an_exact_good(rt: HostRuntime) -> Result<(), Fail> {
+    let alloc = rt.alloc();
+    let (seller, asked) = sells(2, -2)?;
+    let (buyer, offered) = buys(10)?;
+    let trees = [seller, buyer];
+    let bounds = [asked, offered];
+    let weights = lower(alloc, &trees, &bounds)?;
+    let mut desk = desk(alloc, &trees, &[true])?;
+    assert!(rt; desk.is_exact(0));
+    mark(&trees, &mut desk.marks, 0, 0, Mark::Must);
+    assert_eq!(rt;
+        bound_here(&trees, &weights, &below(512), &mut desk),
+        Bound::AtMost(0)
+    );
+    assert_eq!(rt;
+        bound_here(&trees, &weights, &at(0), &mut desk),
+        Bound::AtMost(8)
+    );
+    Ok(())
+}
+
+#[test]
+fn a_dead_side(rt: HostRuntime) -> Result<(), Fail> {
+    let alloc = rt.alloc();
+    let (seller, asked) = sells(1, -10)?;
+    let (buyer, offered) = may_buy(20)?;
+    let trees = [seller, buyer];
+    let bounds = [asked, offered];
+    let weights = lower(alloc, &trees, &bounds)?;
+    let mut desk = desk(alloc, &trees, &[false])?;
+    let mut marked = free(alloc, &trees)?;
+    let free = free(alloc, &trees)?;
+    mark(&trees, &mut marked, 1, 1, Mark::Must);
+    assert_eq!(rt;
+        bound(&trees, &weights, &at(640), &marked, &mut desk),
+        Bound::AtMost(10)
+    );
+    mark(&trees, &mut marked, 1, 0, Mark::Never);
+    assert_eq!(rt;
+        bound(&trees, &weights, &at(640), &marked, &mut desk),
+        Bound::Dead(1)
+    );
+    assert!(rt; desk.room.is_dead(&trees[1], weights.of(1), marked.of(1)));
+    assert!(rt; !desk.room.is_dead(&trees[1], weights.of(1), free.of(1)));
+    Ok(())
+}
+
+/// Kept bounds of two trees and one good that isn't exact.
+fn kept<'a>(alloc: Global, trees: &'a [Tree], weights: &AllWeights) -> Result<Kept<'a>, AllocError>
+    requires few { length trees.now ≡ 2 }
+    requires weights { AreWeightsOf trees.now weights.now }
+    ensures trees { IfOk result (λ k. k.trees ≡ trees.now) }
+    ensures exact { IfOk result (λ k. k.exact ≡ false ∷ []) }
+{
+    Kept::new(alloc, trees, weights, &[false])
+}
+
+/// Gives the one good, which isn't exact, a multiplier of 0 or more.
+fn put(kept: &mut Kept, number: u16)
+    requires { kept.old.exact ≡ false ∷ [] }
+    ensures trees { kept.new.trees ≡ kept.old.trees }
+    ensures exact { kept.new.exact ≡ kept.old.exact }
+{
+    let m = at(number);
+    kept.put_multipliers(&m);
+}
+
+/// Whether the relaxed set of the bidder has the node.
+fn takes(kept: &Kept, bidder: u8, node: u16) -> bool
+    requires bidder { bidder < length kept.now.trees }
+    requires node { node < length (tree_of kept.now.trees bidder) }
+{
+    kept.sets().of(bidder).has(node)
+}
+
+/// The mark of a node.
+fn mark_of(kept: &Kept, bidder: u8, node: u16) -> Mark
+    requires bidder { bidder < length kept.now.trees }
+    requires node { node < length (tree_of kept.now.trees bidder) }
+{
+    kept.marks().of(bidder).get(node)
+}
+
+#[test]
+fn kept_bounds(rt: HostRuntime) -> Result<(), Fail> {
+    let alloc = rt.alloc();
+    let (seller, asked) = sells(1, -10)?;
+    let (buyer, offered) = may_buy(20)?;
+    let trees = [seller, buyer];
+    let bounds = [asked, offered];
+    let weights = lower(alloc, &trees, &bounds)?;
+    let mut kept = kept(alloc, &trees, &weights)?;
+    assert_eq!(rt; kept.len(), 2);
+    assert!(rt; !kept.is_exact(0));
+    assert_eq!(rt; kept.net_sum(), NetSum::Sum(1280));
+    assert_eq!(rt; kept.bound(), Bound::AtMost(20));
+    assert_eq!(rt; kept.units().get(0), 1);
+    kept.multiplier(0, 700);
+    assert_eq!(rt; kept.multipliers().get(0), 700);
+    assert_eq!(rt; kept.net_sum(), NetSum::Sum(640));
+    assert_eq!(rt; kept.units().get(0), 0);
+    assert!(rt; takes(&kept, 1, 1));
+    put(&mut kept, 576);
+    assert_eq!(rt; kept.bound(), Bound::AtMost(11));
+    kept.mark(0, 0, Mark::Must);
+    assert_eq!(rt; kept.bound(), Bound::AtMost(10));
+    kept.mark(1, 1, Mark::Must);
+    kept.mark(1, 0, Mark::Never);
+    assert_eq!(rt; kept.net_sum(), NetSum::Dead(1));
+    assert_eq!(rt; kept.bound(), Bound::Dead(1));
+    kept.mark(1, 0, Mark::Free);
+    assert!(rt; mark_of(&kept, 1, 1) == Mark::Must);
+    assert_eq!(rt; kept.bound(), Bound::AtMost(10));
+    Ok(())
+}

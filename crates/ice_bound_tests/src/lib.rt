@@ -1,0 +1,14 @@
+//! Tests of best sets, bounds, sweeps, logs and heuristics. They stand apart so that the crates they try are not proved again
+//! with them.
+#![tactic(auto)]
+
+#[cfg(test)]
+mod best_sets;
+#[cfg(test)]
+mod bounds;
+#[cfg(test)]
+mod heuristics;
+#[cfg(test)]
+mod logs;
+#[cfg(test)]
+mod sweeps;

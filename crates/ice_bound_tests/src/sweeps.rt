@@ -1,0 +1,132 @@
+//! Worked sweeps: a seller of a unit and a buyer of it.
+ghost use Rattle.std.specs.Prelude.{◌≡◌, ◌<◌, ◌≤◌, [], ◌∷◌, length, true, false, pos, neg_ℤ, IfOk};
+ghost use Rattle.ice_defs.specs.Lawful.{AreBounds};
+ghost use Rattle.ice_defs.specs.Trade.{tree_of};
+ghost use Rattle.ice_bound.specs.Conditions.{AreWeightsOf, AreBoundsOf, AreFixingsOf};
+
+use ice_best::{Fixings, Mark};
+use ice_bound::{Desk, Multipliers};
+use ice_mult::{improve, improve_near};
+use ice_tree::{AllWeights, Bounds, NodeKind, Tree, TreeFault, TreeMaker};
+use std::alloc::{AllocError, Global};
+use std::test::Fail;
+
+/// A tree of one leaf that sells units of the one good.
+fn sells(units: u16, value: i64) -> Result<(Tree, Bounds), TreeFault>
+    ensures bounds { IfOk result (λ r. AreBounds (length r.0) r.1) }
+    ensures node { IfOk result (λ r. 0 < length r.0) }
+{
+    let mut maker = TreeMaker::new(1);
+    maker.leaf(NodeKind::Sell { good: 0, units }, value, value)?;
+    let (tree, bounds) = maker.finish()?;
+    let _nodes = tree.nodes();
+    Ok((tree, bounds))
+}
+
+/// A tree of one leaf that buys a unit of the one good.
+fn buys(value: i64) -> Result<(Tree, Bounds), TreeFault>
+    ensures bounds { IfOk result (λ r. AreBounds (length r.0) r.1) }
+{
+    let mut maker = TreeMaker::new(1);
+    maker.leaf(NodeKind::Buy { good: 0, units: 1 }, value, value)?;
+    maker.finish()
+}
+
+/// The lower values as weights.
+fn lower(alloc: Global, trees: &[Tree], bounds: &[Bounds]) -> Result<AllWeights, AllocError>
+    requires { AreBoundsOf trees.now bounds.now }
+    ensures { IfOk result (AreWeightsOf trees.now) }
+{
+    let mut weights = AllWeights::new(alloc, trees)?;
+    weights.fill_lower(bounds);
+    Ok(weights)
+}
+
+/// A desk for the trees, with every node free.
+fn desk(alloc: Global, trees: &[Tree], exact: &[bool]) -> Result<Desk, AllocError>
+    requires { length exact.now ≤ 32 }
+    ensures marks { IfOk result (λ desk. AreFixingsOf trees.now desk.marks) }
+    ensures exact { IfOk result (λ desk. desk.room ≡ exact.now) }
+{
+    Desk::new(alloc, trees, exact)
+}
+
+/// Every node free.
+fn free(alloc: Global, trees: &[Tree]) -> Result<Fixings, AllocError>
+    ensures { IfOk result (AreFixingsOf trees.now) }
+{
+    Fixings::free(alloc, trees)
+}
+
+/// Marks a node.
+fn mark(trees: &[Tree], marks: &mut Fixings, bidder: u8, node: u16, mark: Mark)
+    requires marks { AreFixingsOf trees.now marks.old }
+    requires bidder { bidder < length trees.now }
+    requires node { node < length (tree_of trees.now bidder) }
+    ensures { AreFixingsOf trees.now marks.new }
+{
+    let _bidders = trees.len();
+    marks.mark(bidder, node, mark);
+}
+
+/// A multiplier of one good, 0 or more.
+fn at(number: u16) -> Multipliers
+    ensures { result ≡ pos number ∷ [] }
+{
+    let mut m = Multipliers::zero(1);
+    m.put(0, i64::from(number));
+    m
+}
+
+#[test]
+fn the_price_of_a_small_market(rt: HostRuntime) -> Result<(), Fail> {
+    let alloc = rt.alloc();
+    let (seller, asked) = sells(1, -10)?;
+    let (buyer, offered) = buys(20)?;
+    let trees = [seller, buyer];
+    let bounds = [asked, offered];
+    let weights = lower(alloc, &trees, &bounds)?;
+    let mut desk = desk(alloc, &trees, &[false])?;
+    let free = free(alloc, &trees)?;
+    let low = improve(&trees, &weights, &free, &at(0), &mut desk);
+    assert_eq!(rt; low.get(0), 640);
+    let near = improve_near(&trees, &weights, &free, &at(2000), &at(640), &mut desk);
+    assert_eq!(rt; near.get(0), 640);
+    Ok(())
+}
+
+#[test]
+fn a_side_that_asks_for_units(rt: HostRuntime) -> Result<(), Fail> {
+    let alloc = rt.alloc();
+    let (seller, asked) = sells(1, -10)?;
+    let (buyer, offered) = buys(20)?;
+    let trees = [seller, buyer];
+    let bounds = [asked, offered];
+    let weights = lower(alloc, &trees, &bounds)?;
+    let mut desk = desk(alloc, &trees, &[false])?;
+    let mut fixings = free(alloc, &trees)?;
+    mark(&trees, &mut fixings, 0, 0, Mark::Never);
+    mark(&trees, &mut fixings, 1, 0, Mark::Must);
+    let swept = improve(&trees, &weights, &fixings, &at(7), &mut desk);
+    assert_eq!(rt; swept.get(0), 1 << 56);
+    Ok(())
+}
+
+#[test]
+fn a_negative_price_of_an_exact_good(rt: HostRuntime) -> Result<(), Fail> {
+    let alloc = rt.alloc();
+    let (seller, asked) = sells(1, -10)?;
+    let (buyer, offered) = buys(-5)?;
+    let trees = [seller, buyer];
+    let bounds = [asked, offered];
+    let weights = lower(alloc, &trees, &bounds)?;
+    let mut exact = desk(alloc, &trees, &[true])?;
+    let mut plain = desk(alloc, &trees, &[false])?;
+    let mut fixings = free(alloc, &trees)?;
+    mark(&trees, &mut fixings, 0, 0, Mark::Must);
+    let swept = improve(&trees, &weights, &fixings, &at(0), &mut exact);
+    assert_eq!(rt; swept.get(0), -320);
+    let swept = improve(&trees, &weights, &fixings, &at(5), &mut plain);
+    assert_eq!(rt; swept.get(0), 0);
+    Ok(())
+}
