@@ -100,8 +100,9 @@ class TreeDrawing:
                 continue
             words = self.bundle(node)
             if words:
-                note = f" ({node.children[0]}–{node.children[-1]})"
-                skip = node.children[-1] + 1
+                first, last = node.children[0], node.children[-1]
+                note = f" ({first})" if first == last else f" ({first}–{last})"
+                skip = last + 1
                 found.append(Line(node, textwrap.wrap(words, WRAP, break_on_hyphens=False), note))
             else:
                 plain = choice(node) if node.kind == "choose" else f"{node.kind} {self.leaf(node)}"

@@ -133,7 +133,8 @@ class Samples(unittest.TestCase):
                     cut, surplus = told.rest("threshold")[0]
                     number = Fraction(cut)
                     self.assertIn(
-                        f"({cut})" if number.denominator > 1 else f"cut at {number}", rows[0][-1]
+                        f"({cut})" if number.denominator > 1 else f"cut at {minus(int(number))}",
+                        rows[0][-1],
                     )
                     self.assertEqual(
                         page.facts()["surplus of the payments"][0], str(Fraction(surplus))
@@ -219,6 +220,7 @@ class Samples(unittest.TestCase):
                         kind, *_, low, high = told.nodes[bidder][number]
                         self.assertIn(kind, SIGNS)
                         self.assertEqual((low, high, told.lows[bidder][number]), ("0", "0", 0))
+                    self.assertNotRegex(card.text, r"\((\d+)–\1\)")
                     self.assertEqual(len(card.all("svg")), 1)
                     self.assertEqual(len(card.all("path", "link")), len(shown) - 1)
 
