@@ -4,7 +4,7 @@ ghost use Rattle.ice_journal.specs.Lines.{record_of};
 ghost use Rattle.ice_journal.specs.Ranges.{IsRecord};
 ghost use Rattle.ice_journal_laws.specs.Progress.{Progress, nothing, out_of_memory, is_ready};
 ghost use Rattle.ice_journal_laws.specs.Answers.{EndsWith};
-ghost use Rattle.ice_check.specs.Checking.{HasCome, ComesTo};
+ghost use Rattle.ice_check.specs.Checking.{HasCome, ComesTo, is_ready_checker};
 
 use crate::stage::Stage;
 use ice_journal::Line;
@@ -57,6 +57,8 @@ impl Checker {
         ensures line { OnOk result (self.new.line ≡ suc self.old.line) }
         ensures stopped { OnErr result (HasCome self.new out_of_memory) }
         ensures ready { (p : Progress) → HasCome self.old p → IsTrue (is_ready p) → IsOk result }
+        ensures once { IsTrue (is_ready_checker self.old) → IsOk result }
+        ensures stays { OnOk result (IsTrue (is_ready_checker self.old) → IsTrue (is_ready_checker self.new)) }
     {
         let stage = mem::replace(&mut self.stage, Stage::OutOfMemory);
         let next = stage.after(self.alloc, self.next_line, line)?;
@@ -67,12 +69,20 @@ impl Checker {
 
     /// Whether the exchange and one record after it are taken, or no record matters any more: then `feed` wants no memory.
     pub fn ready(&self) -> bool
-        ensures { (p : Progress) → HasCome self.now p → result ≡ is_ready p }
+        ensures at { result ≡ is_ready_checker self.now }
+        ensures progress { (p : Progress) → HasCome self.now p → result ≡ is_ready p }
     {
         !matches!(
             self.stage,
             Stage::Begin | Stage::Describing(_, _) | Stage::OutOfMemory
         )
+    }
+
+    /// The number of the next record's line.
+    pub fn next_line(&self) -> u64
+        ensures { result ≡ self.now.line }
+    {
+        self.next_line
     }
 
     /// What the tests find, where the records taken so far are the whole journal. It wants no memory.
@@ -90,7 +100,7 @@ impl Checker {
     }
 
     /// Drops the checker.
-    pub(crate) fn discard(self) {
+    pub fn discard(self) {
         let Checker {
             alloc: _,
             next_line: _,

@@ -40,6 +40,7 @@ fn take(mut groups: Box<Groups>, line: &Line) -> Result<Stage, Halt>
     requires lawful { IsRecord (record_of line.now) }
     ensures leads { LeadsOn (Stage.Behind groups) (record_of line.now) result }
     ensures ready { result ≢ Err Halt.NoMemory }
+    ensures stays { IfOk result (λ next. IsTrue (is_ready_stage next)) }
 {
     groups.take(line)?;
     Ok(Stage::Behind(groups))
@@ -65,6 +66,7 @@ impl Stage {
         requires lawful { IsRecord (record_of line.now) }
         ensures leads { LeadsOn self (record_of line.now) result }
         ensures ready { IsTrue (is_ready_stage self) → result ≢ Err Halt.NoMemory }
+        ensures stays { IsTrue (is_ready_stage self) → IfOk result (λ next. IsTrue (is_ready_stage next)) }
     {
         match self {
             Stage::Begin => begin(alloc, line),
@@ -84,6 +86,7 @@ impl Stage {
             → TakesFurther number next p (record_of line.now)) }
         ensures within { IfOk result (λ next. IsAtLine (suc number) next) }
         ensures ready { IsTrue (is_ready_stage self) → IsOk result }
+        ensures stays { IsTrue (is_ready_stage self) → IfOk result (λ next. IsTrue (is_ready_stage next)) }
     {
         match self.step(alloc, line) {
             Ok(next) => Ok(next),

@@ -1,8 +1,8 @@
-use Rattle.std.proofs.Common.{ℕ, ◌+◌, suc, refl, sym, ◌∙◌, ap, subst, add-one}
+use Rattle.std.proofs.Common.{ℕ, IsTrue, ◌+◌, suc, refl, sym, ◌∙◌, ap, subst, add-one}
 use Rattle.ice_journal.specs.Lines.{record_of}
 use Rattle.ice_check.specs.declared.stage.Stage.{Stage}
 use Rattle.ice_check.specs.Checking.{Checking, HasCome}
-use Rattle.ice_check.specs.Stages.{IsProgress}
+use Rattle.ice_check.specs.Stages.{IsProgress, is_ready_stage}
 use Rattle.ice_check.proofs.checker.Checker.feed.Goals as goal
 
 pub returns : goal.returns
@@ -19,4 +19,6 @@ returns c =
       line = add-one n ∙ ap (λ (v : Checking). suc v.line) c.self.view_is;
       stopped = tt;
       ready = λ p come is. refl;
+      once = λ is. refl;
+      stays = λ is. subst (λ (s : Stage). IsTrue (is_ready_stage s)) (sym c.replace.ensures.after) (c.in_ok-next.ensures.stays (subst (λ (s : Stage). IsTrue (is_ready_stage s)) (sym c.replace-stage.ensures.value) (subst (λ (v : Checking). IsTrue (is_ready_stage v.stage)) (sym c.self.view_is) is)));
     }
