@@ -10,3 +10,4 @@ pub mod Summing
 pub mod Marking
 pub mod Adding
 pub mod Copying
+pub mod Staying

@@ -257,7 +257,7 @@ impl<'a> Kept<'a> {
     }
 
     /// Gives a good another multiplier, from -2^56 to 2^56, and 0 or more where the good isn't exact. Time: one recursion
-    /// over each tree that has a leaf of the good.
+    /// over each tree that has a leaf of the good and whose relaxed set may change with it.
     pub fn multiplier(&mut self, good: u8, number: i64)
         requires good { good < length self.old.exact }
         requires number { IsMultiplier (is_exact self.old.exact good) number }
