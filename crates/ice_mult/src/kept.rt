@@ -1,0 +1,188 @@
+//! Sweeps over bounds that are kept. Where the guess of a multiplier is right, few trees are looked at.
+ghost use Rattle.std.specs.Prelude.{◌≡◌, ◌<◌, ◌≤◌, ◌^◌, ℤ, length, false, IsTrue};
+ghost use Rattle.ice_defs.specs.Bound.{IsNetSum};
+ghost use Rattle.ice_defs.specs.Log.{IsMultiplier};
+ghost use Rattle.ice_defs.specs.Sweep.{IsLive, SweepsBelow, Sweeps};
+ghost use Rattle.ice_defs.specs.Trade.{is_exact};
+ghost use Rattle.ice_bound.specs.Conditions.{AreWeightsOf};
+ghost use Rattle.ice_bound.specs.Multipliers.{multiplier_of};
+ghost use Rattle.ice_mult.specs.Foot.{IsAllowed, Falls, Rests, IsFoot, toward};
+ghost use Rattle.ice_mult.specs.Moved.{AreAlike, IsMoved, MayMove, IsSumWith, IsSettled, IsKeptOf};
+
+use crate::direction::Direction;
+use crate::lowest::{GREATEST, lowest};
+use ice_bound::{Desk, Kept, Multipliers, NetSum, Room};
+use ice_tree::{AllWeights, Tree};
+
+/// The sum of the greatest nets. Each bidder has a set.
+fn total(kept: &Kept) -> i128
+    requires { IsLive kept.now.trees kept.now.marks }
+    ensures { IsNetSum kept.now.trees kept.now.weights kept.now.multipliers kept.now.marks result }
+{
+    match kept.net_sum() {
+        NetSum::Sum(total) => total,
+        NetSum::Dead(_) => unreachable!(),
+    }
+}
+
+/// Gives the good another multiplier. The sum of the greatest nets there.
+fn move_to(kept: &mut Kept, good: u8, number: i64) -> i128
+    requires may { MayMove kept.old good }
+    requires number { IsMultiplier (is_exact kept.old.exact good) number }
+    ensures sum { IsSumWith kept.old good number result }
+    ensures moved { IsMoved kept.old good number kept.new }
+{
+    kept.multiplier(good, number);
+    total(kept)
+}
+
+/// Moves the good to so many steps from 0, and tells whether the last step makes the sum smaller.
+fn falls_to(kept: &mut Kept, good: u8, direction: Direction, steps: u64) -> bool
+    requires may { MayMove kept.old good }
+    requires allowed { IsAllowed (is_exact kept.old.exact good) direction }
+    requires steps { steps ≤ 2 ^ 56 }
+    ensures falls { IsTrue result → Falls (IsSumWith kept.old good) direction steps }
+    ensures moved { IsMoved kept.old good (toward direction steps) kept.new }
+{
+    if steps == 0 {
+        kept.multiplier(good, direction.at(0));
+        return true;
+    }
+    let before = move_to(kept, good, direction.at(steps - 1));
+    let here = move_to(kept, good, direction.at(steps));
+    here < before
+}
+
+/// Whether no step on from where the good is makes the sum smaller.
+fn rests(kept: &mut Kept, good: u8, direction: Direction, steps: u64) -> bool
+    requires may { MayMove kept.old good }
+    requires allowed { IsAllowed (is_exact kept.old.exact good) direction }
+    requires steps { steps < 2 ^ 56 }
+    requires there { multiplier_of kept.old.multipliers good ≡ toward direction steps }
+    ensures rests { IsTrue result → Rests (IsSumWith kept.old good) direction steps }
+    ensures moved { IsMoved kept.old good (toward direction steps) kept.new }
+{
+    let here = total(kept);
+    // They are known to be open, one for each bidder.
+    let _sets = kept.sets();
+    // With no step on does the sum fall by more than these units.
+    if direction.turn(kept.units().get(good)) <= 0 {
+        return true;
+    }
+    let after = move_to(kept, good, direction.at(steps + 1));
+    kept.multiplier(good, direction.at(steps));
+    here <= after
+}
+
+/// Moves the good to so many steps from 0, and tells whether the sum is known to stop falling there.
+fn has_foot(kept: &mut Kept, good: u8, direction: Direction, steps: u64) -> bool
+    requires may { MayMove kept.old good }
+    requires allowed { IsAllowed (is_exact kept.old.exact good) direction }
+    requires steps { steps < 2 ^ 56 }
+    ensures foot { IsTrue result → IsFoot (IsSumWith kept.old good) direction steps }
+    ensures moved { IsMoved kept.old good (toward direction steps) kept.new }
+{
+    falls_to(kept, good, direction, steps) && rests(kept, good, direction, steps)
+}
+
+/// Whether the good may have numbers in this direction, and so many steps are its lowest multiplier where the sum stops
+/// falling there.
+fn tells(exact: bool, direction: Direction, steps: u64) -> bool
+    ensures allowed { IsTrue result → IsAllowed exact direction }
+    ensures steps { IsTrue result → steps < 2 ^ 56 }
+    ensures zero { IsTrue result → steps ≡ 0 → exact ≡ false }
+{
+    match direction {
+        Direction::Up => steps < GREATEST && (steps > 0 || !exact),
+        Direction::Down => steps < GREATEST && steps > 0 && exact,
+    }
+}
+
+/// Whether the guess is known to be the good's lowest multiplier. Then the good is moved there.
+fn is_settled(kept: &mut Kept, good: u8, guess: i64) -> bool
+    requires may { MayMove kept.old good }
+    ensures yes { IsTrue result → IsSettled kept.old good kept.new }
+    ensures moved { (z : ℤ) × IsMoved kept.old good z kept.new }
+{
+    let direction = Direction::of(guess);
+    let steps = guess.unsigned_abs();
+    tells(kept.is_exact(good), direction, steps) && has_foot(kept, good, direction, steps)
+}
+
+/// Gives the good its lowest multiplier. A good guess of it saves time.
+fn settle(
+    trees: &[Tree],
+    weights: &AllWeights,
+    kept: &mut Kept,
+    good: u8,
+    guess: i64,
+    room: &mut Room,
+)
+    requires few { length trees.now ≤ 40 }
+    requires weights { AreWeightsOf trees.now weights.now }
+    requires may { MayMove kept.old good }
+    requires kept { IsKeptOf kept.old trees.now weights.now room.old }
+    ensures settled { IsSettled kept.old good kept.new }
+    ensures room { room.new ≡ room.old }
+{
+    if is_settled(kept, good, guess) {
+        return;
+    }
+    let m = kept.multipliers();
+    let number = lowest(trees, weights, kept.marks(), m, good, guess, room);
+    kept.multiplier(good, number);
+}
+
+/// Gives each good in order its lowest multiplier. A good guess of the outcome saves time.
+fn sweep_kept(
+    trees: &[Tree],
+    weights: &AllWeights,
+    kept: &mut Kept,
+    guess: &Multipliers,
+    room: &mut Room,
+)
+    requires few { length trees.now ≤ 40 }
+    requires weights { AreWeightsOf trees.now weights.now }
+    requires live { IsLive kept.old.trees kept.old.marks }
+    requires goods { length kept.old.multipliers ≡ length kept.old.exact }
+    requires kept { IsKeptOf kept.old trees.now weights.now room.old }
+    requires guess { length guess.now ≡ length kept.old.exact }
+    ensures sweeps { SweepsBelow kept.old.trees kept.old.exact kept.old.weights kept.old.marks
+        (length kept.old.exact) kept.old.multipliers kept.new.multipliers }
+    ensures alike { AreAlike kept.old kept.new }
+    ensures room { room.new ≡ room.old }
+{
+    for good in 0..room.goods() {
+        settle(trees, weights, kept, good, guess.get(good), room);
+    }
+}
+
+/// Moves the multipliers of kept bounds to what one sweep makes of them: see `improve`. The bounds are kept of these trees
+/// at these weights. The guess of the outcome changes the time alone.
+///
+/// Time: where the guess of a good is right, two looks at those trees whose sets may change with it, or fewer.
+pub fn improve_kept(
+    trees: &[Tree],
+    weights: &AllWeights,
+    kept: &mut Kept,
+    guess: &Multipliers,
+    desk: &mut Desk,
+)
+    requires few { length trees.now ≤ 40 }
+    requires weights { AreWeightsOf trees.now weights.now }
+    requires kept { IsKeptOf kept.old trees.now weights.now desk.old.room }
+    requires guess { length guess.now ≡ length kept.old.exact }
+    ensures sweeps { Sweeps kept.old.trees kept.old.exact kept.old.weights kept.old.marks
+        kept.old.multipliers kept.new.multipliers }
+    ensures alike { AreAlike kept.old kept.new }
+    ensures marks { desk.new.marks ≡ desk.old.marks }
+    ensures sides { desk.new.sides ≡ desk.old.sides }
+    ensures exact { desk.new.room ≡ desk.old.room }
+{
+    // There is one for each good.
+    let _multipliers = kept.multipliers();
+    match kept.net_sum() {
+        NetSum::Sum(_) => sweep_kept(trees, weights, kept, guess, &mut desk.room),
+        NetSum::Dead(_) => {}
+    }
+}
