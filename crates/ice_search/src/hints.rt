@@ -5,6 +5,10 @@ use crate::workspace::Workspace;
 use ice_bound::Multipliers;
 use ice_subgradient::{Candidate, Candidates};
 
+/// A search with fewer parts than this, two for each branch, takes the first candidate. In a longer one trials of all
+/// candidates cost less than the branches that they save.
+const PARTS_BEFORE_TRIALS: usize = 200;
+
 /// A hint for a part.
 #[derive(Drop)]
 pub(crate) struct Hint {
@@ -39,6 +43,7 @@ pub(crate) fn most_promising(
     ensures { space.new ≡ space.old }
 {
     match hints.get(number as usize) {
+        Some(hint) if hints.len() < PARTS_BEFORE_TRIALS => hint.candidates.first().copied(),
         Some(hint) => space.most_promising(&hint.candidates, value),
         None => None,
     }

@@ -9,7 +9,7 @@ ghost use Rattle.ice_search.specs.Workspace.{IsOfferedAt};
 
 use crate::workspace::Workspace;
 use ice_bound::{Bound, Kept, Multipliers};
-use ice_mult::improve_near;
+use ice_mult::improve_kept;
 use ice_subgradient::{Incumbent, forecast};
 
 /// Multipliers, and the bound at them.
@@ -47,17 +47,16 @@ impl<'a> Workspace<'a> {
         ensures sets { length incumbent.new.sets ≡ length self.old.instance.trees }
         ensures offered { IsOfferedAt self.old.instance self.old.side incumbent.old incumbent.new }
     {
-        let zeros = Multipliers::zero(self.problem.goods());
         let near = forecast(&mut self.relaxation, &self.kept, guess);
-        let m = improve_near(
+        self.kept
+            .put_multipliers(&Multipliers::zero(self.problem.goods()));
+        improve_kept(
             self.problem.trees(),
             self.problem.weights(),
-            self.kept.marks(),
-            &zeros,
+            &mut self.kept,
             &near,
             &mut self.desk,
         );
-        self.kept.put_multipliers(&m);
         incumbent.offer(&self.kept);
         kept_bound(&self.kept)
     }
