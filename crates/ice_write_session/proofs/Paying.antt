@@ -1,13 +1,13 @@
 -- What each bidder pays, by its place.
 use Rattle.std.proofs.Common.{◌≡◌, ℕ, zero, suc, ◌<◌, ◌≤◌, List, [], ◌∷◌, length, get_or, refl, subst, arith}
 use Rattle.std.specs.List.{AllByRecursion}
+use Rattle.std.proofs.lemmas.List.Elements.{All-from_recursion}
 use Rattle.ice_defs.specs.Fraction.{Fraction}
 use Rattle.ice_defs.specs.Session.{Payment}
 use Rattle.ice_vickrey.specs.declared.marginal.Marginal.{Marginal}
 use Rattle.ice_round.specs.Shown.{payments_of}
 use Rattle.ice_write_session.specs.Payments.{no_payment}
 use Rattle.ice_write_session.specs.Writable.{IsWritablePayment}
-use Rattle.ice_write_session.proofs.Ranges.{there_is}
 
 -- where each name has a payment, each list has an element for each name
 pub record Covers (names : List (List ℕ)) (ms : List Marginal) (ds ps : List Fraction) : Type 0 where
@@ -36,7 +36,7 @@ payment_is (name ∷ names) (x ∷ ms) (y ∷ ds) (z ∷ ps) (suc b) m d p there
 -- what is paid at a place may be written where all payments may
 pub payment_fits : (names : List (List ℕ)) (ms : List Marginal) (ds ps : List Fraction) (b : ℕ) (m : Marginal) (d p : Fraction) → b < length (payments_of names ms ds ps) → AllByRecursion IsWritablePayment (payments_of names ms ds ps)
     → IsWritablePayment (record { name = get_or names b []; vickrey = (get_or ms b m).discount; discount = get_or ds b d; payment = get_or ps b p })
-payment_fits names ms ds ps b m d p there all = subst IsWritablePayment (payment_is names ms ds ps b m d p there) (there_is IsWritablePayment (payments_of names ms ds ps) b no_payment there all)
+payment_fits names ms ds ps b m d p there all = subst IsWritablePayment (payment_is names ms ds ps b m d p there) (All-from_recursion IsWritablePayment (payments_of names ms ds ps) all b no_payment there)
 
 -- in other words for its parts
 pub same_payment : (names : List (List ℕ)) (ms : List Marginal) (ds ps : List Fraction) (b : ℕ) (name : List ℕ) (m : Marginal) (d p : Fraction) → name ≡ get_or names b [] → m ≡ get_or ms b m → d ≡ get_or ds b d → p ≡ get_or ps b p

@@ -32,9 +32,3 @@ values_are zs is = all_of is_value IsValue zs (λ z h. between (neg_ℤ (pos 100
 
 pub bid_is : (s : Submission) → IsBid s → IsSubmission s
 bid_is s is = record { name = is.name; lo_count = is.lo.few; lo = values_are s.lo is.lo; hi_count = is.hi.few; hi = values_are s.hi is.hi }
-
--- what holds of all holds at each place
-pub there_is : {X : Type 0} (P : X → Type 0) (xs : List X) (i : ℕ) (d : X) → i < length xs → AllByRecursion P xs → P (get_or xs i d)
-there_is P [] i d there all = absurd (omega (arith, there))
-there_is P (x ∷ xs) zero d there all = all.0
-there_is P (x ∷ xs) (suc i) d there all = there_is P xs i d (omega (arith, there)) all.1
