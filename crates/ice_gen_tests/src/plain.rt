@@ -40,7 +40,7 @@ impl Draws {
     }
 
     /// The next number below this one.
-    fn below(&mut self, bound: u16) -> u16
+    pub(crate) fn below(&mut self, bound: u16) -> u16
         requires { 0 < bound }
         ensures { result < bound }
     {
