@@ -9,7 +9,7 @@ use Rattle.ice_journal_laws.specs.declared.answer.CheckEnd.TheVariants as ending
 use Rattle.ice_journal_laws.specs.Answers.{AnswersBytes}
 use Rattle.ice_journal_laws.proofs.Answered.{one_answer_of_bytes}
 use Rattle.ice_cli.specs.Call.{Call, IsTold, journal_limit, OfTold, OfFile, too_long, at_fault}
-use Rattle.ice_cli.specs.Command.{check, best, regret, xor, IsCommand}
+use Rattle.ice_cli.specs.Command.{check, best, regret, xor, run, IsCommand}
 use Rattle.ice_cli.specs.CheckServed.{IsEndFault, IsCheckFault, CheckAnswers, WritesAnswer, answer_line, answer_status, other_kind}
 use Rattle.ice_cli.specs.Output.{refused_line}
 use Rattle.ice_cli.specs.Served.{IsServed, no_command, answers, cut_short}
@@ -21,15 +21,18 @@ check_answers : (call : Call) (journal : List ℕ) → IsServed call → IsComma
 check_answers call journal (no_command refuses) is faultless = absurd (refuses.none (check journal) is)
 check_answers call journal (answers (check name) other answer) is faultless =
     let P : List ℕ → Type 0 = λ file. CheckAnswers call file call.status in
-    subst P (ap (λ (words : List (List ℕ)). get_or words 1 []) (sym other ∙ is)) answer
+    subst P (ap (λ (words : List (List ℕ)). get_or words 1 []) (sym other.1 ∙ is.1)) answer
 check_answers call journal (answers (best exchange prices) other answer) is faultless =
-    let lengths : 3 ≡ 2 = ap (λ (words : List (List ℕ)). length words) (sym other ∙ is) in
+    let lengths : 3 ≡ 2 = ap (λ (words : List (List ℕ)). length words) (sym other.1 ∙ is.1) in
     absurd (omega (arith, lengths))
 check_answers call journal (answers (regret exchange) other answer) is faultless =
-    let lengths : 6 ≡ 5 = ap (λ (words : List (List ℕ)). length (get_or words 0 [])) (sym other ∙ is) in
+    let lengths : 6 ≡ 5 = ap (λ (words : List (List ℕ)). length (get_or words 0 [])) (sym other.1 ∙ is.1) in
     absurd (omega (arith, lengths))
 check_answers call journal (answers (xor file) other answer) is faultless =
-    let lengths : 3 ≡ 5 = ap (λ (words : List (List ℕ)). length (get_or words 0 [])) (sym other ∙ is) in
+    let lengths : 3 ≡ 5 = ap (λ (words : List (List ℕ)). length (get_or words 0 [])) (sym other.1 ∙ is.1) in
+    absurd (omega (arith, lengths))
+check_answers call journal (answers (run exchange rounds) other answer) is faultless =
+    let lengths : 3 ≡ 5 = ap (λ (words : List (List ℕ)). length (get_or words 0 [])) (sym other.1 ∙ is.1) in
     absurd (omega (arith, lengths))
 check_answers call journal (cut_short text status failed rose served front) is faultless = absurd (faultless.writes rose)
 

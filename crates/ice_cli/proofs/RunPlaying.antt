@@ -243,7 +243,7 @@ module _ (r next : RoundAt) (name : List ℕ) (before after : Told) (bids : List
   round_done old new f g put e judges = (
     judges.judged,
     subst (λ (ss : List Submission). HoldsBids before name ss) (sym judges.all) holds,
-    λ going s last is. round_ends going s (record last { judged = last.judged ++ judges.judged }) next (judges.goes_on going s last is),
+    λ going s last is. (round_ends going s (record last { judged = last.judged ++ judges.judged }) next (judges.goes_on going s last is), (judges.goes_on going s last is).exchange),
     judges.is_put,
   )
 
@@ -275,6 +275,10 @@ refusal_ends r name before after refusal.NoMemory old new f g result is said goi
 
 -- ---- the rest of a run
 
+pub none_left : {X : Type 0} (xs : List X) → length xs ≡ 0 → xs ≡ []
+none_left [] none = refl
+none_left (x ∷ xs) none = absurd (omega (arith, none))
+
 module _ (s : SessionAt) (files : List (List ℕ)) (before after : Told) where
   -- it ends with the next settlement
   pub plays_ends : (old new : Option (List ℕ)) (f g : ℕ) (result : Status) → EndsHere s old new f g result → Plays s files before after old new f g result
@@ -300,12 +304,13 @@ module _ (s : SessionAt) (files : List (List ℕ)) (before after : Told) where
         (ends going s last done later round none same played))
 
     -- or goes on behind it
-    pub plays_on : (name : List ℕ) (later : List (List ℕ)) (next : SessionAt) (shelf : Told) (now new : Option (List ℕ)) (h k : ℕ) (result : Status) → files ≡ name ∷ later → next.exchange ≡ s.exchange → IsLater before shelf → EndsRound r next name before mid now g h
+    pub plays_on : (name : List ℕ) (later : List (List ℕ)) (next : SessionAt) (shelf : Told) (now new : Option (List ℕ)) (h k : ℕ) (result : Status) → files ≡ name ∷ later → IsLater before shelf → EndsRound r next name before mid now g h
         → IsLater shelf after → Plays next later shelf after now new h k result → Plays s files before after old new f k result
-    plays_on name later next shelf now new h k result is same_exchange later_shelf (judged, holds, ended, takes) later_end plays going done run same played =
+    plays_on name later next shelf now new h k result is later_shelf (judged, holds, ended, takes) later_end plays going done run same played =
         let (last, round, none, opening) = opened going run in
         let whole : Going = record last { judged = last.judged ++ judged } in
-        let running : IsRunning (going ++ record last { judged = last.judged ++ judged } ∷ []) next = ended going s last round in
+        let running : IsRunning (going ++ record last { judged = last.judged ++ judged } ∷ []) next = (ended going s last round).0 in
+        let same_exchange : next.exchange ≡ s.exchange = (ended going s last round).1 in
         let held : HoldsBids shelf name (submissions_of (record last { judged = last.judged ++ judged })) =
         held_later before shelf later_shelf name (submissions_of (record last { judged = last.judged ++ judged })) (subst (HoldsBids before name) (sym (all_submitted last judged none)) holds) in
         let count : length (done ++ name ∷ []) ≡ length (going ++ record last { judged = last.judged ++ judged } ∷ []) = omega (arith, length-append done (name ∷ []), length-append going (record last { judged = last.judged ++ judged } ∷ []), same) in

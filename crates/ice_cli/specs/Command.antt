@@ -1,5 +1,5 @@
 -- The commands, and the words that each is called by.
-use Rattle.std.specs.Prelude.{ℕ, ◌≡◌, List, [], ◌∷◌, codes}
+use Rattle.std.specs.Prelude.{ℕ, ◌≤◌, ◌≡◌, List, [], ◌∷◌, length, codes}
 
 -- the words after the program's name; a file is named by any text
 pub data Command : Type 0 where
@@ -7,15 +7,22 @@ pub data Command : Type 0 where
   best : (exchange prices : List ℕ) → Command
   regret : (exchange : List ℕ) → Command
   xor : (file : List ℕ) → Command
+  run : (exchange : List ℕ) → (rounds : List (List ℕ)) → Command
 
 abbrev pub words_of : Command → List (List ℕ)
 words_of (check journal) = codes "check" ∷ journal ∷ []
 words_of (best exchange prices) = codes "best" ∷ exchange ∷ prices ∷ []
 words_of (regret exchange) = codes "regret" ∷ exchange ∷ []
 words_of (xor file) = codes "xor" ∷ file ∷ []
+words_of (run exchange rounds) = codes "run" ∷ exchange ∷ rounds
+
+-- a run has at most 20 round files
+abbrev pub IsLimited : Command → Type 0
+IsLimited (run exchange rounds) = length rounds ≤ 20
+IsLimited other = Unit {0}
 
 abbrev pub IsCommand : List (List ℕ) → Command → Type 0
-IsCommand words c = words ≡ words_of c
+IsCommand words c = IsLimited c × (words ≡ words_of c)
 
 abbrev pub IsNoCommand : List (List ℕ) → Type 0
 IsNoCommand words = (c : Command) → ¬ IsCommand words c

@@ -61,11 +61,11 @@ EndsHere s old new faults faults_after result =
     (going : List Going) (files : List (List ℕ)) (before after : Told) → IsRunning going s → AreHeld before files going
     → WritesBehind (run_records s.exchange going) (RunsTo s.exchange files before after) old new faults faults_after result
 
--- all bids of the file are judged and put, and the round ends
+-- all bids of the file are judged and put, and the round ends: the session of the same exchange goes on behind it
 abbrev pub EndsRound : RoundAt → SessionAt → List ℕ → Told → Option (List ℕ) → Option (List ℕ) → ℕ → ℕ → Type 0
 EndsRound r next file shelf old new faults faults_after =
     (judged : List Judged) × HoldsBids shelf file (submissions_in judged)
-    × ((going : List Going) (s : SessionAt) (last : Going) → IsInRound going s last r → IsRunning (going ++ record last { judged = last.judged ++ judged } ∷ []) next)
+    × ((going : List Going) (s : SessionAt) (last : Going) → IsInRound going s last r → IsRunning (going ++ record last { judged = last.judged ++ judged } ∷ []) next × (next.exchange ≡ s.exchange))
     × Takes (bytes_of (flat_map judged_records judged)) old new faults faults_after
 
 -- the journal ends in this round, whose file is this one

@@ -1,14 +1,27 @@
 //! The words behind the program's name.
-ghost use Rattle.std.specs.Prelude.{◌≡◌, ◌∷◌, [], ℕ, List, map, string_bytes, MatchOption};
+ghost use Rattle.std.specs.Prelude.{◌≤◌, length, ◌≡◌, ◌∷◌, [], ℕ, List, map, string_bytes, MatchOption};
 ghost use Rattle.ice_cli.specs.Command.{IsCommand, IsNoCommand};
 ghost use Rattle.ice_cli.specs.Words.{command_of};
 
 /// A command, with the names of its files.
 pub enum Command<'a> {
-    Check { journal: &'a str },
-    Best { exchange: &'a str, prices: &'a str },
-    Regret { exchange: &'a str },
-    Xor { file: &'a str },
+    Check {
+        journal: &'a str,
+    },
+    Best {
+        exchange: &'a str,
+        prices: &'a str,
+    },
+    Regret {
+        exchange: &'a str,
+    },
+    Xor {
+        file: &'a str,
+    },
+    Run {
+        exchange: &'a str,
+        rounds: &'a [String],
+    },
 }
 
 /// The word, where there is no other.
@@ -36,6 +49,19 @@ fn two_words(words: &[String]) -> Option<(&str, &str)>
     Some((one.as_str(), other))
 }
 
+/// The names of an exchange and of at most 20 round files, where the words are such.
+fn run_names(words: &[String]) -> Option<(&str, &[String])>
+    ensures { MatchOption result
+        ((one : List ℕ) → (others : List (List ℕ)) → length others ≤ 20 → map string_bytes words.now ≡ one ∷ others → ⊥)
+        (λ names. (length names.1.now ≤ 20) × (map string_bytes words.now ≡ names.0.now ∷ map string_bytes names.1.now)) }
+{
+    let (exchange, rounds) = words.split_first()?;
+    if rounds.len() > 20 {
+        return None;
+    }
+    Some((exchange.as_str(), rounds))
+}
+
 /// The command that the words are; None exactly where they are none.
 pub fn command_in(words: &[String]) -> Option<Command<'_>>
     ensures { let all = map string_bytes words.now in
@@ -54,6 +80,10 @@ pub fn command_in(words: &[String]) -> Option<Command<'_>>
         "regret" => {
             let exchange = one_word(names)?;
             Some(Command::Regret { exchange })
+        }
+        "run" => {
+            let (exchange, rounds) = run_names(names)?;
+            Some(Command::Run { exchange, rounds })
         }
         "xor" => {
             let file = one_word(names)?;

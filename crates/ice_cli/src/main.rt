@@ -18,7 +18,10 @@ mod regret;
 mod regret_journal;
 #[cfg(test)]
 mod regret_tests;
+mod run;
 mod run_journal;
+#[cfg(test)]
+mod run_tests;
 mod say;
 mod serve;
 #[cfg(test)]

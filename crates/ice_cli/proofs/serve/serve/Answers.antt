@@ -1,10 +1,11 @@
 use Rattle.std.proofs.Common.{refl, [], map, string_bytes}
 use Rattle.ice_cli.specs.Call.{Call}
-use Rattle.ice_cli.specs.Command.{check, best, regret, xor}
+use Rattle.ice_cli.specs.Command.{check, best, regret, xor, run}
 use Rattle.ice_cli.specs.CheckServed.{CheckAnswers}
 use Rattle.ice_cli.specs.BestServed.{BestAnswers}
 use Rattle.ice_cli.specs.RegretServed.{RegretAnswers}
 use Rattle.ice_cli.specs.XorServed.{XorAnswers}
+use Rattle.ice_cli.specs.RunServed.{RunAnswers}
 use Rattle.ice_cli.proofs.Parts.{served, refused_words}
 use Rattle.ice_cli.proofs.serve.serve.Goals as goal
 
@@ -68,6 +69,22 @@ returns-in-Some-Xor g c =
     } in
     served call (xor file) (λ one. XorAnswers one file) (g.K.Sink.written c.args.out.now) (g.K.Sink.written c.xor.new.out)
     (rw c.in-Some-Xor.field-0-is at c.in-Some-Xor.ensures) (λ text status h. h) c.xor.ensures
+
+pub returns-in-Some-Run : goal.returns-in-Some-Run
+returns-in-Some-Run g c =
+    let exchange = c.in-Some-Run.exchange.now in
+    let rounds = map string_bytes c.in-Some-Run.rounds.now in
+    let call : Call = record {
+      words = map string_bytes c.args.words.now;
+      before = g.H.Shelf.told c.args.shelf.now;
+      after = g.H.Shelf.told c.run.new.shelf;
+      sink_faults = g.K.Sink.faults c.args.out.now;
+      sink_faults_after = g.K.Sink.faults c.run.new.out;
+      text = [];
+      status = c.run.result;
+    } in
+    served call (run exchange rounds) (λ one. RunAnswers one exchange rounds) (g.K.Sink.written c.args.out.now) (g.K.Sink.written c.run.new.out)
+    (rw c.in-Some-Run.field-0-is at c.in-Some-Run.ensures) (λ text status h. h) c.run.ensures
 
 pub returns-in-None : goal.returns-in-None
 returns-in-None g c =
