@@ -77,16 +77,16 @@ def fault_words(view: View) -> str:
 
 def spent_words(view: View) -> str:
     """What a search that was spent has found."""
-    steps = numbers.plural(view.journal.settings.branches, "branch step")
-    group = view.journal.last.spent
+    branches, group = view.journal.settings.branches, view.journal.last.spent
+    few = f"{numbers.plural(branches, 'branch step')} {'was' if branches == 1 else 'were'} too few"
     if view.alone or group is None:
-        return f"{steps} were too few"
+        return few
     scale = 100 if group.seeks == "provisional" else 1
     found, most = (
         numbers.decimal(Fraction(number or 0, scale)) for number in (group.value, group.bound)
     )
     return (
-        f"{steps} were too few in the search <code>{group.seeks}</code>: it found {found}, "
+        f"{few} in the search <code>{group.seeks}</code>: it found {found}, "
         f"where at most {most} is possible"
     )
 
