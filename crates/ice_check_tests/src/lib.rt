@@ -7,6 +7,8 @@ mod found;
 #[cfg(test)]
 mod journals;
 #[cfg(test)]
+mod pieces;
+#[cfg(test)]
 mod samples;
 #[cfg(test)]
 mod sessions;
