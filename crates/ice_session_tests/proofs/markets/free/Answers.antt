@@ -4,7 +4,7 @@ use Rattle.ice_defs.specs.Tree.{Tree}
 use Rattle.ice_defs.specs.Exchange.{trees_of}
 use Rattle.ice_bound.specs.Conditions.{AreFixingsOf}
 use Rattle.ice_bound.proofs.Fixings.{free_fixings}
-use Rattle.ice_search_tests.proofs.markets.free.Goals as goal
+use Rattle.ice_session_tests.proofs.markets.free.Goals as goal
 
 pub returns : goal.returns
 returns c =

@@ -2,7 +2,7 @@ use Rattle.std.proofs.Common.{sym, subst}
 use Rattle.ice_defs.specs.Exchange.{trees_of}
 use Rattle.ice_bound.specs.Conditions.{AreBoundsOf}
 use Rattle.ice_bound.proofs.Living.{opening_are_bounds}
-use Rattle.ice_search_tests.proofs.regrets.settle.Goals as goal
+use Rattle.ice_session_tests.proofs.regrets.settle.Goals as goal
 
 pub regret-requires-clause-bounds : goal.regret-requires-clause-bounds
 regret-requires-clause-bounds c =

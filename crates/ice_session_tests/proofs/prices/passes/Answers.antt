@@ -2,7 +2,7 @@ use Rattle.std.proofs.Common.{sym, subst, List}
 use Rattle.ice_defs.specs.Bounds.{Bounds}
 use Rattle.ice_pricing.specs.Bounding.{AreBoundsOf}
 use Rattle.ice_pricing.proofs.Weighing.{opening-are}
-use Rattle.ice_price_tests.proofs.rows.passes.Goals as goal
+use Rattle.ice_session_tests.proofs.prices.passes.Goals as goal
 
 pub weighted_values-requires : goal.weighted_values-requires
 weighted_values-requires c =

@@ -7,7 +7,7 @@ use Rattle.ice_tree.specs.Alike.{AreAlike}
 use Rattle.ice_bound.specs.Conditions.{AreWeightsOf}
 use Rattle.ice_bound.proofs.Living.{opening_are_bounds}
 use Rattle.ice_bound.proofs.Modest.{zeros_alike, lower_modest}
-use Rattle.ice_search_tests.proofs.markets.lower.Goals as goal
+use Rattle.ice_session_tests.proofs.markets.lower.Goals as goal
 
 pub fill_lower-requires : goal.fill_lower-requires
 fill_lower-requires c =

@@ -2,7 +2,7 @@ use Rattle.std.proofs.Common.{sym, subst, List}
 use Rattle.ice_defs.specs.Bounds.{Bounds}
 use Rattle.ice_pricing.specs.Bounding.{AreBoundsOf}
 use Rattle.ice_pricing.proofs.Weighing.{opening-are}
-use Rattle.ice_price_tests.proofs.rows.priced.Goals as goal
+use Rattle.ice_session_tests.proofs.prices.priced.Goals as goal
 
 pub price-requires-clause-bounds : goal.price-requires-clause-bounds
 price-requires-clause-bounds c =
