@@ -1,4 +1,4 @@
-use Rattle.std.proofs.Common.{◌≡◌, ◌<◌, ◌&&◌, ℕ, length}
+use Rattle.std.proofs.Common.{◌≡◌, ◌<◌, ◌&&◌, ◌≤◌, ℕ, length, false}
 use Rattle.ice_defs.specs.Set.{has}
 use Rattle.ice_defs.specs.Tree.{parent_of}
 use Rattle.ice_best.proofs.best_set.take_set.Given as goal
@@ -8,4 +8,5 @@ invariant-loop-node l = record {
   same_length : length l.out ≡ length l.tree;
   root_is : has l.out 0 ≡ l.root;
   child_is : (c : ℕ) → 0 < c → c < l.node → has l.out c ≡ (has l.out (parent_of l.tree c) && has l.taken c);
+  waiting : (c : ℕ) → 0 < c → l.node ≤ c → has l.out c ≡ false;
 }
