@@ -11,3 +11,5 @@ pub mod Marking
 pub mod Adding
 pub mod Copying
 pub mod Staying
+pub mod Moving
+pub mod Reaching

@@ -1,6 +1,10 @@
 //! Bounds of one list of trees that are kept at hand while marks and multipliers change.
-ghost use Rattle.std.specs.Prelude.{◌≡◌, ℕ, ◌*◌, ◌^◌, ◌<◌, ◌≤◌, length, map, replicate, slice_set, pos, neg_ℤ, ◌≤ℤ◌, IfOk};
+ghost use Rattle.std.specs.Prelude.{◌≡◌, ℕ, ◌*◌, ◌^◌, ◌<◌, ◌≤◌, length, map, replicate, slice_set, pos, neg_ℤ, ℤ, ◌≤ℤ◌, IfOk, IsTrue, ◌↔◌};
 ghost use Rattle.ice_defs.specs.declared.Mark.TheVariants.{Free};
+ghost use Rattle.ice_defs.specs.Bound.{IsNetSum};
+ghost use Rattle.ice_defs.specs.Sweep.{IsLive};
+ghost use Rattle.ice_bound.specs.Beside.{beside, with_beside};
+ghost use Rattle.ice_bound.specs.Multipliers.{multiplier_of, IsInRange};
 ghost use Rattle.ice_defs.specs.Log.{IsMultiplier};
 ghost use Rattle.ice_defs.specs.Steps.{with_mark};
 ghost use Rattle.ice_defs.specs.Trade.{tree_of, set_of, is_exact, total_value};
@@ -9,6 +13,7 @@ ghost use Rattle.ice_bound.specs.Conditions.{AreWeightsOf, AreFixingsOf, AreMult
 ghost use Rattle.ice_bound.specs.Kept.{IsNetAnswer, IsSumOfNets, AreRelaxedSets, IsSmallNet, IsSumOf, net_of, AreTotalUnits};
 
 use crate::answer::{Bound, NetSum};
+use crate::beside::reaches;
 use crate::bounds::floor_64th;
 use crate::copy::copy_fixings;
 use crate::found::Found;
@@ -116,6 +121,14 @@ fn value_of(trees: &[Tree], sets: &Assignment, weights: &[Weights]) -> i128
         total += tree.value(sets.of(bidder), &weights[place]);
     }
     total
+}
+
+/// One more, or one less.
+fn step_beside(number: i64, rises: bool) -> i64
+    requires { IsInRange number }
+    ensures { result ≡ beside rises number }
+{
+    if rises { number + 1 } else { number - 1 }
 }
 
 impl<'a> Kept<'a> {
@@ -278,7 +291,39 @@ impl<'a> Kept<'a> {
         );
     }
 
-    /// Gives all goods other multipliers. Time: one recursion over each tree.
+    /// Whether the sum of the bidders' greatest nets would be at least this where the good's multiplier was one more, or one
+    /// less. No bidder is dead, and the multiplier stays in its range. What is kept stays. Time: a pass over the trees that
+    /// have a leaf of the good, and one recursion over each of them until the answer is known.
+    pub fn reaches_beside(&mut self, good: u8, rises: bool, least: i128) -> bool
+        requires good { good < length self.old.exact }
+        requires live { IsLive self.old.trees self.old.marks }
+        requires range { IsInRange (beside rises (multiplier_of self.old.multipliers good)) }
+        ensures answer { (total : ℤ) → IsNetSum self.old.trees self.old.weights (with_beside
+            self.old.multipliers good rises) self.old.marks total → IsTrue result ↔ (least ≤ℤ total) }
+        ensures same { self.new ≡ self.old }
+    {
+        let mut moved = self.m.copy();
+        let number = step_beside(self.m.get(good), rises);
+        moved.put(good, number);
+        let found = &mut self.found;
+        reaches(
+            self.trees,
+            &self.weights,
+            &self.m,
+            &moved,
+            &self.marks,
+            &found.nets,
+            &found.sets,
+            &self.goods,
+            good,
+            rises,
+            least,
+            &mut found.spaces,
+            &mut found.scratch,
+        )
+    }
+
+    /// Gives all goods these multipliers. Time: one recursion over each tree, unless they are those that are kept.
     pub fn put_multipliers(&mut self, m: &Multipliers)
         requires { AreMultipliersOf self.old.exact m.now }
         ensures trees { self.new.trees ≡ self.old.trees }
@@ -287,6 +332,9 @@ impl<'a> Kept<'a> {
         ensures multipliers { self.new.multipliers ≡ m.now }
         ensures exact { self.new.exact ≡ self.old.exact }
     {
+        if self.m.is_same(m) {
+            return;
+        }
         self.m = m.copy();
         self.found
             .renew_all(self.trees, &self.weights, &self.m, &self.marks);

@@ -2,6 +2,7 @@
 #![tactic(auto)]
 
 mod answer;
+mod beside;
 mod bounds;
 mod copy;
 mod desk;

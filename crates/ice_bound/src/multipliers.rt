@@ -1,5 +1,5 @@
 //! One multiplier for each good.
-ghost use Rattle.std.specs.Prelude.{◌≡◌, ◌<◌, ◌≤◌, length, replicate, slice_set, pos};
+ghost use Rattle.std.specs.Prelude.{◌≡◌, ◌<◌, ◌≤◌, length, replicate, slice_set, pos, IsTrue};
 ghost use Rattle.ice_bound.specs.Multipliers.{multiplier_of, IsInRange, AreInRange};
 
 use arrayvec::ArrayVec;
@@ -67,6 +67,13 @@ impl Multipliers {
         ensures range { AreInRange result.now }
     {
         self.numbers.as_slice()
+    }
+
+    /// Whether they are the same multipliers.
+    pub(crate) fn is_same(&self, other: &Multipliers) -> bool
+        ensures { IsTrue result → self.now ≡ other.now }
+    {
+        self.numbers.as_slice() == other.numbers.as_slice()
     }
 
     /// The same multipliers once more.
