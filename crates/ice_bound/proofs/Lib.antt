@@ -11,5 +11,7 @@ pub mod Marking
 pub mod Adding
 pub mod Copying
 pub mod Staying
+-- what a set costs where one good has another multiplier
 pub mod Moving
+-- the sum of the greatest nets where a multiplier is one more, or one less
 pub mod Reaching

@@ -13,7 +13,7 @@ use Rattle.ice_bound.specs.Kept.{Standing}
 use Rattle.ice_bound.specs.Multipliers.{multiplier_of}
 use Rattle.ice_mult.specs.declared.direction.Direction.{Direction}
 use Rattle.ice_mult.specs.declared.direction.Direction.TheVariants.{Up, Down}
-use Rattle.ice_mult.specs.Foot.{toward, IsAllowed, IsWay, Rests}
+use Rattle.ice_mult.specs.Foot.{toward, IsAllowed, IsWay, Falls, Rests}
 use Rattle.ice_mult.specs.Moved.{AreAlike, IsMoved, MayMove, IsSumWith, IsSettled}
 
 -- the same sum of the same things
@@ -59,6 +59,11 @@ module _ (old mid : Standing) (g : ℕ) (a : ℤ) (moved : IsMoved old g a mid) 
   pub rests_back : (d : Direction) (k : ℕ) → Rests (IsSumWith mid g) d k → Rests (IsSumWith old g) d k
   rests_back d k (inl end) = inl end
   rests_back d k (inr (here, is, on)) = inr (here, sum_back (toward d k) here is, λ j other h others. on j other h (sum_on (toward d j) other others))
+
+  pub falls_back : (d : Direction) (k : ℕ) → Falls (IsSumWith mid g) d k → Falls (IsSumWith old g) d k
+  falls_back d k (inl none) = inl none
+  falls_back d k (inr (j, e, before, here, is_before, is_here, down)) =
+      inr (j, e, before, here, sum_back (toward d j) before is_before, sum_back (toward d k) here is_here, down)
 
   pub alike_on : (new : Standing) → AreAlike mid new → AreAlike old new
   alike_on new alike = record {

@@ -1,5 +1,5 @@
 //! Sweeps over bounds that are kept. Where the guess of a multiplier is right, few trees are looked at.
-ghost use Rattle.std.specs.Prelude.{◌≡◌, ◌<◌, ◌≤◌, ◌^◌, ℤ, length, false, IsTrue};
+ghost use Rattle.std.specs.Prelude.{◌≡◌, ◌<◌, ◌≤◌, ◌^◌, ℤ, pos, ◌+ℤ◌, length, false, IsTrue, IfSome};
 ghost use Rattle.ice_defs.specs.Bound.{IsNetSum};
 ghost use Rattle.ice_defs.specs.Log.{IsMultiplier};
 ghost use Rattle.ice_defs.specs.Sweep.{IsLive, SweepsBelow, Sweeps};
@@ -25,53 +25,40 @@ fn total(kept: &Kept) -> i128
     }
 }
 
-/// Gives the good another multiplier. The sum of the greatest nets there.
-fn move_to(kept: &mut Kept, good: u8, number: i64) -> i128
-    requires may { MayMove kept.old good }
-    requires number { IsMultiplier (is_exact kept.old.exact good) number }
-    ensures sum { IsSumWith kept.old good number result }
-    ensures moved { IsMoved kept.old good number kept.new }
+/// The next number, where there is one.
+fn one_more(number: i128) -> Option<i128>
+    ensures { IfSome result (λ v. v ≡ number +ℤ pos 1) }
 {
-    kept.multiplier(good, number);
-    total(kept)
+    number.checked_add(1)
 }
 
-/// Moves the good to so many steps from 0, and tells whether the last step makes the sum smaller.
-fn falls_to(kept: &mut Kept, good: u8, direction: Direction, steps: u64) -> bool
+/// Whether the last step to where the good is makes the sum smaller. No step leads to 0.
+fn falls(kept: &mut Kept, good: u8, direction: Direction, steps: u64) -> bool
     requires may { MayMove kept.old good }
-    requires allowed { IsAllowed (is_exact kept.old.exact good) direction }
     requires steps { steps ≤ 2 ^ 56 }
+    requires there { multiplier_of kept.old.multipliers good ≡ toward direction steps }
     ensures falls { IsTrue result → Falls (IsSumWith kept.old good) direction steps }
-    ensures moved { IsMoved kept.old good (toward direction steps) kept.new }
+    ensures same { kept.new ≡ kept.old }
 {
     if steps == 0 {
-        kept.multiplier(good, direction.at(0));
         return true;
     }
-    let before = move_to(kept, good, direction.at(steps - 1));
-    let here = move_to(kept, good, direction.at(steps));
-    here < before
+    match one_more(total(kept)) {
+        Some(more) => kept.reaches_beside(good, !direction.is_up(), more),
+        None => false,
+    }
 }
 
 /// Whether no step on from where the good is makes the sum smaller.
 fn rests(kept: &mut Kept, good: u8, direction: Direction, steps: u64) -> bool
     requires may { MayMove kept.old good }
-    requires allowed { IsAllowed (is_exact kept.old.exact good) direction }
     requires steps { steps < 2 ^ 56 }
     requires there { multiplier_of kept.old.multipliers good ≡ toward direction steps }
     ensures rests { IsTrue result → Rests (IsSumWith kept.old good) direction steps }
-    ensures moved { IsMoved kept.old good (toward direction steps) kept.new }
+    ensures same { kept.new ≡ kept.old }
 {
     let here = total(kept);
-    // They are known to be open, one for each bidder.
-    let _sets = kept.sets();
-    // With no step on does the sum fall by more than these units.
-    if direction.turn(kept.units().get(good)) <= 0 {
-        return true;
-    }
-    let after = move_to(kept, good, direction.at(steps + 1));
-    kept.multiplier(good, direction.at(steps));
-    here <= after
+    kept.reaches_beside(good, direction.is_up(), here)
 }
 
 /// Moves the good to so many steps from 0, and tells whether the sum is known to stop falling there.
@@ -82,7 +69,8 @@ fn has_foot(kept: &mut Kept, good: u8, direction: Direction, steps: u64) -> bool
     ensures foot { IsTrue result → IsFoot (IsSumWith kept.old good) direction steps }
     ensures moved { IsMoved kept.old good (toward direction steps) kept.new }
 {
-    falls_to(kept, good, direction, steps) && rests(kept, good, direction, steps)
+    kept.multiplier(good, direction.at(steps));
+    rests(kept, good, direction, steps) && falls(kept, good, direction, steps)
 }
 
 /// Whether the good may have numbers in this direction, and so many steps are its lowest multiplier where the sum stops

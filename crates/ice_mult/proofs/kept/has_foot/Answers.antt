@@ -1,15 +1,46 @@
-use Rattle.ice_mult.proofs.Settling.{rests_back, moved_again, may_still}
+use Rattle.std.proofs.Common.{rules, ◌∙◌, ap, sym, subst, set}
+use Rattle.std.proofs.lemmas.Int.{to_z-of_z}
+use mir.Syntax.{w64}
+use mir.Val.{SFits}
+use Rattle.ice_mult.specs.Foot.{toward, Falls}
+use Rattle.ice_mult.specs.Moved.{MayMove, IsMoved, IsSumWith}
+use Rattle.ice_mult.proofs.Settling.{falls_back, rests_back, may_still}
 use Rattle.ice_mult.proofs.kept.has_foot.Goals as goal
 
 pub rests-requires-clause-may : goal.rests-requires-clause-may
-rests-requires-clause-may c = may_still c.args.kept.now c.falls_to.new.kept c.args.good _ c.falls_to.ensures.moved c.requires.may
+rests-requires-clause-may c =
+    let fits : SFits w64 c.at.result = search rules in
+    let kept = c.args.kept.now in
+    let moved : IsMoved kept c.args.good (toward c.args.direction c.args.steps) c.multiplier.new.self = record {
+      alike = record { trees = c.multiplier.ensures.trees; weights = c.multiplier.ensures.weights; marks = c.multiplier.ensures.marks; exact = c.multiplier.ensures.exact };
+      multipliers = c.multiplier.ensures.multipliers ∙ ap (λ z. set kept.multipliers c.args.good z) (to_z-of_z w64 c.at.result fits ∙ c.at.ensures);
+    } in
+    may_still kept c.multiplier.new.self c.args.good (toward c.args.direction c.args.steps) moved c.requires.may
 
-pub returns-then-falls_to-clause-foot : goal.returns-then-falls_to-clause-foot
-returns-then-falls_to-clause-foot c = λ yes. record {
-  falls = c.falls_to.ensures.falls c.if-falls_to.true;
-  rests = rests_back c.args.kept.now c.falls_to.new.kept c.args.good _ c.falls_to.ensures.moved c.args.direction c.args.steps (c.rests.ensures.rests yes);
-}
+pub falls-requires-clause-may : goal.falls-requires-clause-may
+falls-requires-clause-may c =
+    let fits : SFits w64 c.at.result = search rules in
+    let kept = c.args.kept.now in
+    let moved : IsMoved kept c.args.good (toward c.args.direction c.args.steps) c.multiplier.new.self = record {
+      alike = record { trees = c.multiplier.ensures.trees; weights = c.multiplier.ensures.weights; marks = c.multiplier.ensures.marks; exact = c.multiplier.ensures.exact };
+      multipliers = c.multiplier.ensures.multipliers ∙ ap (λ z. set kept.multipliers c.args.good z) (to_z-of_z w64 c.at.result fits ∙ c.at.ensures);
+    } in
+    subst (λ st. MayMove st c.args.good) (sym c.rests.ensures.same)
+    (may_still kept c.multiplier.new.self c.args.good (toward c.args.direction c.args.steps) moved c.requires.may)
 
-pub returns-then-falls_to-clause-moved : goal.returns-then-falls_to-clause-moved
-returns-then-falls_to-clause-moved c =
-    moved_again c.args.kept.now c.falls_to.new.kept c.args.good _ c.falls_to.ensures.moved _ c.rests.new.kept c.rests.ensures.moved
+pub returns-then-rests-clause-foot : goal.returns-then-rests-clause-foot
+returns-then-rests-clause-foot c = λ yes.
+    let fits : SFits w64 c.at.result = search rules in
+    let kept = c.args.kept.now in
+    let g = c.args.good in
+    let d = c.args.direction in
+    let k = c.args.steps in
+    let mid = c.multiplier.new.self in
+    let moved : IsMoved kept g (toward d k) mid = record {
+      alike = record { trees = c.multiplier.ensures.trees; weights = c.multiplier.ensures.weights; marks = c.multiplier.ensures.marks; exact = c.multiplier.ensures.exact };
+      multipliers = c.multiplier.ensures.multipliers ∙ ap (λ z. set kept.multipliers g z) (to_z-of_z w64 c.at.result fits ∙ c.at.ensures);
+    } in
+    record {
+      falls = falls_back kept mid g (toward d k) moved d k (subst (λ st. Falls (IsSumWith st g) d k) c.rests.ensures.same (c.falls.ensures.falls yes));
+      rests = rests_back kept mid g (toward d k) moved d k (c.rests.ensures.rests c.if-rests.true);
+    }
