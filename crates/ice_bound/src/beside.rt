@@ -1,7 +1,7 @@
 //! Whether the sum of the greatest nets reaches a number where the multiplier of one good is one more, or one less.
 ghost use Rattle.std.specs.Prelude.{◌≡◌, ℕ, ◌*◌, ◌+◌, ◌^◌, ◌<◌, ◌≤◌, ◌↔◌, length, vec_len, IsTrue, if◌then◌else◌, pos, neg_ℤ, ℤ, ◌≤ℤ◌};
 ghost use Rattle.ice_defs.specs.Bound.{IsNetSum, net};
-ghost use Rattle.ice_defs.specs.Set.{NodeSet as Nodes, leaf_units, units};
+ghost use Rattle.ice_defs.specs.Set.{NodeSet as Nodes, has, leaf_units, units};
 ghost use Rattle.ice_defs.specs.Sum.{sum_below};
 ghost use Rattle.ice_defs.specs.Sweep.{IsLive};
 ghost use Rattle.ice_defs.specs.Trade.{tree_of, set_of, weights_of};
@@ -30,24 +30,36 @@ fn units_of_kind(kind: NodeKind, of: u8) -> i64
 }
 
 /// The same of a node inside, and 0 of one outside.
-fn units_inside(kind: NodeKind, inside: bool, of: u8) -> i64
-    ensures value { result ≡ (if inside then leaf_units kind of else pos 0) }
+fn units_inside(kind: NodeKind, set: &NodeSet, node: u16, of: u8) -> i64
+    requires { node < length set.now }
+    ensures value { result ≡ (if has set.now node then leaf_units kind of else pos 0) }
     ensures low { neg_ℤ (pos 65535) ≤ℤ result }
     ensures high { result ≤ℤ pos 65535 }
 {
-    if inside { units_of_kind(kind, of) } else { 0 }
+    let units = units_of_kind(kind, of);
+    if units != 0 && set.has(node) {
+        units
+    } else {
+        0
+    }
 }
 
-/// The units of the good that the set buys, less those that it sells.
-fn units_of_set(tree: &Tree, set: &NodeSet, good: u8) -> i64
-    requires { length set.now ≡ length tree.now }
+/// The units of the good that the set buys, less those that it sells. There is one truth value for each of 32 goods, which
+/// is false only where the tree has no leaf of the good.
+fn units_of_set(tree: &Tree, set: &NodeSet, goods: &[bool; 32], good: u8) -> i64
+    requires set { length set.now ≡ length tree.now }
+    requires goods { AreGoodsOf tree.now goods.now }
+    requires good { good < 32 }
     ensures value { result ≡ units tree.now set.now good }
     ensures low { neg_ℤ (pos 13107000) ≤ℤ result }
     ensures high { result ≤ℤ pos 13107000 }
 {
+    if !goods[good as usize] {
+        return 0;
+    }
     let mut sum: i64 = 0;
     for node in 0..tree.nodes() {
-        sum += units_inside(tree.kind(node), set.has(node), good);
+        sum += units_inside(tree.kind(node), set, node, good);
     }
     sum
 }
@@ -115,6 +127,7 @@ fn sum_beside(
     marks: &Fixings,
     nets: &[Option<i128>],
     sets: &Assignment,
+    goods: &[[bool; 32]],
     good: u8,
     rises: bool,
 ) -> i128
@@ -123,7 +136,9 @@ fn sum_beside(
     requires live { IsLive trees.now marks.now }
     requires found { AreFound trees.now weights.now m.now marks.now nets.now sets.now (length
         trees.now) }
+    requires goods { AreGoods trees.now goods.now (length trees.now) }
     requires good { good < length m.now }
+    requires good_fits { good < 32 }
     ensures sum { sum_below (λ b. net (tree_of trees.now b) (weights_of weights.now b)
         (with_beside m.now good rises) (set_of sets.now b)) (length trees.now) ≡ result }
     ensures low { neg_ℤ (pos (40 * (201 * 2 ^ 90))) ≤ℤ result }
@@ -135,7 +150,7 @@ fn sum_beside(
         let Some(net) = nets[place] else {
             unreachable!()
         };
-        let units = units_of_set(&trees[place], sets.of(bidder), good);
+        let units = units_of_set(&trees[place], sets.of(bidder), &goods[place], good);
         total += after_cost(net, units, rises);
     }
     total
@@ -174,7 +189,7 @@ pub(crate) fn reaches(
         total → IsTrue result ↔ (least ≤ℤ total) }
     ensures spaces { vec_len spaces.new ≡ vec_len spaces.old }
 {
-    let mut bound = sum_beside(trees, weights, m, marks, nets, sets, good, rises);
+    let mut bound = sum_beside(trees, weights, m, marks, nets, sets, goods, good, rises);
     for bidder in 0..trees.len() as u8 {
         if bound >= least {
             return true;
@@ -185,6 +200,7 @@ pub(crate) fn reaches(
         let Some(net) = nets[place] else {
             unreachable!()
         };
+        let units = units_of_set(tree, set, &goods[place], good);
         let greatest = greatest_beside(
             tree,
             &weights[place],
@@ -202,7 +218,7 @@ pub(crate) fn reaches(
         let Some(greatest) = greatest else {
             unreachable!()
         };
-        bound += greatest - after_cost(net, units_of_set(tree, set, good), rises);
+        bound += greatest - after_cost(net, units, rises);
     }
     bound >= least
 }

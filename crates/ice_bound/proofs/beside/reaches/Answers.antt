@@ -93,15 +93,15 @@ loop-bidder-preserved c =
     total_fits _ (omega (arith, ints, low, high, cost_low, cost_high)) (omega (arith, ints, low, high, cost_low, cost_high)) in
     let (net_low, net_high) : IsSmallNet (Some c.in-Some.net) = subst IsSmallNet c.in-Some.is (c.requires.found.small b there) in
     let net_fits : SFits w128 c.in-Some.net = total_fits _ (omega (arith, ints, net_low)) (omega (arith, ints, net_high)) in
-    let units_fit : SFits w64 c.units_of_set.result = search rules in
+    let units_fit : SFits w64 c.units_of_set-units.result = search rules in
     let found : IsFound (tree_of ts b) (weights_of ws b) c.args.m.now (fixing_of xs b) (Some c.in-Some.net) (set_of sets b) =
     subst (λ o. IsFound (tree_of ts b) (weights_of ws b) c.args.m.now (fixing_of xs b) o (set_of sets b)) c.in-Some.is (c.requires.found.each b there) in
     let tree : c.index-trees-place.result ≡ tree_of ts b = c.index-trees-place.is ∙ get_or_default ts b c.index-trees-place.result [] there in
     let weights = c.index-weights-place.is ∙ get_or_default ws b c.index-weights-place.result [] weights_there in
-    let same_units : c.units_of_set.result ≡ units (tree_of ts b) (set_of sets b) g =
-    c.units_of_set.ensures.value ∙ ap (λ t. units t c.of-set.result.now g) tree ∙ ap (λ s. units (tree_of ts b) s g) c.of-set.ensures in
-    let value : cost ≡ less_cost c.args.rises c.in-Some.net c.units_of_set.result =
-    rw (to_z-of_z w128 c.in-Some.net net_fits, to_z-of_z w64 c.units_of_set.result units_fit) at c.after_cost.ensures.value in
+    let same_units : c.units_of_set-units.result ≡ units (tree_of ts b) (set_of sets b) g =
+    c.units_of_set-units.ensures.value ∙ ap (λ t. units t c.of-set.result.now g) tree ∙ ap (λ s. units (tree_of ts b) s g) c.of-set.ensures in
+    let value : cost ≡ less_cost c.args.rises c.in-Some.net c.units_of_set-units.result =
+    rw (to_z-of_z w128 c.in-Some.net net_fits, to_z-of_z w64 c.units_of_set-units.result units_fit) at c.after_cost.ensures.value in
     let here : net_at ts ws m2 sets b ≡ cost =
     low_at c.args.m.now g c.requires.good (tree_of ts b) (weights_of ws b) (fixing_of xs b) (set_of sets b) c.args.rises c.in-Some.net found
     ∙ ap (λ u. less_cost c.args.rises c.in-Some.net u) (sym same_units) ∙ sym value in
