@@ -48,7 +48,7 @@ fn sum_at(relaxation: &mut Relaxation, m: &mut [i64; 32], good: u8, number: i64)
     relaxation.part_at(m, good)
 }
 
-/// The sum at so many steps from 0 in a direction, and its rise.
+/// The sum at so many steps from 0 in a direction, where the good is left, and its rise.
 fn slope_at(
     relaxation: &mut Relaxation,
     m: &mut [i64; 32],
@@ -58,9 +58,9 @@ fn slope_at(
 ) -> Slope
     ensures { relaxation.new ≡ relaxation.old }
 {
-    let sum = sum_at(relaxation, m, good, direction.wrapping_mul(at));
     let next = direction.wrapping_mul(at.wrapping_add(1));
     let after = sum_at(relaxation, m, good, next);
+    let sum = sum_at(relaxation, m, good, direction.wrapping_mul(at));
     Slope {
         at,
         sum,
@@ -68,7 +68,7 @@ fn slope_at(
     }
 }
 
-/// Whether the sum falls to this multiplier, which isn't 0, and no farther.
+/// Whether the sum falls to this multiplier, which isn't 0, and no farther. The good is left there.
 fn is_least(relaxation: &mut Relaxation, m: &mut [i64; 32], good: u8, number: i64) -> bool
     ensures { relaxation.new ≡ relaxation.old }
 {
@@ -76,9 +76,9 @@ fn is_least(relaxation: &mut Relaxation, m: &mut [i64; 32], good: u8, number: i6
     if step == 0 {
         return false;
     }
-    let here = sum_at(relaxation, m, good, number);
     let before = sum_at(relaxation, m, good, number.wrapping_sub(step));
     let after = sum_at(relaxation, m, good, number.wrapping_add(step));
+    let here = sum_at(relaxation, m, good, number);
     before > here && after >= here
 }
 
@@ -136,11 +136,14 @@ pub fn forecast(relaxation: &mut Relaxation, kept: &Kept<'_>, guess: &Multiplier
     let goods = goods_of(kept);
     let guess = numbers_of(guess);
     let mut m = [0; 32];
+    relaxation.stand_at(&m);
     for good in 0..goods.count {
         let place = usize::from(good % 32);
         let near = guess[place].clamp(-FARTHEST, FARTHEST);
         let number = lowest(relaxation, &mut m, good, goods.exact[place], near);
-        m[place] = number;
+        if m[place] != number {
+            sum_at(relaxation, &mut m, good, number);
+        }
     }
     multipliers_of(kept, &m)
 }

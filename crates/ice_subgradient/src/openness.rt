@@ -81,7 +81,7 @@ fn choice_of(need: u16, room: u16, offered: u16) -> Choice {
 }
 
 /// The mark of a node, where one node may have another one.
-fn mark_of(mark: Mark, node: u16, trial: Option<(u16, Mark)>) -> Mark {
+pub(crate) fn mark_of(mark: Mark, node: u16, trial: Option<(u16, Mark)>) -> Mark {
     match trial {
         Some((other, tried)) if other == node => tried,
         _ => mark,

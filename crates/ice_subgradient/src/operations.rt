@@ -1,7 +1,8 @@
 //! A tree under marks as a short list of operations, which work out its greatest net and take the nodes of it.
 ghost use Rattle.std.specs.Prelude.{◌≡◌, ◌<◌, ◌≤◌, length};
 
-use crate::openness::{Choice, Open, Openness};
+use crate::openness::{Choice, Open, Openness, mark_of};
+use ice_best::{Fixing, Mark};
 use ice_tree::{NodeKind, Tree};
 
 /// No operation has this number, since a tree has at most 200 nodes.
@@ -39,6 +40,8 @@ pub(crate) struct Operation {
     pub(crate) offered: u8,
     /// Where its operands or leaves end.
     pub(crate) end: u8,
+    /// A bit for each good that leaves at the node or below it buy or sell.
+    goods: u32,
 }
 
 /// What a leaf buys, or sells.
@@ -68,7 +71,9 @@ pub(crate) struct Operations {
     /// The number of the operation of each node.
     numbers: [u8; 200],
     is_forced: bool,
-    has_good: [bool; 32],
+    /// The marks that they are of, on so many nodes, and on none before the first look.
+    marks: [Mark; 200],
+    marked: u16,
     /// What the operations worked out.
     values: [i64; 256],
     /// The operand that each took as the best, or `NONE`.
@@ -98,6 +103,11 @@ fn rule_of(open: &Open, offered: u8) -> Rule {
     }
 }
 
+/// The bit of a good.
+fn bit_of(good: u8) -> u32 {
+    1 << (good % 32)
+}
+
 /// A number of children, which fits in a byte.
 fn byte(number: u16) -> u8 {
     number.min(255) as u8
@@ -121,6 +131,7 @@ impl Operations {
             first: 0,
             offered: 0,
             end: 0,
+            goods: 0,
         };
         Operations {
             list: [blank; 256],
@@ -131,7 +142,8 @@ impl Operations {
             leaf_count: 0,
             numbers: [NONE; 200],
             is_forced: false,
-            has_good: [false; 32],
+            marks: [Mark::Free; 200],
+            marked: 0,
             values: [0; 256],
             bests: [NONE; 256],
             is_taken: [false; 256],
@@ -144,12 +156,32 @@ impl Operations {
         }
     }
 
+    /// Whether they are of these marks, where one node may have another one.
+    pub(crate) fn are_of(&self, fixing: &Fixing, trial: Option<(u16, Mark)>) -> bool {
+        if self.marked != fixing.len() {
+            return false;
+        }
+        for node in 0..fixing.len() {
+            if self.marks[usize::from(node)] != mark_of(fixing.get(node), node, trial) {
+                return false;
+            }
+        }
+        true
+    }
+
+    /// Keeps the marks that they are of.
+    pub(crate) fn keep_marks(&mut self, fixing: &Fixing, trial: Option<(u16, Mark)>) {
+        self.marked = fixing.len();
+        for node in 0..fixing.len() {
+            self.marks[usize::from(node)] = mark_of(fixing.get(node), node, trial);
+        }
+    }
+
     /// Makes them those of a tree of which this is open.
     pub(crate) fn fill(&mut self, tree: &Tree, openness: &Openness) {
         self.count = 0;
         self.operand_count = 0;
         self.leaf_count = 0;
-        self.has_good = [false; 32];
         self.is_forced = openness.of(0).is_forced;
         for node in (0..tree.nodes()).rev() {
             if openness.of(node).is_reached && !openness.is_bound(tree, node) {
@@ -181,12 +213,13 @@ impl Operations {
     {
         let open = openness.of(node);
         let first = self.leaf_count;
+        let mut goods = 0;
         for below in node..tree.nodes() {
             if below > open.last {
                 break;
             }
             if openness.of(below).is_reached {
-                self.add_leaf(tree.kind(below));
+                goods |= self.add_leaf(tree.kind(below));
             }
         }
         Operation {
@@ -198,19 +231,20 @@ impl Operations {
             first,
             offered: self.leaf_count,
             end: self.leaf_count,
+            goods,
         }
     }
 
-    /// Adds a leaf to a row.
-    fn add_leaf(&mut self, kind: NodeKind) {
+    /// Adds a leaf to a row. The bit of its good.
+    fn add_leaf(&mut self, kind: NodeKind) -> u32 {
         let (good, units) = match kind {
-            NodeKind::Choose { .. } => return,
+            NodeKind::Choose { .. } => return 0,
             NodeKind::Buy { good, units } => (good % 32, i64::from(units)),
             NodeKind::Sell { good, units } => (good % 32, -i64::from(units)),
         };
         self.leaves[usize::from(self.leaf_count)] = Leaf { units, good };
         self.leaf_count = self.leaf_count.saturating_add(1);
-        self.has_good[usize::from(good)] = true;
+        bit_of(good)
     }
 
     /// The choice of a node among its children.
@@ -233,7 +267,18 @@ impl Operations {
             first,
             offered,
             end,
+            goods: self.goods_of(first, end),
         }
+    }
+
+    /// The goods of some operands.
+    fn goods_of(&self, first: u8, end: u8) -> u32 {
+        let mut goods = 0;
+        for place in first..end {
+            let number = self.operands[usize::from(place)];
+            goods |= self.list[usize::from(number)].goods;
+        }
+        goods
     }
 
     /// Adds the children of a node that come along with it, or those that may be taken.
@@ -273,7 +318,8 @@ impl Operations {
 
     /// Whether units of the good may be bought or sold.
     pub(crate) fn has_good(&self, good: u8) -> bool {
-        self.has_good[usize::from(good % 32)]
+        let root = self.list[usize::from(self.count.saturating_sub(1))];
+        self.count > 0 && root.goods & bit_of(good) != 0
     }
 
     /// The greatest net at the multipliers, in 64ths.
@@ -282,6 +328,23 @@ impl Operations {
             let value = self.value_of(number, m);
             self.values[usize::from(number)] = value;
         }
+        self.greatest_net()
+    }
+
+    /// The greatest net at the multipliers, of which that of one good alone may be another than at the last time.
+    pub(crate) fn evaluate_good(&mut self, m: &[i64; 32], good: u8) -> i64 {
+        let bit = bit_of(good);
+        for number in 0..self.count {
+            if self.list[usize::from(number)].goods & bit != 0 {
+                let value = self.value_of(number, m);
+                self.values[usize::from(number)] = value;
+            }
+        }
+        self.greatest_net()
+    }
+
+    /// The greatest net that the operations worked out.
+    fn greatest_net(&self) -> i64 {
         if self.takes_root() {
             self.root_value()
         } else {

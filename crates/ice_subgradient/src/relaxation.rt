@@ -50,7 +50,8 @@ impl Relaxation {
         })
     }
 
-    /// Looks at the side of these marks. Time: some passes over the nodes of all trees.
+    /// Looks at the side of these marks. All looks are at the same trees and weights. Time: some passes over the nodes of
+    /// the trees whose marks aren't those of the last look.
     pub fn look_at(&mut self, trees: &[Tree], weights: &AllWeights, marks: &Fixings)
         requires few { length trees.now ≤ 40 }
         requires weights { AreWeightsOf trees.now weights.now }
@@ -99,9 +100,13 @@ impl Relaxation {
     {
         let place = usize::from(bidder);
         let tree = &trees[place];
-        self.openness
-            .fill(tree, weights.of(bidder), marks.of(bidder), trial);
+        let fixing = marks.of(bidder);
+        if self.trees[place].are_of(fixing, trial) {
+            return;
+        }
+        self.openness.fill(tree, weights.of(bidder), fixing, trial);
         self.trees[place].fill(tree, &self.openness);
+        self.trees[place].keep_marks(fixing, trial);
     }
 
     /// Sets the counts of all nodes to 0.
@@ -131,14 +136,24 @@ impl Relaxation {
         sight
     }
 
-    /// The sum of the greatest nets of those trees that may buy or sell the good.
+    /// Works out all trees at the multipliers, and counts nothing.
+    pub(crate) fn stand_at(&mut self, m: &[i64; 32])
+        ensures { self.new ≡ self.old }
+    {
+        for tree in self.trees.iter_mut() {
+            tree.evaluate(m);
+        }
+    }
+
+    /// The sum of the greatest nets of those trees that may buy or sell the good. Its multiplier alone may be another than
+    /// at the last time.
     pub(crate) fn part_at(&mut self, m: &[i64; 32], good: u8) -> i128
         ensures { self.new ≡ self.old }
     {
         let mut total: i128 = 0;
         for tree in self.trees.iter_mut() {
             if tree.has_good(good) {
-                total = total.saturating_add(i128::from(tree.evaluate(m)));
+                total = total.saturating_add(i128::from(tree.evaluate_good(m, good)));
             }
         }
         total
