@@ -75,11 +75,13 @@ def up_to(most: int) -> str:
     digits = str(most)
     choices = [f"[1-9][0-9]{{0,{len(digits) - 2}}}"] if len(digits) > 1 else []
     for place, digit in enumerate(digits):
-        least = 0 if place else 1
-        if int(digit) > least:
-            rest = len(digits) - place - 1
-            choices.append(f"{digits[:place]}[{least}-{int(digit) - 1}][0-9]{{{rest}}}")
-    return "|".join([*choices, digits])
+        rest = digits[place + 1 :]
+        least, greatest = 0 if place else 1, int(digit) - (rest.strip("9") != "")
+        if least <= greatest:
+            choices.append(f"{digits[:place]}[{least}-{greatest}]" + "[0-9]" * len(rest))
+        if not rest.strip("9"):
+            break
+    return "|".join(choices)
 
 
 def whole(low: int, high: int) -> Field:
@@ -206,7 +208,7 @@ def read_record(line: str) -> Record:
 def log_lines(leaf: str) -> re.Pattern[bytes]:
     """A pattern of lines of a log whose leaves are `leaf` or `near` records.
 
-    It knows the spelling of each field, but not how many pairs a `near` states.
+    Of a leaf, of which a page shows nothing, it knows the word and which characters may follow.
     """
-    forms = "|".join(FORMS[head].pattern for head in (leaf, "branch", "dead"))
-    return re.compile(f"(?:(?:{forms})\n)*".encode())
+    steps = "|".join(f"{FORMS[head].pattern}\n" for head in ("branch", "dead"))
+    return re.compile(f"(?:{leaf} [0-9 -]*[0-9]\n|{steps})*".encode())

@@ -88,7 +88,8 @@ class Logs(unittest.TestCase):
     def test_names_the_line_at_fault(self):
         for bad, why in (
             ("leaf 0", "line 3: `leaf 0` stands"),
-            ("near 1 0", "line 3: `near 1 0` stands"),
+            ("near 1 O", "line 3: `near 1 O` stands"),
+            ("near", "line 3: `near` stands"),
             ("branch 40 0", "line 3: `branch 40 0`"),
             ("set 1", "line 3: `set 1` stands"),
         ):
