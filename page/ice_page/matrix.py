@@ -23,6 +23,7 @@ from .view import View
 
 NARROW_NAMES = 4
 MANY_GOODS = 16
+MANY_IDLE = 6
 BAR = 120
 
 
@@ -45,6 +46,8 @@ class Matrix:
         )
         self.scale = BAR / most
         self.is_dense = len(self.journal.goods) > MANY_GOODS
+        idle = [number for number in view.bidders if self.is_idle(number)]
+        self.unlisted = idle if len(idle) > MANY_IDLE else []
 
     def whole(self) -> str:
         """The table and its legend; many goods leave the payments no room, which then follow."""
@@ -59,9 +62,17 @@ class Matrix:
         caption = "Who trades what" + ", and what each pays" * bool(self.payments)
         return self.table(caption, look, True, bool(self.payments)) + self.legend()
 
+    def is_idle(self, number: int) -> bool:
+        """Whether a bidder owns nothing, trades nothing and pays nothing, so that its row is empty."""
+        has = any(self.view.units[number]) or any(self.journal.bidders[number].owned)
+        payment = self.journal.payments[number] if self.journal.payments else None
+        pays = payment and (payment.vickrey or payment.discount or payment.payment)
+        return not (has or pays or self.view.worths[number])
+
     def table(self, caption: str, look: str, goods: bool, payments: bool) -> str:
-        """A table of all bidders, with the goods and the payments or one of them."""
-        rows = [self.bidder(number, goods, payments) for number in self.view.bidders]
+        """A table of the bidders, with the goods and the payments or one of them."""
+        listed = [number for number in self.view.bidders if number not in self.unlisted]
+        rows = [self.bidder(number, goods, payments) for number in listed]
         foot = (
             ""
             if self.view.alone
@@ -173,6 +184,7 @@ class Matrix:
     def legend(self) -> str:
         """What the signs mean."""
         unit = f", in{self.view.with_unit}" if self.view.unit else ""
+        names = ", ".join(text(self.journal.bidders[number].name) for number in self.unlisted)
         odds = '<b class="bad">The sets of this journal don’t add up to what it states.</b>'
         return key(
             '<b class="buy">+</b> buys',
@@ -183,6 +195,7 @@ class Matrix:
             "bars: what a bidder adds to the total; the part past the cut is its discount"
             if self.payments
             else "",
+            f"{len(self.unlisted)} more own nothing and trade nothing: {names}" if names else "",
             "= no unit of this good may be left over"
             if any(g.exact for g in self.journal.goods)
             else "",

@@ -95,6 +95,20 @@ class Limits(unittest.TestCase):
             self.assertEqual((status, why in errors), (2, True), errors)
             self.assertRegex(errors, "line [0-9]+: ")
 
+    def test_idle_bidders(self):
+        # Of many bidders that own and trade nothing the tables have no rows, and one line has all names.
+        for count in (6, 7):
+            trees = ["node sell 0 1 -2 -1\n"] + [wide(2)] * count
+            journal = assignment(1, trees).replace("bidder b0 0", "bidder b0 1")
+            page = page_of(journal)
+            heads = [row[0] for row in page.table("Who trades what")[1:-1]]
+            idle = [f"b{number}" for number in range(1, count + 1)]
+            few = count == 6
+            self.assertEqual(heads, ["b0", *idle] if few else ["b0"])
+            words = f"{count} more own nothing and trade nothing: {', '.join(idle)}"
+            self.assertEqual(words in page.root.seen(), not few)
+            self.assertEqual(len(page.root.all("article")), count + 1)
+
     def test_names_nobody_has(self):
         # Refused bids are counted; of the names that no bidder has, the first few are kept.
         bids = "".join(f"submit nobody{number} 0 0\nverdict 45\n" for number in range(500))
