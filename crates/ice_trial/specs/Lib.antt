@@ -1,0 +1,3 @@
+pub mod Summaries
+pub mod Rounds
+pub mod Ends
