@@ -1,0 +1,31 @@
+use Rattle.std.proofs.Common.{◌∙◌, refl}
+use Rattle.std.proofs.lemmas.Result.{err_from_is_err_and}
+use Rattle.ice_journal.specs.Journal.{bytes_of}
+use Rattle.ice_journal.specs.Plain.{all_zero, packed_records}
+use Rattle.ice_write.proofs.Loops.{fails_as}
+use Rattle.ice_migrate.proofs.Puts.{one_put, one_fails}
+use Rattle.ice_migrate.proofs.packing.put_behind_head.Goals as goal
+
+pub pack-requires : goal.pack-requires
+pack-requires g c = c.in-Some.ensures.lawful
+
+pub loop-line-preserved : goal.loop-line-preserved
+loop-line-preserved g c =
+    let goods = c.args.goods in
+    record {
+      goods = c.pack.ensures.goods ∙ c.loop-line.invariant.goods;
+      left = λ left is.
+          one_put goods c.loop-line.packing c.pack.new.self c.loop-line.records c.next.new.self c.in-Some.line c.pack.result left
+          (g.K.Sink.written c.args.out.now) (g.K.Sink.written c.loop-line.out) (g.K.Sink.written c.put_record.new.out) (g.K.Sink.faults c.args.out.now) (g.K.Sink.faults c.loop-line.out) (g.K.Sink.faults c.put_record.new.out)
+          (c.loop-line.invariant.left left is) c.in-Some.ensures.next c.loop-line.invariant.goods c.pack.ensures.text c.in_ok-put_record.ensures;
+    }
+
+pub returns-in_err-put_record : goal.returns-in_err-put_record
+returns-in_err-put_record g c = λ left is.
+    let goods = c.args.goods in
+    let whole = bytes_of (packed_records goods (all_zero goods) left) in
+    let p = err_from_is_err_and c.from_residual.result c.from_residual.ensures.1 in
+    fails_as whole whole c.from_residual.result p.0 p.1 refl
+    (one_fails goods c.loop-line.packing c.pack.new.self c.loop-line.records c.next.new.self c.in-Some.line c.pack.result left
+    (g.K.Sink.written c.args.out.now) (g.K.Sink.written c.loop-line.out) (g.K.Sink.written c.put_record.new.out) (g.K.Sink.faults c.args.out.now) (g.K.Sink.faults c.loop-line.out) (g.K.Sink.faults c.put_record.new.out)
+    (c.loop-line.invariant.left left is) c.in-Some.ensures.next c.loop-line.invariant.goods c.pack.ensures.text c.in_err-put_record.ensures)

@@ -1,0 +1,6 @@
+pub mod Order
+pub mod Migrating
+pub mod Reading
+pub mod Stopped
+pub mod Found
+pub mod Packing

@@ -1,0 +1,24 @@
+-- What is written of a journal that is brought to version 2.
+use Rattle.std.specs.Prelude.{ℕ, ℤ, List, Option, Some, None, Result}
+use Rattle.ice_edge.specs.declared.sink.SinkFault.{SinkFault}
+use Rattle.ice_edge.specs.Puts.{IsPut}
+use Rattle.arrayvec.specs.ArrayVec.{ArrayVec}
+use Rattle.ice_defs.specs.Bound.{Multipliers}
+use Rattle.ice_journal.specs.Records.{Record}
+use Rattle.ice_journal.specs.Journal.{bytes_of}
+use Rattle.ice_journal.specs.Plain.{all_zero, packed}
+use Rattle.ice_migrate.specs.Migrating.{IsMigrated}
+use Rattle.ice_migrate.specs.declared.packing.Packing.{Packing}
+
+abbrev pub multipliers_or : ℕ → Option (ArrayVec ℤ) → Multipliers
+multipliers_or goods None = all_zero goods
+multipliers_or goods (Some leaf) = leaf.items
+
+-- the multipliers of the leaf before
+abbrev pub before_of : Packing → Multipliers
+before_of p = multipliers_or p.goods p.leaf
+
+-- the journal, which was judged, is put in version 2
+pub record PutsPacked (journal : List Record) (put : Result (Unit {0}) SinkFault) (old new : Option (List ℕ)) (faults faults_after : ℕ) : Type 0 where
+  pub migrated : IsMigrated journal
+  pub is_put : IsPut (bytes_of (packed journal)) put old new faults faults_after

@@ -1,0 +1,14 @@
+//! Journals of version 1 brought to version 2: they are judged first, and then written line for line.
+#![tactic(auto)]
+
+mod behind;
+mod counts;
+mod judging;
+mod packing;
+mod place;
+mod records;
+#[cfg(test)]
+mod tests;
+
+pub use judging::{Unfit, judge};
+pub use packing::put_packed;

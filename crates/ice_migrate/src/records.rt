@@ -1,0 +1,46 @@
+//! The records of bytes, taken one after another.
+ghost use Rattle.std.specs.Prelude.{◌≡◌, List, IfSome};
+ghost use Rattle.ice_journal.specs.Records.{Record};
+ghost use Rattle.ice_journal.specs.Ranges.{IsRecord};
+ghost use Rattle.ice_journal.specs.Journal.{IsJournal};
+ghost use Rattle.ice_journal.specs.Lines.{record_of};
+ghost use Rattle.ice_migrate.specs.Reading.{Starts, Shortens};
+
+use ice_journal::{Line, read_record};
+use ice_line::split_line;
+use std::marker::Model;
+
+/// The records of the bytes of a journal that are still to come. A contract sees these bytes.
+#[derive(Drop)]
+pub(crate) struct Records<'a> {
+    rest: &'a [u8],
+}
+
+impl<'a> Model for Records<'a> {
+    ghost use Rattle.std.specs.Prelude.{List, ℕ};
+
+    ghost Value = { List ℕ };
+
+    ghost view = { λ a. a.rest.now };
+}
+
+impl<'a> Records<'a> {
+    /// All records of the bytes.
+    pub(crate) fn new(bytes: &'a [u8]) -> Self
+        ensures { result ≡ bytes.now }
+    {
+        Records { rest: bytes }
+    }
+
+    /// The next record, where one is left.
+    pub(crate) fn next(&mut self) -> Option<Line>
+        ensures next { (left : List Record) → IsJournal self.old left
+            → Starts left result self.new }
+        ensures lawful { IfSome result (λ line. IsRecord (record_of line)) }
+        ensures shorter { Shortens self.old result self.new }
+    {
+        let (text, after) = split_line(self.rest)?;
+        self.rest = after;
+        read_record(text)
+    }
+}
