@@ -1,20 +1,12 @@
 -- The bounds and sets of a round, and rounds that begin.
 use Rattle.std.proofs.Common.{◌≡◌, ◌∙◌, false, [], length, replicate, ap, sym, arith}
-use Rattle.ice_defs.specs.Exchange.{Exchange, trees_of}
-use Rattle.ice_bound.specs.Conditions.{AreBoundsOf}
-use Rattle.ice_trade.proofs.Weighted.{length-trees}
+use Rattle.ice_defs.specs.Exchange.{Exchange}
 use Rattle.ice_pricing.specs.Bounding as pricing
 use Rattle.ice_defs.specs.Trade.{Assignment}
 use Rattle.ice_defs.specs.Prices.{Prices}
 use Rattle.ice_verdicts.specs.Judges.{Round, IsRoundOf, IsAfter}
 use Rattle.ice_verdicts.proofs.Leading.{round_begins}
 use Rattle.ice_round.specs.SessionAt.{IsFresh}
-
-pub round_bounds : (ex : Exchange) (r : Round) → IsRoundOf ex r → AreBoundsOf (trees_of ex) r.bounds
-round_bounds ex r is = record {
-  same_length = is.bounds_count ∙ sym (length-trees ex);
-  each = λ b h. is.bounds b (omega (arith, h, length-trees ex));
-}
 
 pub pricing_bounds : (ex : Exchange) (r : Round) → IsRoundOf ex r → pricing.AreBoundsOf ex r.bounds
 pricing_bounds ex r is = record {

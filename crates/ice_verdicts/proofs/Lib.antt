@@ -8,3 +8,5 @@ pub mod Submitting
 pub mod Starting
 -- prices of 0
 pub mod Zeros
+-- the bounds of a round are bounds of the exchange's trees
+pub mod Bounded

@@ -5,7 +5,7 @@ use Rattle.ice_bound.specs.Conditions.{AreBoundsOf}
 use Rattle.ice_search.specs.Results.{IsEnd}
 use Rattle.ice_regret.specs.Regretted.{IsRegretOf, rival_search}
 use Rattle.ice_round.specs.Kept.{session_at}
-use Rattle.ice_round.proofs.Rounds.{round_bounds}
+use Rattle.ice_verdicts.proofs.Bounded.{round_bounds}
 use Rattle.ice_round.proofs.Settling.{settlement_is}
 use Rattle.ice_round.proofs.Halting.{stopped_final, stopped_rival}
 use Rattle.ice_round.proofs.session.Session.settle.Goals as goal
