@@ -1,5 +1,5 @@
 -- What an offer knows of the state of the tests.
-use Rattle.std.specs.Prelude.{ℕ, ◌<◌, ◌≤◌, ◌^◌, ◌≡◌, false, List, [], ◌∷◌, ◌++◌, length, replicate, pos, ◌≤ℤ◌}
+use Rattle.std.specs.Prelude.{ℕ, ◌<◌, ◌≤◌, ◌^◌, ◌≡◌, Bool, true, false, List, [], ◌∷◌, ◌++◌, length, replicate, pos, ◌≤ℤ◌}
 use Rattle.ice_defs.specs.declared.Verdict.{Verdict}
 use Rattle.ice_defs.specs.Rows.{Row}
 use Rattle.ice_defs.specs.Round.{Submission, IsNextVerdict}
@@ -50,6 +50,11 @@ pub record IsOfferOf (ex : Exchange) (o : Offer) (s : State) : Type 0 where
   pub bounds : s.bounds ≡ o.judge.bounds
   pub offered : s.offered ≡ o.judge.sets
   pub at : IsAt ex o o.place s
+
+-- the prices come next
+abbrev pub are_prices_next : Place → Bool
+are_prices_next place.Prices = true
+are_prices_next other = false
 
 -- what is kept
 pub record IsKept (ex : Exchange) (o : Offer) : Type 0 where

@@ -7,7 +7,7 @@ ghost use Rattle.ice_defs.specs.Weighing.{weighted_weights};
 ghost use Rattle.ice_journal.specs.Lines.{record_of};
 ghost use Rattle.ice_journal.specs.Ranges.{IsRecord};
 ghost use Rattle.ice_journal_laws.specs.State.{State, exchange_at, at_prices};
-ghost use Rattle.ice_offer.specs.Offers.{IsOfferOf, IsKept, IsFresh};
+ghost use Rattle.ice_offer.specs.Offers.{IsOfferOf, IsKept, IsFresh, are_prices_next};
 ghost use Rattle.ice_offer.specs.Taking.{Takes};
 
 use crate::fault::Fault;
@@ -51,6 +51,13 @@ impl Offer {
         ensures { result.now ≡ self.now.judge.bounds }
     {
         self.judge.bounds()
+    }
+
+    /// Whether the prices come next.
+    pub fn awaits_prices(&self) -> bool
+        ensures { result ≡ are_prices_next self.now.place }
+    {
+        matches!(self.place, Place::Prices)
     }
 
     /// Offers provisional sets: the prices come next.
