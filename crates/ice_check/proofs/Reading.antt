@@ -8,7 +8,7 @@ use Rattle.ice_journal.specs.Records.{Record}
 use Rattle.ice_journal.specs.Ranges.{IsRecord}
 use Rattle.ice_journal.specs.Spelling.{text_of, line_of}
 use Rattle.ice_journal.specs.Journal.{bytes_of, IsJournal, IsNoRecord, grammar, unended, IsLinesFault}
-use Rattle.ice_journal_laws.specs.Progress.{Progress, nothing, Leads, stays}
+use Rattle.ice_journal_laws.specs.Progress.{Progress, nothing, Leads}
 use Rattle.ice_journal_laws.proofs.Leading.{leads_more}
 use Rattle.ice_check.specs.Checking.{Checking, HasCome, ComesTo}
 
@@ -21,9 +21,6 @@ pub record HasRead (bytes rest : List ℕ) (count : ℕ) (c : Checking) : Type 0
   pub leads : Leads nothing records progress
   pub come : HasCome c progress
   pub line : c.line ≡ count + 1
-
-pub nothing_read : (bytes : List ℕ) (c : Checking) → HasCome c nothing → c.line ≡ 1 → HasRead bytes bytes 0 c
-nothing_read bytes c come first = record { records = []; lawful = tt; count_is = refl; bytes_are = refl; progress = nothing; leads = stays; come = come; line = first }
 
 bytes_more : (records : List Record) (r : Record) → bytes_of (records ++ r ∷ []) ≡ bytes_of records ++ line_of r
 bytes_more records r = flat_map-append line_of records (r ∷ []) ∙ ap (λ (l : List ℕ). bytes_of records ++ l) (append-nil (line_of r))

@@ -1,9 +1,7 @@
 -- What a checker is seen as.
-use Rattle.std.specs.Prelude.{ℕ, Bool, List, Result, Ok, Err}
+use Rattle.std.specs.Prelude.{ℕ, Bool}
 use Rattle.ice_journal.specs.Records.{Record}
 use Rattle.ice_journal_laws.specs.Progress.{Progress, IsAfter}
-use Rattle.ice_journal_laws.specs.declared.answer.CheckEnd.{CheckEnd}
-use Rattle.ice_journal_laws.specs.Answers.{AnswersBytes, HoldsJournal}
 use Rattle.ice_check.specs.declared.stage.Stage.{Stage}
 use Rattle.ice_check.specs.Stages.{IsProgress, is_ready_stage}
 
@@ -25,8 +23,3 @@ pub record ComesTo (p : Progress) (r : Record) (c : Checking) : Type 0 where
   pub after : Progress
   pub leads : IsAfter p r after
   pub come : HasCome c after
-
--- bytes are fed: their records lead to where the checker may be, or they have this answer
-abbrev pub IsFed : List ℕ → Result (Unit {0}) CheckEnd → Checking → Type 0
-IsFed bytes (Ok unit) c = (p : Progress) × HoldsJournal bytes p × HasCome c p
-IsFed bytes (Err end) c = AnswersBytes bytes (Err end)

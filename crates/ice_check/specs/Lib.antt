@@ -6,4 +6,5 @@ pub mod Found
 pub mod Logs
 pub mod Groups
 pub mod Taking
+pub mod Due
 pub mod Checking

@@ -1,11 +1,13 @@
 //! The checker, which takes one record at a time.
-ghost use Rattle.std.specs.Prelude.{◌≡◌, ◌<◌, ◌^◌, suc, IsTrue, IfOk, OnOk, OnErr, IsOk, IsOkAnd};
+ghost use Rattle.std.specs.Prelude.{◌≡◌, ◌<◌, ◌^◌, suc, length, IsTrue, IfOk, IfSome, OnOk, OnErr, IsOk, IsOkAnd};
 ghost use Rattle.ice_journal.specs.Lines.{record_of};
 ghost use Rattle.ice_journal.specs.Ranges.{IsRecord};
 ghost use Rattle.ice_journal_laws.specs.Progress.{Progress, nothing, out_of_memory, is_ready};
 ghost use Rattle.ice_journal_laws.specs.Answers.{EndsWith};
 ghost use Rattle.ice_check.specs.Checking.{HasCome, ComesTo, is_ready_checker};
+ghost use Rattle.ice_check.specs.Due.{awaits_prices, TellsDue};
 
+use crate::due::DueRegret;
 use crate::stage::Stage;
 use ice_journal::Line;
 use ice_journal_laws::{Answer, CheckEnd};
@@ -83,6 +85,22 @@ impl Checker {
         ensures { result ≡ self.now.line }
     {
         self.next_line
+    }
+
+    /// The settlement whose regret the next record is to state, where it is to state one and no test has failed.
+    pub fn due_regret(&self) -> Option<DueRegret<'_>>
+        ensures tells { (p : Progress) → HasCome self.now p → TellsDue result p }
+        ensures count { IfSome result (λ due. length due.bounds.now ≡ length due.exchange.now.bidders) }
+    {
+        self.stage.due()
+    }
+
+    /// Whether the next record is to state the prices of a settlement, or to begin a stop in their place, and no test has
+    /// failed.
+    pub fn awaits_prices(&self) -> bool
+        ensures { (p : Progress) → HasCome self.now p → result ≡ awaits_prices p }
+    {
+        self.stage.awaits_prices()
     }
 
     /// What the tests find, where the records taken so far are the whole journal. It wants no memory.

@@ -2,10 +2,10 @@
 #![tactic(auto)]
 
 mod broken;
-mod bytes;
 mod checker;
 mod closing;
 mod describing;
+mod due;
 mod groups;
 mod halt;
 mod head;
@@ -17,6 +17,6 @@ mod stage;
 mod stated;
 mod steps_in;
 
-pub use bytes::check;
 pub use checker::Checker;
+pub use due::DueRegret;
 pub use ice_journal_laws::{Answer, CheckEnd, Rule};

@@ -1,13 +1,15 @@
 //! How far the records of a journal have come.
-ghost use Rattle.std.specs.Prelude.{◌≡◌, ◌≢◌, suc, Err, IsTrue, IfOk, IsOk};
+ghost use Rattle.std.specs.Prelude.{◌≡◌, ◌≢◌, ℕ, suc, length, Err, IsTrue, IfOk, IfSome, IsOk};
 ghost use Rattle.ice_journal.specs.Lines.{record_of};
 ghost use Rattle.ice_journal.specs.Ranges.{IsRecord};
 ghost use Rattle.ice_journal_laws.specs.Progress.{Progress};
 ghost use Rattle.ice_journal_laws.specs.Answers.{EndsWith};
 ghost use Rattle.ice_check.specs.Stages.{IsProgress, is_ready_stage, IsAtLine, IsKept, LeadsOn, TakesFurther, failed_stage};
 ghost use Rattle.ice_check.specs.Taking.{failure_at};
+ghost use Rattle.ice_check.specs.Due.{awaits_prices, TellsDue};
 
 use crate::describing::{begin, describe};
+use crate::due::DueRegret;
 use crate::groups::Groups;
 use crate::halt::Halt;
 use crate::head::Head;
@@ -113,6 +115,28 @@ impl Stage {
                 rule: *rule,
             }),
             Stage::OutOfMemory => Err(CheckEnd::NoMemory),
+        }
+    }
+
+    /// The settlement whose regret comes next, where one does.
+    pub(crate) fn due(&self) -> Option<DueRegret<'_>>
+        requires { IsKept self.now }
+        ensures tells { (n : ℕ) (p : Progress) → IsProgress n self.now p → TellsDue result p }
+        ensures count { IfSome result (λ due. length due.bounds.now ≡ length due.exchange.now.bidders) }
+    {
+        match self {
+            Stage::Behind(groups) => groups.due(),
+            _ => None,
+        }
+    }
+
+    /// Whether the prices of a settlement come next, or a stop in their place.
+    pub(crate) fn awaits_prices(&self) -> bool
+        ensures { (n : ℕ) (p : Progress) → IsProgress n self.now p → result ≡ awaits_prices p }
+    {
+        match self {
+            Stage::Behind(groups) => groups.awaits_prices(),
+            _ => false,
         }
     }
 
