@@ -1,4 +1,4 @@
-use ice_check::{Answer, Rule};
+use ice_pieces::{Answer, Rule};
 
 /// An answer in short: a surplus is its numerator and its denominator.
 #[derive(Clone, Copy)]

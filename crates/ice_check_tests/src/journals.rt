@@ -4,7 +4,7 @@ use crate::sessions::{
     CORE, CORE_CHANGES, NEAR_SESSION, NEAR_SESSION_CHANGES, OPEN, OPEN_CHANGES, REGRETTED,
     REGRETTED_CHANGES, ROUNDS, ROUNDS_CHANGES, SESSION, SESSION_CHANGES,
 };
-use ice_check::{Rule, check};
+use ice_pieces::{Rule, check};
 use std::alloc::{AllocError, Global};
 use std::test::Fail;
 

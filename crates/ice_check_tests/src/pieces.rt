@@ -3,8 +3,7 @@ ghost use Rattle.std.specs.Prelude.{◌<◌};
 
 use crate::samples::{ASSIGN, NEAR, REGRET, RIVALS};
 use crate::sessions::{CORE, NEAR_SESSION, OPEN, REGRETTED, ROUNDS, SESSION};
-use ice_check::{Answer, CheckEnd, Rule};
-use ice_pieces::{Checker, check};
+use ice_pieces::{Answer, CheckEnd, Checker, Rule, check};
 use std::alloc::{AllocError, Global};
 use std::test::Fail;
 
@@ -69,10 +68,9 @@ fn pieces_are_answered_as_the_whole(rt: HostRuntime) -> Result<(), Fail> {
     for lines in samples {
         let text = journal(alloc, lines)?;
         let bytes = text.as_bytes();
-        let whole = ice_check::check(alloc, bytes);
-        let same = check(alloc, bytes) == whole
-            && in_pieces(alloc, bytes, 1) == whole
-            && in_pieces(alloc, bytes, 7) == whole;
+        let whole = check(alloc, bytes);
+        let same =
+            in_pieces(alloc, bytes, 1) == whole && in_pieces(alloc, bytes, 7) == whole;
         assert!(rt; same, "{text}");
     }
     Ok(())

@@ -1,6 +1,6 @@
 //! Sessions, and changes of them.
 use crate::found::{Change, Found};
-use ice_check::Rule;
+use ice_pieces::Rule;
 
 /// A session of a seller of a unit at 10 and a buyer of it at 20 to 30, which closes at its first settlement.
 pub const SESSION: [&str; 29] = [
