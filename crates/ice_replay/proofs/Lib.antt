@@ -1,0 +1,14 @@
+-- where a stop leads: behind it neither a regret nor prices come
+pub mod Stopping
+-- where the tests of a session's records have come, and the settlements among the records
+pub mod Coming
+-- what one record more makes of what is known of a settlement
+pub mod Following
+-- what is answered where the records end
+pub mod Answering
+-- the bytes that are read so far
+pub mod Played
+-- the names and the bounds of the bidders, one more at a time
+pub mod Listed
+-- prices are in the ranges of their record
+pub mod Priced

@@ -1,0 +1,5 @@
+pub mod Settlements
+pub mod Replays
+pub mod Watching
+pub mod Ending
+pub mod Lines

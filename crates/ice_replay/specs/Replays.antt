@@ -1,0 +1,45 @@
+-- What is answered of the bytes of a journal and the number of a settlement.
+use Rattle.std.specs.Prelude.{ℕ, ◌≡◌, ◌≢◌, List, map, Some, Result, Ok, Err}
+use Rattle.ice_defs.specs.Bounds.{Bounds}
+use Rattle.ice_defs.specs.Exchange.{names_of}
+use Rattle.ice_journal.specs.Records.{Record}
+use Rattle.ice_journal.specs.Journal.{grammar, unended, IsLinesFault}
+use Rattle.ice_journal_laws.specs.declared.rule.Rule.TheVariants as rule
+use Rattle.ice_journal_laws.specs.State.{State, exchange_at}
+use Rattle.ice_journal_laws.specs.Checks.{FirstFailure}
+use Rattle.ice_journal_laws.specs.Answers.{OfJournal}
+use Rattle.ice_replay.specs.declared.settlement.BidderBounds.{BidderBounds}
+use Rattle.ice_replay.specs.declared.settlement.Replay.{Replay}
+use Rattle.ice_replay.specs.declared.settlement.ReplayEnd.{ReplayEnd}
+use Rattle.ice_replay.specs.declared.settlement.ReplayEnd.TheVariants.{Grammar, Unended, OtherKind, No, NoSettlement, NoMemory}
+use Rattle.ice_replay.specs.Settlements.{OfSession, IsSession, IsReplayable, Settles, prices_of}
+
+abbrev pub names_in : List BidderBounds → List (List ℕ)
+names_in bidders = map (λ (b : BidderBounds). b.name) bidders
+
+abbrev pub bounds_in : List BidderBounds → List Bounds
+bounds_in bidders = map (λ (b : BidderBounds). b.bounds) bidders
+
+-- a replay tells the settlement with this number, but for its prices
+pub record Tells (number : ℕ) (replay : Replay) (s : State) (records : List Record) : Type 0 where
+  pub settles : Settles number s records
+  pub number_is : replay.number ≡ number
+  pub names : names_in replay.bidders.items ≡ names_of (exchange_at settles.state)
+  pub bounds : bounds_in replay.bidders.items ≡ settles.state.bounds
+  pub final : replay.final_value ≡ settles.state.final.value
+  pub regret : replay.regret ≡ settles.amount
+
+-- and its prices, if they stand
+pub record IsReplay (number : ℕ) (replay : Replay) (s : State) (records : List Record) : Type 0 where
+  pub told : Tells number replay s records
+  pub prices : replay.prices ≡ prices_of told.settles
+
+-- the least line at fault comes first, then another kind, then the first failed test but that of a stop, then that the settlement isn't there; want of memory is free
+abbrev pub ReplaysBytes : List ℕ → ℕ → Result Replay ReplayEnd → Type 0
+ReplaysBytes bytes number (Ok replay) = OfJournal bytes (λ journal. IsReplayable journal × OfSession (IsReplay number replay) journal)
+ReplaysBytes bytes number (Err (Grammar line)) = IsLinesFault bytes (grammar line)
+ReplaysBytes bytes number (Err (Unended line)) = IsLinesFault bytes (unended line)
+ReplaysBytes bytes number (Err OtherKind) = OfJournal bytes (λ journal. ¬ IsSession journal)
+ReplaysBytes bytes number (Err (No line test)) = OfJournal bytes (λ journal. IsSession journal × FirstFailure journal (Some (record { line = line; rule = test })) × (test ≢ rule.Closed))
+ReplaysBytes bytes number (Err NoSettlement) = OfJournal bytes (λ journal. IsReplayable journal × OfSession (λ s records. ¬ Settles number s records) journal)
+ReplaysBytes bytes number (Err NoMemory) = Unit {0}

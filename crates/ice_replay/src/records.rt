@@ -1,0 +1,44 @@
+//! The records of a session that a replay looks at.
+ghost use Rattle.std.specs.Prelude.{◌≡◌, ℕ, ◌↔◌, IsTrue, None, MatchOption};
+ghost use Rattle.ice_journal.specs.Lines.{record_of};
+ghost use Rattle.ice_journal.specs.Records as records;
+ghost use Rattle.ice_journal_laws.specs.Fields.{amount_in, prices_in};
+ghost use Rattle.ice_replay.specs.Settlements.{is_session_head};
+
+use ice_journal::{Kind, Line};
+use ice_terms::Prices;
+
+/// Whether the record is the head of a session.
+pub(crate) fn is_session_head(line: &Line) -> bool
+    ensures { result ≡ is_session_head (record_of line.now) }
+{
+    matches!(
+        line,
+        Line::Head {
+            kind: Kind::Session,
+            ..
+        }
+    )
+}
+
+/// The regret that the record states.
+pub(crate) fn amount_in(line: &Line) -> Option<i64>
+    ensures { MatchOption result (amount_in (record_of line.now) ≡ None)
+        (λ amount. record_of line.now ≡ records.regret amount) }
+{
+    match line {
+        Line::Regret { amount } => Some(*amount),
+        _ => None,
+    }
+}
+
+/// The prices that the record states.
+pub(crate) fn prices_in(line: &Line) -> Option<Prices>
+    ensures { MatchOption result ((goods : ℕ) → prices_in goods (record_of line.now) ≡ None)
+        (λ prices. record_of line.now ≡ records.prices prices) }
+{
+    match line {
+        Line::Prices(prices) => Some(prices.copy()),
+        _ => None,
+    }
+}
