@@ -27,5 +27,7 @@ pub mod RunRounds
 pub mod RunJournal
 -- bids that are judged and put one after another
 pub mod RunJudging
+-- what `gen` answers: the figures of a trial, or its journal
+pub mod Trials
 -- the steps of a run: each is put behind what was put before
 pub mod RunPlaying

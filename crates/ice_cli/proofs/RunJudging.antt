@@ -1,66 +1,20 @@
 -- Bids that are judged and put one after another.
-use Rattle.std.proofs.Common.{◌≡◌, ◌∙◌, ◌+◌, ◌<◌, ◌≤◌, ℕ, Bool, true, false, cond, List, [], ◌∷◌, ◌++◌, length, map, take, drop, get_or, refl, sym, ap, subst, arith, append_assoc, Option, Some, None, Result, Ok, Err}
-use Rattle.std.specs.List.{AllByRecursion, flat_map}
+use Rattle.std.proofs.Common.{◌≡◌, ◌∙◌, ◌+◌, ◌<◌, ◌≤◌, ℕ, List, [], ◌∷◌, ◌++◌, length, take, drop, get_or, refl, sym, ap, subst, Option, Result, Ok, Err}
+use Rattle.std.specs.List.{flat_map}
 use Rattle.std.proofs.lemmas.List.{append-nil, map_push, take_all, take_more, take-append-drop}
 use Rattle.std.proofs.lemmas.List.Concat.{flat_map-append}
 use Rattle.ice_edge.specs.Puts.{Takes, FailsIn, IsPut}
 use Rattle.ice_edge.proofs.Puts.{takes_nothing}
 use Rattle.ice_edge.specs.declared.sink.SinkFault.{SinkFault}
-use Rattle.ice_defs.specs.Round.{Submission, Judged, is_accepted, IsNextVerdict}
-use Rattle.ice_defs.specs.Exchange.{Exchange}
-use Rattle.ice_defs.specs.Session.{Going}
+use Rattle.ice_defs.specs.Round.{Submission, Judged}
 use Rattle.ice_journal.specs.Records.{Record}
-use Rattle.ice_journal.specs.Ranges.{IsRecord}
 use Rattle.ice_journal.specs.Journal.{bytes_of}
 use Rattle.ice_journal_laws.specs.Written.{judged_records}
-use Rattle.ice_verdicts.specs.Judges.{Round, bidders_in, bidder_named, with_taken, round_after, IsAfter}
-use Rattle.ice_round.specs.SessionAt.{SessionAt, RoundAt}
-use Rattle.ice_round_laws.specs.Running.{IsInRound}
-use Rattle.ice_round_laws.proofs.Rounds.{round_goes_on}
+use Rattle.ice_round.specs.SessionAt.{RoundAt}
 use Rattle.ice_write_session.proofs.Puts.{fails_then, takes_then}
-use Rattle.ice_cli.specs.RunSteps.{submissions_in, GoesOnBy, HaveJudged, Judges}
-
--- ---- what a submission leaves as it was
-
-record Keeps (before after : Round) : Type 0 where
-  bounds : after.bounds ≡ before.bounds
-  sets : after.sets ≡ before.sets
-  prices : after.prices ≡ before.prices
-
-keeps_taken : (r : Round) (named : Option ℕ) (s : Submission) → Keeps r (with_taken r named s)
-keeps_taken r None s = record { bounds = refl; sets = refl; prices = refl }
-keeps_taken r (Some b) s = record { bounds = refl; sets = refl; prices = refl }
-
-keeps_after : (ex : Exchange) (r : Round) (j : Judged) → Keeps r (round_after ex r j)
-keeps_after ex r j = by (is_accepted j)
-  where
-    by : (b : Bool) → Keeps r (cond b (with_taken r (bidder_named ex j.submission.name) j.submission) r)
-    by true = keeps_taken r (bidder_named ex j.submission.name) j.submission
-    by false = record { bounds = refl; sets = refl; prices = refl }
-
--- ---- one bid
-
-pub goes_on_one : (before after : RoundAt) (j : Judged)
-    → ((judged : List Judged) → IsAfter before.exchange judged before.round → IsNextVerdict before.round.prices before.exchange.settings.improve (bidders_in before.exchange before.round) judged j.submission j.verdict)
-    → after ≡ record before { round = round_after before.exchange before.round j } → ((judged : List Judged) → IsAfter before.exchange judged before.round → IsAfter before.exchange (judged ++ j ∷ []) after.round)
-    → AllByRecursion IsRecord (judged_records j) → GoesOnBy before after (j ∷ [])
-goes_on_one before after j next changed more fits going s last is =
-    let here : IsAfter before.exchange last.judged before.round = subst (λ (x : Exchange). IsAfter x last.judged before.round) (sym is.exchange) is.after in
-    let kept : Keeps before.round (round_after before.exchange before.round j) = keeps_after before.exchange before.round j in
-    let round_is : after.round ≡ round_after before.exchange before.round j = ap (λ (r : RoundAt). r.round) changed in
-    subst (IsInRound going s (record last { judged = last.judged ++ j ∷ [] })) (sym changed)
-    (round_goes_on going s last before (round_after before.exchange before.round j) j is (next last.judged here) fits kept.bounds kept.sets kept.prices
-    (subst (λ (r : Round). IsAfter before.exchange (last.judged ++ j ∷ []) r) round_is (more last.judged here)))
-
-goes_on_more : (before mid after : RoundAt) (judged more : List Judged) → GoesOnBy before mid judged → GoesOnBy mid after more → GoesOnBy before after (judged ++ more)
-goes_on_more before mid after judged more one other going s last is =
-    subst (λ (js : List Judged). IsInRound going s (record last { judged = js }) after) (append_assoc last.judged judged more)
-    (other going s (record last { judged = last.judged ++ judged }) (one going s last is))
-
-goes_on_none : (r : RoundAt) → GoesOnBy r r []
-goes_on_none r going s last is = subst (λ (js : List Judged). IsInRound going s (record last { judged = js }) r) (sym (append-nil last.judged)) is
-
--- ---- one after another
+use Rattle.ice_trial.specs.Rounds.{submissions_in, GoesOnBy}
+use Rattle.ice_trial.proofs.Submitting.{goes_on_more, goes_on_none}
+use Rattle.ice_cli.specs.RunSteps.{HaveJudged, Judges}
 
 pub none_judged : (r : RoundAt) (bids : List Submission) (old : Option (List ℕ)) (f : ℕ) → HaveJudged r r bids 0 old old f f
 none_judged r bids old f = record { judged = []; bids_are = refl; goes_on = goes_on_none r; takes = takes_nothing old f }

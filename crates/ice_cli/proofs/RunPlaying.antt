@@ -56,7 +56,8 @@ use Rattle.ice_cli.specs.RunJournal.{HasRun, HasOpened, IsRunJournal, between, i
 use Rattle.ice_cli.specs.RunJournal as journal
 use Rattle.ice_cli.specs.RunServed.{IsRunText, nothing, RunAnswers}
 use Rattle.ice_cli.specs.RunServed as served
-use Rattle.ice_cli.specs.RunSteps.{submissions_in, Judges, AreHeld, OpensRound, EndsHere, EndsRound, EndsInRound, Plays}
+use Rattle.ice_trial.specs.Rounds.{submissions_in}
+use Rattle.ice_cli.specs.RunSteps.{Judges, AreHeld, OpensRound, EndsHere, EndsRound, EndsInRound, Plays}
 use Rattle.ice_cli.proofs.Parts.{later_part, earlier_part, told_in_call}
 use Rattle.ice_cli.proofs.RegretJournal.{told_also}
 use Rattle.ice_cli.proofs.RunJournal.{run_answers}
@@ -150,12 +151,15 @@ module _ (s : SessionAt) where
       ap (λ (x : Exchange). halted_records x h.number h.best h.regret h.marginals.items h.provisional) is.exchange
       ∙ ap (λ (k : ℕ). halted_records s.exchange k h.best h.regret h.marginals.items h.provisional) is.number
 
+  pub halt_at : (h : Halt) → IsHaltOf s h → (at : Position) → ComesTo h.best h.regret h.provisional h.marginals.items at → halt_records h ≡ position_records version_2 (length (exact_of s.exchange)) s.number at
+  halt_at h is at comes = halt_is h is ∙ halted_at s.number h.best h.regret h.provisional h.marginals.items at comes
+
   pub ends_spent : (h : Halt) (spent : results.Spent) (old new : Option (List ℕ)) (f g : ℕ) (result : Status) → IsHaltOf s h → IsSpentAt s h.best h.regret h.provisional h.marginals.items spent → IsRecord (line.spent spent.value spent.bound)
       → IsSaid (bytes_of (halt_records h ++ spent_records h.exchange spent)) Spent old new f g result → EndsHere s old new f g result
   ends_spent h spent old new f g result halt is fits said going files before after run played =
       let (at, comes, writes) = spends going s h.best h.regret h.provisional h.marginals.items spent run is in
       let may = spent_may_be_written going s h spent run halt is in
-      let same : halt_records h ≡ position_records version_2 (length (exact_of s.exchange)) s.number at = halt_is h halt ∙ halted_at s.number h.best h.regret h.provisional h.marginals.items at comes in
+      let same : halt_records h ≡ position_records version_2 (length (exact_of s.exchange)) s.number at = halt_at h halt at comes in
       let position : List Record = position_records version_2 (length (exact_of s.exchange)) s.number at in
       let whole : IsSaid (bytes_of (position ++ spent_records s.exchange spent)) Spent old new f g result =
       subst (λ (rs : List Record). IsSaid (bytes_of (rs ++ spent_records s.exchange spent)) Spent old new f g result) same
@@ -165,27 +169,30 @@ module _ (s : SessionAt) where
       (λ call part. subst (λ (rs : List Record). IsRunJournal call files s.exchange rs Spent) (append_assoc (run_records s.exchange going) position (spent_records s.exchange spent))
       (journal.spends going s at spent (has_run going files before after run played call part) ended)) whole
 
+  prices_at : (best : Option Found) (regret : Option Regret) (provisional : Option Found) (ms : List Marginal) (sought : PricesSought best regret provisional ms)
+      → halted_records s.exchange s.number best regret ms provisional ≡ sought_records s sought.final sought.amount sought.offered
+  prices_at best regret provisional ms sought =
+      ap (λ (o : Option Found). halted_records s.exchange s.number o regret ms provisional) sought.best_is
+      ∙ ap (λ (o : Option Regret). halted_records s.exchange s.number (Some sought.final) o ms provisional) sought.regret_is
+      ∙ ap (λ (o : Option Found). halted_records s.exchange s.number (Some sought.final) (Some sought.amount) ms o) sought.provisional_is
+      ∙ ap (λ (xs : List Marginal). halted_records s.exchange s.number (Some sought.final) (Some sought.amount) xs (Some sought.offered)) sought.none
+      ∙ halts_at_prices s.exchange s.number sought.final sought.amount sought.offered
+
+  pub halt_at_prices : (h : Halt) → IsHaltOf s h → (sought : PricesSought h.best h.regret h.provisional h.marginals.items) → halt_records h ≡ sought_records s sought.final sought.amount sought.offered
+  halt_at_prices h is sought = halt_is h is ∙ prices_at h.best h.regret h.provisional h.marginals.items sought
+
   pub ends_limited : (h : Halt) (limit : PriceLimit) (old new : Option (List ℕ)) (f g : ℕ) (result : Status) → IsHaltOf s h → IsLimitAt s h.best h.regret h.provisional h.marginals.items limit
       → IsSaid (bytes_of (halt_records h ++ limit_records limit)) Limit old new f g result → EndsHere s old new f g result
   ends_limited h limit old new f g result halt is said going files before after run played =
       let (sought, writes) = is_limited going s h.best h.regret h.provisional h.marginals.items limit run is in
       let may = limit_may_be_written going s h limit run halt is in
       let behind : List Record = sought_records s sought.final sought.amount sought.offered in
-      let same : halt_records h ≡ sought_records s sought.final sought.amount sought.offered = halt_is h halt ∙ prices_at h.best h.regret h.provisional h.marginals.items sought in
+      let same : halt_records h ≡ sought_records s sought.final sought.amount sought.offered = halt_at_prices h halt sought in
       let whole : IsSaid (bytes_of (behind ++ limit_records limit)) Limit old new f g result = subst (λ (rs : List Record). IsSaid (bytes_of (rs ++ limit_records limit)) Limit old new f g result) same said in
       let ended = writes (subst (AllByRecursion IsRecord) same (halt_are_records h may.0)) (limit_are_records limit may.1) in
       said_piece (run_records s.exchange going) (RunsTo s.exchange files before after) (behind ++ limit_records limit) Limit result old new f g
       (λ call part. subst (λ (rs : List Record). IsRunJournal call files s.exchange rs Limit) (append_assoc (run_records s.exchange going) behind (limit_records limit))
       (limits going s sought.final sought.amount sought.offered limit (has_run going files before after run played call part) ended)) whole
-    where
-      prices_at : (best : Option Found) (regret : Option Regret) (provisional : Option Found) (ms : List Marginal) (sought : PricesSought best regret provisional ms)
-          → halted_records s.exchange s.number best regret ms provisional ≡ sought_records s sought.final sought.amount sought.offered
-      prices_at best regret provisional ms sought =
-          ap (λ (o : Option Found). halted_records s.exchange s.number o regret ms provisional) sought.best_is
-          ∙ ap (λ (o : Option Regret). halted_records s.exchange s.number (Some sought.final) o ms provisional) sought.regret_is
-          ∙ ap (λ (o : Option Found). halted_records s.exchange s.number (Some sought.final) (Some sought.amount) ms o) sought.provisional_is
-          ∙ ap (λ (xs : List Marginal). halted_records s.exchange s.number (Some sought.final) (Some sought.amount) xs (Some sought.offered)) sought.none
-          ∙ halts_at_prices s.exchange s.number sought.final sought.amount sought.offered
 
   -- ---- or opens a round
 

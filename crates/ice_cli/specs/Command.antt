@@ -1,5 +1,5 @@
 -- The commands, and the words that each is called by.
-use Rattle.std.specs.Prelude.{ℕ, ◌≤◌, ◌≡◌, List, [], ◌∷◌, length, codes}
+use Rattle.std.specs.Prelude.{ℕ, ◌<◌, ◌≤◌, ◌≡◌, ◌^◌, List, [], ◌∷◌, length, codes, decimal}
 
 -- the words after the program's name; a file is named by any text
 pub data Command : Type 0 where
@@ -7,6 +7,7 @@ pub data Command : Type 0 where
   best : (exchange prices : List ℕ) → Command
   regret : (exchange : List ℕ) → Command
   xor : (file : List ℕ) → Command
+  gen : (number : ℕ) → Command
   run : (exchange : List ℕ) → (rounds : List (List ℕ)) → Command
 
 abbrev pub words_of : Command → List (List ℕ)
@@ -14,11 +15,13 @@ words_of (check journal) = codes "check" ∷ journal ∷ []
 words_of (best exchange prices) = codes "best" ∷ exchange ∷ prices ∷ []
 words_of (regret exchange) = codes "regret" ∷ exchange ∷ []
 words_of (xor file) = codes "xor" ∷ file ∷ []
+words_of (gen number) = codes "gen" ∷ decimal number ∷ []
 words_of (run exchange rounds) = codes "run" ∷ exchange ∷ rounds
 
--- a run has at most 20 round files
+-- a run has at most 20 round files, and a number has 32 bits
 abbrev pub IsLimited : Command → Type 0
 IsLimited (run exchange rounds) = length rounds ≤ 20
+IsLimited (gen number) = number < 2 ^ 32
 IsLimited other = Unit {0}
 
 abbrev pub IsCommand : List (List ℕ) → Command → Type 0

@@ -18,5 +18,8 @@ pub mod RunJournal
 pub mod RunSteps
 pub mod XorServed
 pub mod XorParts
+pub mod GenServed
+pub mod GenLines
+pub mod GenJournal
 pub mod Served
 pub mod Completeness

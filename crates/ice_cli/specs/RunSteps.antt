@@ -15,18 +15,12 @@ use Rattle.ice_journal_laws.specs.ShowingSession.{going_in}
 use Rattle.ice_round.specs.SessionAt.{SessionAt, RoundAt}
 use Rattle.ice_round_laws.specs.Running.{IsRunning, IsInRound}
 use Rattle.ice_round_laws.specs.Written.{run_records, round_records}
+use Rattle.ice_trial.specs.Rounds.{submissions_in, GoesOnBy}
 use Rattle.ice_cli.specs.Call.{IsPrefix}
 use Rattle.ice_cli.specs.Files.{HoldsBids}
 use Rattle.ice_cli.specs.Journals.{WritesBehind}
 use Rattle.ice_cli.specs.Rounds.{submissions_of}
 use Rattle.ice_cli.specs.RunJournal.{RunsTo}
-
-abbrev pub submissions_in : List Judged → List Submission
-submissions_in judged = map (λ j. j.submission) judged
-
--- with these judged submissions the round goes on
-abbrev pub GoesOnBy : RoundAt → RoundAt → List Judged → Type 0
-GoesOnBy before after judged = (going : List Going) (s : SessionAt) (last : Going) → IsInRound going s last before → IsInRound going s (record last { judged = last.judged ++ judged }) after
 
 -- the first bids are judged, and put
 pub record HaveJudged (before after : RoundAt) (bids : List Submission) (count : ℕ) (old new : Option (List ℕ)) (faults faults_after : ℕ) : Type 0 where

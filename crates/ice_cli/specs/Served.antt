@@ -2,7 +2,7 @@
 use Rattle.std.specs.Prelude.{◌≡◌, ℕ, List}
 use Rattle.ice_edge.specs.declared.status.Status.{Status}
 use Rattle.ice_edge.specs.declared.status.Status.TheVariants.{Words, WriteFault}
-use Rattle.ice_cli.specs.Command.{Command, check, best, regret, xor, run, IsCommand, IsNoCommand}
+use Rattle.ice_cli.specs.Command.{Command, check, best, regret, xor, run, gen, IsCommand, IsNoCommand}
 use Rattle.ice_cli.specs.Call.{Call, SinkFaultRose, IsPrefix}
 use Rattle.ice_cli.specs.Output.{words_line}
 use Rattle.ice_cli.specs.CheckServed.{CheckAnswers}
@@ -10,6 +10,7 @@ use Rattle.ice_cli.specs.BestServed.{BestAnswers}
 use Rattle.ice_cli.specs.RegretServed.{RegretAnswers}
 use Rattle.ice_cli.specs.XorServed.{XorAnswers}
 use Rattle.ice_cli.specs.RunServed.{RunAnswers}
+use Rattle.ice_cli.specs.GenServed.{GenAnswers}
 
 -- the words are none of the forms; no file is fetched, so all that the shelf tells is the same, each count among it
 pub record RefusesWords (call : Call) : Type 0 where
@@ -24,6 +25,7 @@ CommandAnswers call (best exchange prices) = BestAnswers call exchange prices ca
 CommandAnswers call (regret exchange) = RegretAnswers call exchange call.status
 CommandAnswers call (xor file) = XorAnswers call file call.status
 CommandAnswers call (run exchange rounds) = RunAnswers call exchange rounds call.status
+CommandAnswers call (gen number) = GenAnswers call.text number call.status
 
 -- the call refuses its words, or answers the command that they are; or the sink failed, and what it took is the front of such an answer
 pub data IsServed : Call → Type 0 where

@@ -1,7 +1,9 @@
 //! The words behind the program's name.
-ghost use Rattle.std.specs.Prelude.{◌≤◌, length, ◌≡◌, ◌∷◌, [], ℕ, List, map, string_bytes, MatchOption};
+ghost use Rattle.std.specs.Prelude.{◌<◌, ◌≤◌, ◌^◌, length, decimal, ◌≡◌, ◌∷◌, [], ℕ, List, map, string_bytes, MatchOption};
 ghost use Rattle.ice_cli.specs.Command.{IsCommand, IsNoCommand};
 ghost use Rattle.ice_cli.specs.Words.{command_of};
+
+use ice_line::natural;
 
 /// A command, with the names of its files.
 pub enum Command<'a> {
@@ -17,6 +19,9 @@ pub enum Command<'a> {
     },
     Xor {
         file: &'a str,
+    },
+    Gen {
+        number: u32,
     },
     Run {
         exchange: &'a str,
@@ -47,6 +52,17 @@ fn two_words(words: &[String]) -> Option<(&str, &str)>
     let (one, rest) = words.split_first()?;
     let other = one_word(rest)?;
     Some((one.as_str(), other))
+}
+
+/// The number of 32 bits whose one decimal spelling is the word, where there is no other.
+fn number_word(words: &[String]) -> Option<u32>
+    ensures { MatchOption result
+        ((number : ℕ) → number < 2 ^ 32 → map string_bytes words.now ≡ decimal number ∷ [] → ⊥)
+        (λ number. map string_bytes words.now ≡ decimal number ∷ []) }
+{
+    let word = one_word(words)?;
+    let number = natural(word.as_bytes(), 0, u64::from(u32::MAX))?;
+    Some(number as u32)
 }
 
 /// The names of an exchange and of at most 20 round files, where the words are such.
@@ -80,6 +96,10 @@ pub fn command_in(words: &[String]) -> Option<Command<'_>>
         "regret" => {
             let exchange = one_word(names)?;
             Some(Command::Regret { exchange })
+        }
+        "gen" => {
+            let number = number_word(names)?;
+            Some(Command::Gen { number })
         }
         "run" => {
             let (exchange, rounds) = run_names(names)?;

@@ -11,6 +11,9 @@ mod check;
 mod command;
 mod files;
 #[cfg(test)]
+mod gen_tests;
+mod generated;
+#[cfg(test)]
 mod json_tests;
 pub mod laws;
 mod refusal;
@@ -24,8 +27,11 @@ mod run_journal;
 mod run_tests;
 mod say;
 mod serve;
+mod summary;
+mod summary_line;
 #[cfg(test)]
 mod tests;
+mod trial_journal;
 mod words;
 mod xor;
 #[cfg(test)]

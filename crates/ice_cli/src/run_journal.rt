@@ -48,7 +48,7 @@ fn close<K: Sink>(closing: &Closing, out: &mut K) -> Status
 }
 
 /// The bound above which nothing is left.
-fn bound_of(spent: &Spent) -> i128
+pub fn bound_of(spent: &Spent) -> i128
     ensures value { result ≡ spent.now.bound }
     ensures fits { IsBetween (neg_ℤ (pos (2 ^ 127))) (pos (2 ^ 127 - 1)) spent.now.bound }
 {
@@ -56,7 +56,7 @@ fn bound_of(spent: &Spent) -> i128
 }
 
 /// Puts how far a settlement came, and what was found where the branches were spent.
-fn put_halted<K: Sink>(halt: &Halt, spent: &Spent, out: &mut K) -> Result<(), SinkFault>
+pub fn put_halted<K: Sink>(halt: &Halt, spent: &Spent, out: &mut K) -> Result<(), SinkFault>
     requires halt { IsWritableHalt halt.now }
     requires spent { IsWritable (length (exact_of halt.now.exchange)) (proved_spent spent.now) }
     ensures put { IsPut (bytes_of (halt_records halt.now ++ spent_records halt.now.exchange spent.now)) result
@@ -80,7 +80,7 @@ fn stop_spent<K: Sink>(halt: &Halt, spent: &Spent, out: &mut K) -> Status
 }
 
 /// Puts how far a settlement came, and the limit of its pricing.
-fn put_limited<K: Sink>(halt: &Halt, limit: &PriceLimit, out: &mut K) -> Result<(), SinkFault>
+pub fn put_limited<K: Sink>(halt: &Halt, limit: &PriceLimit, out: &mut K) -> Result<(), SinkFault>
     requires halt { IsWritableHalt halt.now }
     requires limit { IsWritableLimit limit.now }
     ensures { IsPut (bytes_of (halt_records halt.now ++ limit_records limit.now)) result

@@ -44,12 +44,12 @@ goes_on_one before after j next changed more fits going s last is =
     (round_goes_on going s last before (round_after before.exchange before.round j) j is (next last.judged here) fits kept.bounds kept.sets kept.prices
     (subst (λ (r : Round). IsAfter before.exchange (last.judged ++ j ∷ []) r) round_is (more last.judged here)))
 
-goes_on_more : (before mid after : RoundAt) (judged more : List Judged) → GoesOnBy before mid judged → GoesOnBy mid after more → GoesOnBy before after (judged ++ more)
+pub goes_on_more : (before mid after : RoundAt) (judged more : List Judged) → GoesOnBy before mid judged → GoesOnBy mid after more → GoesOnBy before after (judged ++ more)
 goes_on_more before mid after judged more one other going s last is =
     subst (λ (js : List Judged). IsInRound going s (record last { judged = js }) after) (append_assoc last.judged judged more)
     (other going s (record last { judged = last.judged ++ judged }) (one going s last is))
 
-goes_on_none : (r : RoundAt) → GoesOnBy r r []
+pub goes_on_none : (r : RoundAt) → GoesOnBy r r []
 goes_on_none r going s last is = subst (λ (js : List Judged). IsInRound going s (record last { judged = js }) r) (sym (append-nil last.judged)) is
 
 -- ---- one after another

@@ -2,8 +2,9 @@ use Rattle.std.proofs.Common.{◌≡◌, ◌<◌, [], ◌∷◌, length, sym, re
 use Rattle.std.proofs.lemmas.Result.{err_from_is_err_and}
 use Rattle.ice_defs.specs.Round.{Judged}
 use Rattle.ice_round_laws.proofs.Verdicts.{verdict_may_be_written}
-use Rattle.ice_cli.specs.RunSteps.{GoesOnBy}
-use Rattle.ice_cli.proofs.RunJudging.{goes_on_one, none_judged, one_judged, one_fails, all_judged}
+use Rattle.ice_trial.specs.Rounds.{GoesOnBy}
+use Rattle.ice_trial.proofs.Submitting.{goes_on_one}
+use Rattle.ice_cli.proofs.RunJudging.{none_judged, one_judged, one_fails, all_judged}
 use Rattle.ice_cli.proofs.run_journal.judge.Goals as goal
 
 pub offset_bounds-bids-bid-index : goal.offset_bounds-bids-bid-index

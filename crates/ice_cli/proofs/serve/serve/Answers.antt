@@ -1,12 +1,14 @@
 use Rattle.std.proofs.Common.{refl, [], map, string_bytes}
 use Rattle.ice_cli.specs.Call.{Call}
-use Rattle.ice_cli.specs.Command.{check, best, regret, xor, run}
+use Rattle.ice_cli.specs.Command.{check, best, regret, xor, run, gen}
 use Rattle.ice_cli.specs.CheckServed.{CheckAnswers}
 use Rattle.ice_cli.specs.BestServed.{BestAnswers}
 use Rattle.ice_cli.specs.RegretServed.{RegretAnswers}
 use Rattle.ice_cli.specs.XorServed.{XorAnswers}
 use Rattle.ice_cli.specs.RunServed.{RunAnswers}
+use Rattle.ice_cli.specs.GenServed.{GenAnswers}
 use Rattle.ice_cli.proofs.Parts.{served, refused_words}
+use Rattle.ice_cli.proofs.Trials.{serves_said}
 use Rattle.ice_cli.proofs.serve.serve.Goals as goal
 
 pub returns-in-Some-Check : goal.returns-in-Some-Check
@@ -85,6 +87,24 @@ returns-in-Some-Run g c =
     } in
     served call (run exchange rounds) (λ one. RunAnswers one exchange rounds) (g.K.Sink.written c.args.out.now) (g.K.Sink.written c.run.new.out)
     (rw c.in-Some-Run.field-0-is at c.in-Some-Run.ensures) (λ text status h. h) c.run.ensures
+
+pub returns-in-Some-Gen : goal.returns-in-Some-Gen
+returns-in-Some-Gen g c =
+    let number = c.in-Some-Gen.number in
+    let shelf = g.H.Shelf.told c.args.shelf.now in
+    let call : Call = record {
+      words = map string_bytes c.args.words.now;
+      before = g.H.Shelf.told c.args.shelf.now;
+      after = g.H.Shelf.told c.args.shelf.now;
+      sink_faults = g.K.Sink.faults c.args.out.now;
+      sink_faults_after = g.K.Sink.faults c.generated.new.out;
+      text = [];
+      status = c.generated.result;
+    } in
+    served call (gen number) (λ one. GenAnswers one.text number) (g.K.Sink.written c.args.out.now) (g.K.Sink.written c.generated.new.out)
+    (rw c.in-Some-Gen.field-0-is at c.in-Some-Gen.ensures) (λ text status h. h)
+    (serves_said (λ text. GenAnswers text number) shelf shelf (g.K.Sink.written c.args.out.now) (g.K.Sink.written c.generated.new.out) (g.K.Sink.faults c.args.out.now) (g.K.Sink.faults c.generated.new.out)
+    c.generated.result c.generated.ensures)
 
 pub returns-in-None : goal.returns-in-None
 returns-in-None g c =
