@@ -1,57 +1,51 @@
 -- The journal that `regret` writes is one of which its contract speaks.
-use Rattle.std.proofs.Common.{◌≡◌, ◌+◌, ◌≤◌, ◌<◌, ℕ, List, [], ◌∷◌, ◌++◌, length, map, ℤ, pos, neg_ℤ, ◌-ℤ◌, ◌≤ℤ◌, refl, sym, ◌∙◌, ap, subst, arith, append_assoc, Some, None, Option, Ok}
-use Rattle.std.specs.Prelude.{sum_by, IsSome}
+use Rattle.std.proofs.Common.{◌≡◌, ℕ, List, [], ◌∷◌, ◌++◌, length, ℤ, pos, ◌-ℤ◌, ◌≤ℤ◌, refl, sym, ◌∙◌, ap, subst, arith, append_assoc, Some, None, Option, Ok}
+use Rattle.std.specs.Prelude.{IsSome}
 use Rattle.std.specs.List.{AllByRecursion}
 use Rattle.std.proofs.lemmas.Int.{ints}
 use Rattle.std.proofs.lemmas.List.{append-nil}
-use Rattle.std.proofs.lemmas.List.Sums.{sum_by-append}
 use Rattle.std.proofs.lemmas.Option.{none-some}
 use Rattle.std.proofs.Common.{inl, inr}
 use Rattle.ice_edge.specs.declared.status.Status.{Status}
 use Rattle.ice_edge.specs.declared.status.Status.TheVariants.{Done, Spent, NoMemory}
-use Rattle.ice_defs.specs.Tree.{Tree}
 use Rattle.ice_defs.specs.Set.{Weights}
-use Rattle.ice_defs.specs.Trade.{Assignment, tree_of, set_of, IsFeasible, total_value, IsBestOfAll}
+use Rattle.ice_defs.specs.Trade.{Assignment, IsFeasible, total_value}
 use Rattle.ice_defs.specs.Bounds.{Bounds}
 use Rattle.ice_defs.specs.Weighing.{lower_weights, perturbed_weights}
-use Rattle.ice_defs.specs.Steps.{Step, branch_count}
 use Rattle.ice_defs.specs.Sweep.{EarnsStep}
 use Rattle.ice_defs.specs.Log.{Passes}
 use Rattle.ice_defs.specs.declared.Group.TheVariants.{Final, Rival}
-use Rattle.ice_defs.specs.Group.{free_side, empty_sets}
-use Rattle.ice_defs.specs.Exchange.{Bidder, Exchange, trees_of, exact_of, opening_bounds, IsBetween}
+use Rattle.ice_defs.specs.Group.{free_side}
+use Rattle.ice_defs.specs.Exchange.{Exchange, trees_of, exact_of, opening_bounds, IsBetween}
 use Rattle.ice_defs.specs.Lawful.{IsExchange}
-use Rattle.ice_defs.specs.Session.{Proved, Settlement, Regretted}
+use Rattle.ice_defs.specs.Session.{Proved, Regretted}
 use Rattle.ice_defs.specs.Right.{IsBestFound}
 use Rattle.ice_defs.proofs.Lists.{all-append}
 use Rattle.ice_defs.proofs.Starts.{meets_free_side}
 use Rattle.ice_laws.proofs.Perturbed.{perturbed_gives_regret}
-use Rattle.ice_bound.specs.Conditions.{AreWeightsOf}
 use Rattle.ice_bound.proofs.Modest.{lower_modest, perturbed_modest}
 use Rattle.ice_refute.specs.Code.{CountsGoods}
 use Rattle.ice_refute.proofs.Refutes.{log_refutes}
 use Rattle.ice_search.specs.declared.results.Found.{Found}
 use Rattle.ice_search.specs.declared.results.Spent as results
-use Rattle.ice_search.specs.Results.{AreWritten, proved_found, proved_spent, IsFoundBy, IsSpentBy}
-use Rattle.ice_search.proofs.Ranges.{total_low, total_high}
+use Rattle.ice_search.specs.Results.{AreWritten, proved_found, proved_spent, IsSpentBy}
 use Rattle.ice_regret.specs.declared.lead.Regret.{Regret}
 use Rattle.ice_regret.specs.Regretted.{lower_search, rival_search, proved_rival, IsRegretOf}
 use Rattle.ice_journal.specs.Records.{Record, version_2, regret_kind, regret_end, spent_end}
 use Rattle.ice_journal.specs.Records as line
-use Rattle.ice_journal.specs.Ranges.{IsRecord, IsTotal}
+use Rattle.ice_journal.specs.Ranges.{IsRecord}
 use Rattle.ice_journal.specs.Journal.{bytes_of}
 use Rattle.ice_section.specs.Described.{section_records}
 use Rattle.ice_section.proofs.Describing.{described_are_records, described_are_taken}
 use Rattle.ice_journal_laws.specs.declared.rule.Rule.TheVariants as rule
-use Rattle.ice_journal_laws.specs.State.{at_section, at_group, State, begun}
-use Rattle.ice_journal_laws.specs.Next.{to_line, go_to}
-use Rattle.ice_journal_laws.specs.Checks.{FirstFailure, Checks}
+use Rattle.ice_journal_laws.specs.State.{at_group, State, begun}
+use Rattle.ice_journal_laws.specs.Next.{go_to}
+use Rattle.ice_journal_laws.specs.Checks.{FirstFailure}
 use Rattle.ice_journal_laws.specs.Assigning.{describing, section_of, described}
 use Rattle.ice_journal_laws.specs.Carrying.{Carries}
-use Rattle.ice_journal_laws.specs.Showing.{group_records, regretted_in, stated_of, IsShown, IsShownSettlement, IsShownRegretted}
-use Rattle.ice_journal_laws.specs.SoFar.{IsSoFar, IsUnstopped}
+use Rattle.ice_journal_laws.specs.Showing.{group_records, regretted_in, stated_of, IsShown, IsShownRegretted}
+use Rattle.ice_journal_laws.specs.SoFar.{IsSoFar}
 use Rattle.ice_journal_laws.specs.Stops.{IsSpent}
-use Rattle.ice_journal_laws.specs.Earning.{EarnsLog}
 use Rattle.ice_journal_laws.specs.Theorems.{IsRightRegret}
 use Rattle.ice_journal_laws.proofs.Carried.{carries_stopped}
 use Rattle.ice_journal_laws.proofs.CarriedSection.{section_carries}
@@ -64,14 +58,16 @@ use Rattle.ice_journal_laws.proofs.CarriedSpentRegret.{rival_awaits, final_spent
 use Rattle.ice_journal_laws.proofs.CarriedIsSpentRegret.{final_is_spent, rival_is_spent}
 use Rattle.ice_bound.proofs.Living.{opening_are_bounds}
 use Rattle.ice_journal_laws.proofs.Past.{settled_right}
-use Rattle.ice_write.specs.Writable.{AreWritable}
 use Rattle.ice_write.proofs.Groups.{group_are_records}
 use Rattle.ice_write.proofs.Writable.{writable}
+use Rattle.ice_write_session.specs.Records.{final_records, spent_records}
+use Rattle.ice_write_session.specs.Writable.{IsWritable, IsWritableRegret}
+use Rattle.ice_round_laws.proofs.Worth.{IsWorth, worth_is, worth_is_total}
 use Rattle.ice_cli.specs.Call.{Call, file_limit, OfTold, OfFile}
 use Rattle.ice_cli.specs.Files.{IsExchangeOf}
-use Rattle.ice_cli.specs.Journals.{Agree, HasExchangeOf}
-use Rattle.ice_cli.specs.RegretServed.{IsRegretSoFar, RegretEnds, RegretSpends, IsRegretText, of_journal, RegretAnswers}
-use Rattle.ice_cli.specs.RegretJournal.{begun_records, final_records, rival_records, spent_records, IsFinal, IsRegretJournal, begins, final_spent, has_final, rival_spent, is_whole}
+use Rattle.ice_cli.specs.Journals.{HasExchangeOf}
+use Rattle.ice_cli.specs.RegretServed.{IsRegretText, of_journal, RegretAnswers}
+use Rattle.ice_cli.specs.RegretJournal.{begun_records, ending_records, IsFinal, IsRegretJournal, begins, final_spent, has_final, rival_spent, is_whole}
 
 -- ---- the exchange of a file
 
@@ -87,26 +83,6 @@ regrouped a b c x y =
     append_assoc a b (c ++ (x ∷ y ∷ []))
     ∙ ap (λ (rs : List Record). a ++ rs) (sym (append_assoc (b ++ c) (x ∷ []) (y ∷ []) ∙ append_assoc b c (x ∷ y ∷ [])))
     ∙ sym (append_assoc a ((b ++ c) ++ x ∷ []) (y ∷ []))
-
--- ---- values
-
-node_sum : (bidders : List Bidder) → sum_by (λ (t : Tree). length t) (map (λ (b : Bidder). b.tree) bidders) ≡ sum_by (λ (b : Bidder). length b.tree) bidders
-node_sum [] = refl
-node_sum (b ∷ bidders) =
-    omega (arith, sum_by-append (λ (t : Tree). length t) (b.tree ∷ []) (map (λ (x : Bidder). x.tree) bidders), sum_by-append (λ (x : Bidder). length x.tree) (b ∷ []) bidders, node_sum bidders)
-
--- what feasible sets are worth
-abbrev pub IsWorth : ℤ → Type 0
-IsWorth = IsBetween (neg_ℤ (pos 200000000000000)) (pos 200000000000000)
-
-pub worth_is : (ex : Exchange) (ws : List Weights) (a : Assignment) (v : ℤ) → IsExchange ex → AreWeightsOf (trees_of ex) ws → IsFeasible (trees_of ex) (exact_of ex) a → total_value a ws ≡ v → IsWorth v
-worth_is ex ws a v lawful weights feasible is =
-    let few : sum_by length (trees_of ex) ≤ 2000 = omega (arith, node_sum ex.bidders, lawful.nodes) in
-    let sizes : (b : ℕ) → b < length (trees_of ex) → length (set_of a b) ≡ length (tree_of (trees_of ex) b) = λ b l. (feasible.satisfied b l).same_length in
-    subst IsWorth is (total_low (trees_of ex) ws a weights feasible.same_length sizes few, total_high (trees_of ex) ws a weights feasible.same_length sizes few)
-
-pub worth_is_total : (v : ℤ) → IsWorth v → IsTotal v
-worth_is_total v is = (omega (arith, ints, is.0), omega (arith, ints, is.1))
 
 module _ (ex : Exchange) (lawful : IsExchange ex) where
   abbrev bounds : List Bounds
@@ -139,44 +115,45 @@ module _ (ex : Exchange) (lawful : IsExchange ex) where
 
   -- ---- ranges
 
-  pub final_worth : (left : ℕ) (f : Found) → IsFinal ex left f → IsWorth f.value
+  final_worth : (left : ℕ) (f : Found) → IsFinal ex left f → IsWorth f.value
   final_worth left f is = worth_is ex (lower_weights (opening_bounds ex)) f.best f.value lawful (lower_modest (trees_of ex) (opening_bounds ex) (opening_are_bounds ex lawful)) is.found.found.attained.feasible is.found.found.attained.has
 
-  pub rival_worth : (chosen : Assignment) (r : Regret) → IsRegretOf ex (opening_bounds ex) chosen r → IsWorth r.value
+  rival_worth : (chosen : Assignment) (r : Regret) → IsRegretOf ex (opening_bounds ex) chosen r → IsWorth r.value
   rival_worth chosen r is =
       worth_is ex (perturbed_weights chosen (opening_bounds ex)) r.rival r.value lawful (perturbed_modest chosen (trees_of ex) (opening_bounds ex) (opening_are_bounds ex lawful)) is.found.attained.feasible is.found.attained.has
 
-  pub first_spent_worth : (used : ℕ) (s : results.Spent) → IsSpentBy (lower_search ex (opening_bounds ex)) used s → IsWorth s.value
-  first_spent_worth used s is = worth_is ex (lower_weights (opening_bounds ex)) s.found s.value lawful (lower_modest (trees_of ex) (opening_bounds ex) (opening_are_bounds ex lawful)) is.spent.attained.feasible is.spent.attained.has
+  pub final_writable : (left : ℕ) (f : Found) → IsFinal ex left f → IsWritable (length (exact_of ex)) (proved_found f)
+  final_writable left f is = record {
+    value = worth_is_total f.value (final_worth left f is);
+    group = writable ex (lower_weights (opening_bounds ex)) f.value (free_side (trees_of ex)) f.best f.log lawful is.found.found.attained.feasible is.found.found.passes is.found.written.counts is.found.written.ranged;
+  }
 
-  pub second_spent_worth : (chosen : Assignment) (used : ℕ) (s : results.Spent) → IsSpentBy (rival_search ex (opening_bounds ex) chosen) used s → IsWorth s.value
-  second_spent_worth chosen used s is =
-      worth_is ex (perturbed_weights chosen (opening_bounds ex)) s.found s.value lawful (perturbed_modest chosen (trees_of ex) (opening_bounds ex) (opening_are_bounds ex lawful)) is.spent.attained.feasible is.spent.attained.has
+  rival_writable : (chosen : Assignment) (r : Regret) → IsRegretOf ex (opening_bounds ex) chosen r → IsWritable (length (exact_of ex)) (proved_rival r)
+  rival_writable chosen r is = record {
+    value = worth_is_total r.value (rival_worth chosen r is);
+    group = writable ex (perturbed_weights chosen (opening_bounds ex)) r.value (free_side (trees_of ex)) r.rival r.log lawful is.found.attained.feasible is.found.passes is.written.counts is.written.ranged;
+  }
 
-  pub final_writable : (left : ℕ) (f : Found) → IsFinal ex left f → AreWritable (length (exact_of ex)) f.best f.log
-  final_writable left f is =
-      writable ex (lower_weights (opening_bounds ex)) f.value (free_side (trees_of ex)) f.best f.log lawful is.found.found.attained.feasible is.found.found.passes is.found.written.counts is.found.written.ranged
+  pub first_spent_writable : (used : ℕ) (s : results.Spent) → IsSpentBy (lower_search ex (opening_bounds ex)) used s → IsWritable (length (exact_of ex)) (proved_spent s)
+  first_spent_writable used s is = record {
+    value = worth_is_total s.value (worth_is ex (lower_weights (opening_bounds ex)) s.found s.value lawful (lower_modest (trees_of ex) (opening_bounds ex) (opening_are_bounds ex lawful)) is.spent.attained.feasible is.spent.attained.has);
+    group = writable ex (lower_weights (opening_bounds ex)) s.bound (free_side (trees_of ex)) s.found s.log lawful is.spent.attained.feasible is.spent.passes is.written.counts is.written.ranged;
+  }
 
-  pub rival_writable : (chosen : Assignment) (r : Regret) → IsRegretOf ex (opening_bounds ex) chosen r → AreWritable (length (exact_of ex)) r.rival r.log
-  rival_writable chosen r is =
-      writable ex (perturbed_weights chosen (opening_bounds ex)) r.value (free_side (trees_of ex)) r.rival r.log lawful is.found.attained.feasible is.found.passes is.written.counts is.written.ranged
-
-  pub first_spent_writable : (used : ℕ) (s : results.Spent) → IsSpentBy (lower_search ex (opening_bounds ex)) used s → AreWritable (length (exact_of ex)) s.found s.log
-  first_spent_writable used s is =
-      writable ex (lower_weights (opening_bounds ex)) s.bound (free_side (trees_of ex)) s.found s.log lawful is.spent.attained.feasible is.spent.passes is.written.counts is.written.ranged
-
-  pub second_spent_writable : (chosen : Assignment) (used : ℕ) (s : results.Spent) → IsSpentBy (rival_search ex (opening_bounds ex) chosen) used s → AreWritable (length (exact_of ex)) s.found s.log
-  second_spent_writable chosen used s is =
-      writable ex (perturbed_weights chosen (opening_bounds ex)) s.bound (free_side (trees_of ex)) s.found s.log lawful is.spent.attained.feasible is.spent.passes is.written.counts is.written.ranged
+  pub second_spent_writable : (chosen : Assignment) (used : ℕ) (s : results.Spent) → IsSpentBy (rival_search ex (opening_bounds ex) chosen) used s → IsWritable (length (exact_of ex)) (proved_spent s)
+  second_spent_writable chosen used s is = record {
+    value = worth_is_total s.value (worth_is ex (perturbed_weights chosen (opening_bounds ex)) s.found s.value lawful (perturbed_modest chosen (trees_of ex) (opening_bounds ex) (opening_are_bounds ex lawful)) is.spent.attained.feasible is.spent.attained.has);
+    group = writable ex (perturbed_weights chosen (opening_bounds ex)) s.bound (free_side (trees_of ex)) s.found s.log lawful is.spent.attained.feasible is.spent.passes is.written.counts is.written.ranged;
+  }
 
   begun_are : AllByRecursion IsRecord (begun_records ex)
   begun_are = (tt, described_are_records ex lawful)
 
   final_are : (left : ℕ) (f : Found) → IsFinal ex left f → AllByRecursion IsRecord (final_records ex f)
-  final_are left f is = group_are_records (line.final f.value) (length (exact_of ex)) f.best f.log (worth_is_total f.value (final_worth left f is)) (final_writable left f is)
+  final_are left f is = group_are_records (line.final f.value) (length (exact_of ex)) f.best f.log (final_writable left f is).value (final_writable left f is).group
 
   -- the regret is no less than 0, by which the sets lead themselves, and the difference of the two values
-  pub regret_is : (left : ℕ) (f : Found) (r : Regret) → IsFinal ex left f → IsRegretOf ex (opening_bounds ex) f.best r → IsBetween (pos 0) (pos 400000000000000) r.amount
+  regret_is : (left : ℕ) (f : Found) (r : Regret) → IsFinal ex left f → IsRegretOf ex (opening_bounds ex) f.best r → IsBetween (pos 0) (pos 400000000000000) r.amount
   regret_is left f r final is =
       let final_is = final_worth left f final in
       let rival_is = rival_worth f.best r is in
@@ -184,11 +161,14 @@ module _ (ex : Exchange) (lawful : IsExchange ex) where
       let none : pos 0 ≤ℤ r.amount = omega (arith, ints, own) in
       (none, omega (arith, ints, is.difference, final.found.found.attained.has, final_is.0, rival_is.1))
 
-  rival_are : (left : ℕ) (f : Found) (r : Regret) → IsFinal ex left f → IsRegretOf ex (opening_bounds ex) f.best r → AllByRecursion IsRecord (rival_records ex r)
-  rival_are left f r final is =
+  pub regret_writable : (left : ℕ) (f : Found) (r : Regret) → IsFinal ex left f → IsRegretOf ex (opening_bounds ex) f.best r → IsWritableRegret (length (exact_of ex)) r
+  regret_writable left f r final is = record { rival = rival_writable f.best r is; amount = regret_is left f r final is }
+
+  ending_are : (left : ℕ) (f : Found) (r : Regret) → IsFinal ex left f → IsRegretOf ex (opening_bounds ex) f.best r → AllByRecursion IsRecord (ending_records ex r)
+  ending_are left f r final is =
+      let rival = rival_writable f.best r is in
       all-append IsRecord (group_records version_2 (length (exact_of ex)) (line.rival r.value) (proved_rival r)) (line.regret r.amount ∷ line.end regret_end ∷ [])
-      (group_are_records (line.rival r.value) (length (exact_of ex)) r.rival r.log (worth_is_total r.value (rival_worth f.best r is))
-      (rival_writable f.best r is))
+      (group_are_records (line.rival r.value) (length (exact_of ex)) r.rival r.log rival.value rival.group)
       (regret_is left f r final is, (tt, tt))
 
   module _ (s : results.Spent) (written : AreWritten (length (exact_of ex)) s.log) (ws : List Weights) (feasible : IsFeasible (trees_of ex) (exact_of ex) s.found)
@@ -308,13 +288,13 @@ module _ (ex : Exchange) (lawful : IsExchange ex) where
         shown : IsShownRegretted Said
         shown = record { exchange = lawful; settlement = record { final = shown_final left f final; rival = shown_rival f.best r is; regret = amount_is } }
 
-        same_journal : (begun_records ex ++ final_records ex f) ++ rival_records ex r ≡ Journal
+        same_journal : (begun_records ex ++ final_records ex f) ++ ending_records ex r ≡ Journal
         same_journal = regrouped (begun_records ex) (final_records ex f) (group_records version_2 (length (exact_of ex)) (line.rival r.value) (proved_rival r)) (line.regret r.amount) (line.end regret_end)
 
         whole_records : AllByRecursion IsRecord Journal
         whole_records =
             subst (AllByRecursion IsRecord) same_journal
-            (all-append IsRecord (begun_records ex ++ final_records ex f) (rival_records ex r) (all-append IsRecord (begun_records ex) (final_records ex f) begun_are (final_are left f final)) (rival_are left f r final is))
+            (all-append IsRecord (begun_records ex ++ final_records ex f) (ending_records ex r) (all-append IsRecord (begun_records ex) (final_records ex f) begun_are (final_are left f final)) (ending_are left f r final is))
 
         settled : IsRightRegret Said
         settled = record {
@@ -326,7 +306,7 @@ module _ (ex : Exchange) (lawful : IsExchange ex) where
           });
         }
 
-        ends : call.text ≡ bytes_of ((begun_records ex ++ final_records ex f) ++ rival_records ex r) → RegretAnswers call name Done
+        ends : call.text ≡ bytes_of ((begun_records ex ++ final_records ex f) ++ ending_records ex r) → RegretAnswers call name Done
         ends text = record {
           journal = Journal;
           said = Said;
@@ -334,7 +314,7 @@ module _ (ex : Exchange) (lawful : IsExchange ex) where
           says = regretted_says Said shown;
           so_far = record {
             so_far = (whole_so_far regret_kind _ _ (regretted_carries described_are_taken version_2 Said shown) whole_records).so_far;
-            exchange_is = has_exchange Journal (final_records ex f ++ rival_records ex r) (sym same_journal ∙ append_assoc (begun_records ex) (final_records ex f) (rival_records ex r));
+            exchange_is = has_exchange Journal (final_records ex f ++ ending_records ex r) (sym same_journal ∙ append_assoc (begun_records ex) (final_records ex f) (ending_records ex r));
           };
           exchange_is = told;
           right = settled;

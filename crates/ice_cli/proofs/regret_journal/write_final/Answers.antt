@@ -6,25 +6,17 @@ use Rattle.ice_bound.specs.Conditions.{AreBoundsOf}
 use Rattle.ice_bound.proofs.Living.{opening_are_bounds}
 use Rattle.ice_search.specs.Results.{IsSpentBy}
 use Rattle.ice_regret.specs.Regretted.{lower_search}
-use Rattle.ice_cli.specs.RegretJournal.{begun_records, spent_records, IsRegretJournal, begins, final_spent}
-use Rattle.ice_cli.proofs.RegretJournal.{worth_is_total, first_spent_worth, first_spent_writable}
+use Rattle.ice_write_session.specs.Records.{spent_records}
+use Rattle.ice_cli.specs.RegretJournal.{begun_records, IsRegretJournal, begins, final_spent}
+use Rattle.ice_cli.proofs.RegretJournal.{first_spent_writable}
 use Rattle.ice_cli.proofs.Writing.{nothing_more, last_piece}
 use Rattle.ice_cli.proofs.regret_journal.write_final.Goals as goal
 
 pub best_at_lower_values-requires-clause-bounds : goal.best_at_lower_values-requires-clause-bounds
 best_at_lower_values-requires-clause-bounds g c = subst (AreBoundsOf (trees_of c.args.exchange.now)) (sym c.bounds.ensures.value) (opening_are_bounds c.args.exchange.now c.requires)
 
-pub put_spent-requires-clause-value : goal.put_spent-requires-clause-value
-put_spent-requires-clause-value g c =
-    let ex = c.args.exchange.now in
-    let s = c.in-Err-Spent.spent in
-    let end = rw c.in-Err-Spent.field-0-is at c.in-Err-Spent.ensures.end in
-    let here : IsSpentBy (lower_search ex (opening_bounds ex)) c.branches_of-branches.result s = subst (λ (b : List Bounds). IsSpentBy (lower_search ex b) c.branches_of-branches.result s) c.bounds.ensures.value end.0 in
-    let is : IsSpentBy (lower_search ex (opening_bounds ex)) ex.settings.branches s = subst (λ (n : ℕ). IsSpentBy (lower_search ex (opening_bounds ex)) n s) c.branches_of-branches.ensures.value here in
-    rw c.in-Err-Spent.field-0-is (worth_is_total s.value (first_spent_worth ex c.requires ex.settings.branches s is))
-
-pub put_spent-requires-clause-written : goal.put_spent-requires-clause-written
-put_spent-requires-clause-written g c =
+pub put_spent-requires : goal.put_spent-requires
+put_spent-requires g c =
     let ex = c.args.exchange.now in
     let s = c.in-Err-Spent.spent in
     let end = rw c.in-Err-Spent.field-0-is at c.in-Err-Spent.ensures.end in

@@ -1,14 +1,12 @@
 use Rattle.ice_edge.specs.declared.status.Status.TheVariants.{NoMemory}
-use Rattle.ice_cli.specs.RegretJournal.{begun_records, final_records, IsRegretJournal, has_final}
-use Rattle.ice_cli.proofs.RegretJournal.{worth_is_total, final_worth, final_writable}
+use Rattle.ice_write_session.specs.Records.{final_records}
+use Rattle.ice_cli.specs.RegretJournal.{begun_records, IsRegretJournal, has_final}
+use Rattle.ice_cli.proofs.RegretJournal.{final_writable}
 use Rattle.ice_cli.proofs.Writing.{failed_piece, piece_then}
 use Rattle.ice_cli.proofs.regret_journal.write_found.Goals as goal
 
-pub put_final-requires-clause-value : goal.put_final-requires-clause-value
-put_final-requires-clause-value g c = worth_is_total c.args.found.now.value (final_worth c.args.exchange.now c.requires.lawful c.args.branches c.args.found.now c.requires.found)
-
-pub put_final-requires-clause-written : goal.put_final-requires-clause-written
-put_final-requires-clause-written g c = final_writable c.args.exchange.now c.requires.lawful c.args.branches c.args.found.now c.requires.found
+pub put_final-requires : goal.put_final-requires
+put_final-requires g c = final_writable c.args.exchange.now c.requires.lawful c.args.branches c.args.found.now c.requires.found
 
 pub returns-in-Ok : goal.returns-in-Ok
 returns-in-Ok g c =

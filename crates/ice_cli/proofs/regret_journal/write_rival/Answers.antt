@@ -1,4 +1,4 @@
-use Rattle.std.proofs.Common.{◌≡◌, ◌≤◌, ◌++◌, sym, subst, arith, List}
+use Rattle.std.proofs.Common.{◌++◌, sym, subst, List}
 use Rattle.ice_edge.specs.declared.status.Status.TheVariants.{Done, Spent, NoMemory}
 use Rattle.ice_defs.specs.Bounds.{Bounds}
 use Rattle.ice_defs.specs.Exchange.{trees_of, opening_bounds}
@@ -6,49 +6,25 @@ use Rattle.ice_bound.specs.Conditions.{AreBoundsOf}
 use Rattle.ice_bound.proofs.Living.{opening_are_bounds}
 use Rattle.ice_search.specs.Results.{IsSpentBy}
 use Rattle.ice_regret.specs.Regretted.{rival_search, IsRegretOf}
-use Rattle.ice_cli.specs.RegretJournal.{begun_records, final_records, rival_records, spent_records, IsRegretJournal, has_final, rival_spent, is_whole}
-use Rattle.ice_cli.proofs.RegretJournal.{worth_is_total, rival_worth, regret_is, rival_writable, second_spent_worth, second_spent_writable}
+use Rattle.ice_write_session.specs.Records.{final_records, spent_records}
+use Rattle.ice_cli.specs.RegretJournal.{begun_records, ending_records, IsRegretJournal, has_final, rival_spent, is_whole}
+use Rattle.ice_cli.proofs.RegretJournal.{regret_writable, second_spent_writable}
 use Rattle.ice_cli.proofs.Writing.{nothing_more, last_piece}
 use Rattle.ice_cli.proofs.regret_journal.write_rival.Goals as goal
 
 pub regret-requires-clause-bounds : goal.regret-requires-clause-bounds
 regret-requires-clause-bounds g c = subst (AreBoundsOf (trees_of c.args.exchange.now)) (sym c.bounds.ensures.value) (opening_are_bounds c.args.exchange.now c.requires.lawful)
 
-pub put_rival-requires-clause-value : goal.put_rival-requires-clause-value
-put_rival-requires-clause-value g c =
+pub put_ending-requires : goal.put_ending-requires
+put_ending-requires g c =
     let ex = c.args.exchange.now in
     let f = c.args.found.now in
     let r = c.in-Ok.rival in
     let is : IsRegretOf ex (opening_bounds ex) f.best r = subst (λ (b : List Bounds). IsRegretOf ex b f.best r) c.bounds.ensures.value c.in-Ok.ensures.regret in
-    worth_is_total r.value (rival_worth ex c.requires.lawful f.best r is)
+    regret_writable ex c.requires.lawful c.args.branches f r c.requires.found is
 
-pub put_rival-requires-clause-amount : goal.put_rival-requires-clause-amount
-put_rival-requires-clause-amount g c =
-    let ex = c.args.exchange.now in
-    let f = c.args.found.now in
-    let r = c.in-Ok.rival in
-    let is : IsRegretOf ex (opening_bounds ex) f.best r = subst (λ (b : List Bounds). IsRegretOf ex b f.best r) c.bounds.ensures.value c.in-Ok.ensures.regret in
-    regret_is ex c.requires.lawful c.args.branches f r c.requires.found is
-
-pub put_rival-requires-clause-written : goal.put_rival-requires-clause-written
-put_rival-requires-clause-written g c =
-    let ex = c.args.exchange.now in
-    let f = c.args.found.now in
-    let r = c.in-Ok.rival in
-    let is : IsRegretOf ex (opening_bounds ex) f.best r = subst (λ (b : List Bounds). IsRegretOf ex b f.best r) c.bounds.ensures.value c.in-Ok.ensures.regret in
-    rival_writable ex c.requires.lawful f.best r is
-
-pub put_spent-requires-clause-value : goal.put_spent-requires-clause-value
-put_spent-requires-clause-value g c =
-    let ex = c.args.exchange.now in
-    let f = c.args.found.now in
-    let s = c.in-Err-Spent.spent in
-    let end = rw c.in-Err-Spent.field-0-is at c.in-Err-Spent.ensures.end in
-    let is : IsSpentBy (rival_search ex (opening_bounds ex) f.best) c.args.branches s = subst (λ (b : List Bounds). IsSpentBy (rival_search ex b f.best) c.args.branches s) c.bounds.ensures.value end.0 in
-    worth_is_total s.value (second_spent_worth ex c.requires.lawful f.best c.args.branches s is)
-
-pub put_spent-requires-clause-written : goal.put_spent-requires-clause-written
-put_spent-requires-clause-written g c =
+pub put_spent-requires : goal.put_spent-requires
+put_spent-requires g c =
     let ex = c.args.exchange.now in
     let f = c.args.found.now in
     let s = c.in-Err-Spent.spent in
@@ -62,8 +38,8 @@ returns-in-Ok g c =
     let f = c.args.found.now in
     let r = c.in-Ok.rival in
     let is : IsRegretOf ex (opening_bounds ex) f.best r = subst (λ (b : List Bounds). IsRegretOf ex b f.best r) c.bounds.ensures.value c.in-Ok.ensures.regret in
-    last_piece (begun_records ex ++ final_records ex f) (IsRegretJournal ex) (rival_records ex r) c.put_rival.result Done c.ended.result (g.K.Sink.written c.args.out.now) (g.K.Sink.written c.put_rival.new.out)
-    (g.K.Sink.faults c.args.out.now) (g.K.Sink.faults c.put_rival.new.out) (is_whole c.args.branches f r c.requires.found is) c.put_rival.ensures c.ended.ensures
+    last_piece (begun_records ex ++ final_records ex f) (IsRegretJournal ex) (ending_records ex r) c.put_ending.result Done c.ended.result (g.K.Sink.written c.args.out.now) (g.K.Sink.written c.put_ending.new.out)
+    (g.K.Sink.faults c.args.out.now) (g.K.Sink.faults c.put_ending.new.out) (is_whole c.args.branches f r c.requires.found is) c.put_ending.ensures c.ended.ensures
 
 pub returns-in-Err-Spent : goal.returns-in-Err-Spent
 returns-in-Err-Spent g c =
