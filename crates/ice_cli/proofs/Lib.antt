@@ -11,6 +11,12 @@ pub mod Bidding
 pub mod Besting
 -- `check` on told bytes
 pub mod Completing
+-- valid files have one reading, and aren't refused
+pub mod Readings
+-- `regret` with branches enough
+pub mod RegretCompleting
+-- `run` with branches enough
+pub mod RunCompleting
 -- a journal that is put piece by piece
 pub mod Writing
 -- the journal that `regret` writes

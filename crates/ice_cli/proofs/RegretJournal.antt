@@ -5,7 +5,7 @@ use Rattle.std.specs.List.{AllByRecursion}
 use Rattle.std.proofs.lemmas.Int.{ints}
 use Rattle.std.proofs.lemmas.List.{append-nil}
 use Rattle.std.proofs.lemmas.Option.{none-some}
-use Rattle.std.proofs.Common.{inl, inr}
+use Rattle.std.proofs.Common.{◌⊎◌, inl, inr}
 use Rattle.ice_edge.specs.declared.status.Status.{Status}
 use Rattle.ice_edge.specs.declared.status.Status.TheVariants.{Done, Spent, NoMemory}
 use Rattle.ice_defs.specs.Set.{Weights}
@@ -63,9 +63,12 @@ use Rattle.ice_write.proofs.Writable.{writable}
 use Rattle.ice_write_session.specs.Records.{final_records, spent_records}
 use Rattle.ice_write_session.specs.Writable.{IsWritable, IsWritableRegret}
 use Rattle.ice_round_laws.proofs.Worth.{IsWorth, worth_is, worth_is_total}
+use Rattle.ice_completeness.specs.Branches.{enough_for_regret}
+use Rattle.ice_completeness.specs.Laws.{FinalIsSpent, RivalIsSpent}
+use Rattle.ice_completeness.proofs.Regrets.{spent_regret_has_few}
 use Rattle.ice_cli.specs.Call.{Call, file_limit, OfTold, OfFile}
 use Rattle.ice_cli.specs.Files.{IsExchangeOf}
-use Rattle.ice_cli.specs.Journals.{HasExchangeOf}
+use Rattle.ice_cli.specs.Journals.{HasExchangeOf, HasFewerThan}
 use Rattle.ice_cli.specs.RegretServed.{IsRegretText, of_journal, RegretAnswers}
 use Rattle.ice_cli.specs.RegretJournal.{begun_records, ending_records, IsFinal, IsRegretJournal, begins, final_spent, has_final, rival_spent, is_whole}
 
@@ -196,6 +199,10 @@ module _ (ex : Exchange) (lawful : IsExchange ex) where
     unended journal rest found e text =
         subst (IsRegretText call name) (sym text) (of_journal (record { so_far = found.so_far; exchange_is = has_exchange journal rest e }) found.unstopped)
 
+    -- and fewer branches than would be enough, where a search is spent
+    fewer : FinalIsSpent ex (opening_bounds ex) ⊎ RivalIsSpent ex (opening_bounds ex) → HasFewerThan call name enough_for_regret
+    fewer spent = told_also (call.before.holds name) file_limit (λ bytes. IsExchangeOf bytes (Ok ex)) _ (λ bytes is. (ex, is, spent_regret_has_few ex (opening_bounds ex) spent)) told
+
     begun_answers : call.text ≡ bytes_of (begun_records ex) → RegretAnswers call name NoMemory
     begun_answers text = unended (begun_records ex) [] begun_so_far (sym (append-nil (begun_records ex))) text
 
@@ -223,6 +230,7 @@ module _ (ex : Exchange) (lawful : IsExchange ex) where
         so_far = record { so_far = first_so_far; exchange_is = has_exchange (begun_records ex ++ spent_records ex s) (spent_records ex s) refl };
         stop = first_stop;
         spent = final_is_spent described_are_taken ex lawful (proved_spent s) s.bound is.written.counts is.spent is.branches;
+        few = fewer (inl (s, is));
       }
 
     -- ---- the final group is there
@@ -271,6 +279,7 @@ module _ (ex : Exchange) (lawful : IsExchange ex) where
           stop = second_stop;
           spent = subst (IsSpent regret_kind) (sym (append_assoc (begun_records ex) (final_records ex f) (spent_records ex s)))
               (rival_is_spent described_are_taken ex lawful (proved_spent s) s.bound is.written.counts (proved_found f) (shown_final left f final) final.found.found.earned is.spent (omega (arith, final.branches, is.branches)));
+          few = fewer (inr (left, f, s, final.found, final.branches, is));
         }
 
       -- ---- the journal is whole

@@ -1,5 +1,5 @@
 -- The journal that `run` writes is one of which its contract speaks.
-use Rattle.std.proofs.Common.{◌≡◌, ◌∙◌, ◌+◌, ◌≤◌, ℕ, suc, List, [], ◌∷◌, ◌++◌, length, map, drop, refl, sym, ap, subst, arith, append_assoc, Some, Ok, inr, length-append}
+use Rattle.std.proofs.Common.{◌≡◌, ◌∙◌, ◌+◌, ◌<◌, ◌≤◌, ℕ, suc, List, [], ◌∷◌, ◌++◌, length, map, drop, refl, sym, ap, subst, arith, append_assoc, Some, Ok, inr, length-append}
 use Rattle.std.specs.Prelude.{slice_get}
 use Rattle.std.specs.List.{AllByRecursion}
 use Rattle.std.proofs.lemmas.List.{append-nil}
@@ -34,6 +34,7 @@ use Rattle.ice_round_laws.specs.Written.{begun_records, run_records, round_recor
 use Rattle.ice_round.proofs.GoingOn.{more_rounds}
 use Rattle.ice_round_laws.proofs.Sessions.{run_is_unended, run_closes}
 use Rattle.ice_round_laws.proofs.RoundStops.{round_is_unended, round_stops, round_stays_open}
+use Rattle.ice_completeness.specs.Branches.{enough_for_session}
 use Rattle.ice_cli.specs.Call.{Call, FaultRose, file_limit, OfFile, IsRefused}
 use Rattle.ice_cli.specs.Files.{IsExchangeOf, IsRoundFault}
 use Rattle.ice_cli.specs.Journals.{HasExchangeOf}
@@ -101,9 +102,9 @@ module _ (call : Call) (name : List ℕ) (files : List (List ℕ)) where
 
     -- ---- a search was spent, or the pricing ended at a limit
 
-    spent_answers : (at : Position) (spent : results.Spent) → HasRun call files going s → IsSpentJournal (run_records s.exchange going ++ position_records version_2 (length (exact_of s.exchange)) s.number at ++ spent_records s.exchange spent)
+    spent_answers : (at : Position) (spent : results.Spent) → HasRun call files going s → s.exchange.settings.branches < enough_for_session s.exchange → IsSpentJournal (run_records s.exchange going ++ position_records version_2 (length (exact_of s.exchange)) s.number at ++ spent_records s.exchange spent)
         → call.text ≡ bytes_of (run_records s.exchange going ++ position_records version_2 (length (exact_of s.exchange)) s.number at ++ spent_records s.exchange spent) → RunAnswers call name files Spent
-    spent_answers at spent has is text =
+    spent_answers at spent has fewer is text =
         let position : List Record = position_records version_2 (length (exact_of s.exchange)) s.number at in
         let grouped = append_assoc (run_records s.exchange going) position (spent_records s.exchange spent) in
         record {
@@ -113,6 +114,7 @@ module _ (call : Call) (name : List ℕ) (files : List (List ℕ)) where
               (once_so_far has.rounds (position ++ spent_records s.exchange spent) (settles_more position (spent_records s.exchange spent) (position_settles version_2 (length (exact_of s.exchange)) s.number at) (spent_other s.exchange spent))
               (subst (IsSoFar session_kind) grouped is.so_far));
           spent = is.spent;
+          few = told_also (call.before.holds name) file_limit (λ bytes. IsExchangeOf bytes (Ok s.exchange)) _ (λ bytes exchange. (s.exchange, exchange, fewer)) told;
         }
 
     limit_answers : (final : Found) (amount : Regret) (offered : Found) (limit : PriceLimit) → HasRun call files going s → IsLimitedJournal (run_records s.exchange going ++ sought_records s final amount offered ++ limit_records limit)
@@ -218,7 +220,7 @@ run_answers call name files _ _ _ told run.nothing text = subst (IsRunText call 
 run_answers call name files _ _ _ told (between going s has) text = between_answers call name files s going told has text
 run_answers call name files _ _ _ told (in_round going s last r round are begins) text = in_round_answers call name files s going last r told round are begins text
 run_answers call name files _ _ _ told (closes going s c has is records) text = close_answers call name files s going told c has is records text
-run_answers call name files _ _ _ told (spends going s at spent has is) text = spent_answers call name files s going told at spent has is text
+run_answers call name files _ _ _ told (spends going s at spent has fewer is) text = spent_answers call name files s going told at spent has fewer is text
 run_answers call name files _ _ _ told (limits going s final amount offered limit has is) text = limit_answers call name files s going told final amount offered limit has is text
 run_answers call name files _ _ _ told (stays_open going s last r opened all) text = stays_answers call name files s going last r told opened all text
 run_answers call name files _ _ _ told (refuses going s last r file fault opened there refused) text = refuse_answers call name files s going last r told opened file fault there refused text

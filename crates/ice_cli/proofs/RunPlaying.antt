@@ -43,6 +43,7 @@ use Rattle.ice_round_laws.specs.Laws.{PricesSought, sought_records}
 use Rattle.ice_round_laws.specs.Written.{begun_records, run_records, round_records}
 use Rattle.ice_round_laws.proofs.Rounds.{run_begins, round_begins, round_ends, opening_going, goings_more}
 use Rattle.ice_round_laws.proofs.Ends.{spends, is_limited, opening_may_be_written, closing_may_be_written, spent_may_be_written, limit_may_be_written}
+use Rattle.ice_completeness.proofs.Sessions.{spent_session_has_few}
 use Rattle.ice_cli.specs.declared.refusal.Refusal.{Refusal}
 use Rattle.ice_cli.specs.declared.refusal.Refusal.TheVariants as refusal
 use Rattle.ice_cli.specs.Call.{Call, file_limit, OfTold, IsPrefix}
@@ -167,7 +168,7 @@ module _ (s : SessionAt) where
       let ended = writes (subst (AllByRecursion IsRecord) same (halt_are_records h may.0)) (spent_are_records s.exchange spent may.1 fits) in
       said_piece (run_records s.exchange going) (RunsTo s.exchange files before after) (position ++ spent_records s.exchange spent) Spent result old new f g
       (λ call part. subst (λ (rs : List Record). IsRunJournal call files s.exchange rs Spent) (append_assoc (run_records s.exchange going) position (spent_records s.exchange spent))
-      (journal.spends going s at spent (has_run going files before after run played call part) ended)) whole
+      (journal.spends going s at spent (has_run going files before after run played call part) (spent_session_has_few going s h.best h.regret h.provisional h.marginals.items spent run is) ended)) whole
 
   prices_at : (best : Option Found) (regret : Option Regret) (provisional : Option Found) (ms : List Marginal) (sought : PricesSought best regret provisional ms)
       → halted_records s.exchange s.number best regret ms provisional ≡ sought_records s sought.final sought.amount sought.offered

@@ -1,8 +1,14 @@
--- With a file that is told and no fault of the outside, `check` ends as it is meant to.
-use Rattle.std.specs.Prelude.{ℕ, ◌≤◌, ◌≡◌, ◌≢◌, ◌⊎◌, List, length}
-use Rattle.ice_edge.specs.declared.status.Status.TheVariants.{Done, Input, No, NoMemory}
-use Rattle.ice_cli.specs.Command.{check, IsCommand}
-use Rattle.ice_cli.specs.Call.{Call, IsTold, FaultRose, OverlongRose, SinkFaultRose, journal_limit}
+-- With files that are told, no fault of the outside, and branches enough, a call ends as it is meant to.
+use Rattle.std.specs.Prelude.{ℕ, ◌≤◌, ◌≡◌, ◌≢◌, ◌⊎◌, List, length, Ok}
+use Rattle.std.specs.List.{AllByRecursion}
+use Rattle.ice_edge.specs.declared.status.Status.TheVariants.{Done, Input, No, Limit, NoMemory, StillOpen}
+use Rattle.ice_defs.specs.Exchange.{Exchange}
+use Rattle.ice_defs.specs.Round.{Submission}
+use Rattle.ice_read.specs.RoundFile.{bids_of}
+use Rattle.ice_completeness.specs.Branches.{enough_for_session, enough_for_regret}
+use Rattle.ice_cli.specs.Command.{check, regret, run, IsCommand}
+use Rattle.ice_cli.specs.Call.{Call, IsTold, FaultRose, OverlongRose, SinkFaultRose, file_limit, journal_limit}
+use Rattle.ice_cli.specs.Files.{IsExchangeOf}
 use Rattle.ice_cli.specs.Served.{IsServed}
 
 -- no count of faults rose in the call
@@ -10,6 +16,8 @@ pub record IsFaultless (call : Call) : Type 0 where
   pub reads : (name : List ℕ) → ¬ FaultRose call name
   pub lengths : (name : List ℕ) (limit : ℕ) → ¬ OverlongRose call name limit
   pub writes : ¬ SinkFaultRose call
+
+-- ---- `check`
 
 -- the call is `check` on a file with these bytes, which are told and within the limit, and nothing outside fails
 pub record ChecksBytes (call : Call) (journal bytes : List ℕ) : Type 0 where
@@ -28,3 +36,25 @@ CheckCompletes = (call : Call) (journal bytes : List ℕ) → ChecksBytes call j
 abbrev pub CheckIsDecided : Type 0
 CheckIsDecided = (one other : Call) (journal name bytes : List ℕ) → ChecksBytes one journal bytes → ChecksBytes other name bytes
     → one.status ≢ NoMemory → other.status ≢ NoMemory → (one.status ≡ other.status) × (one.text ≡ other.text)
+
+-- ---- `regret` and `run`
+
+-- the file is told, is within the limit, and has this exchange
+abbrev pub IsValidExchange : Call → List ℕ → Exchange → Type 0
+IsValidExchange call name ex = (bytes : List ℕ) × IsTold call name bytes × (length bytes ≤ file_limit) × IsExchangeOf bytes (Ok ex)
+
+-- or has bids
+abbrev pub IsValidRound : Call → List ℕ → Type 0
+IsValidRound call name = (bytes : List ℕ) × (bids : List Submission) × IsTold call name bytes × (length bytes ≤ file_limit) × (bids_of bytes ≡ Ok bids)
+
+-- with branches enough for two searches, a regret is found
+abbrev pub RegretCompletes : Type 0
+RegretCompletes =
+    (call : Call) (exchange : List ℕ) (ex : Exchange) → IsServed call → IsCommand call.words (regret exchange) → IsFaultless call → IsValidExchange call exchange ex
+    → enough_for_regret ex ≤ ex.settings.branches → (call.status ≡ Done) ⊎ (call.status ≡ NoMemory)
+
+-- with branches enough for all searches, a session closes, stays open, or ends at a limit of its pricing
+abbrev pub RunCompletes : Type 0
+RunCompletes =
+    (call : Call) (exchange : List ℕ) (rounds : List (List ℕ)) (ex : Exchange) → IsServed call → IsCommand call.words (run exchange rounds) → IsFaultless call → IsValidExchange call exchange ex → AllByRecursion (IsValidRound call) rounds
+    → enough_for_session ex ≤ ex.settings.branches → (call.status ≡ Done) ⊎ (call.status ≡ StillOpen) ⊎ (call.status ≡ Limit) ⊎ (call.status ≡ NoMemory)

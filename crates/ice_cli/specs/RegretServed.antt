@@ -12,10 +12,11 @@ use Rattle.ice_journal_laws.specs.Written.{regretted_records}
 use Rattle.ice_journal_laws.specs.Theorems.{Says, IsRightRegret}
 use Rattle.ice_journal_laws.specs.Stops.{IsSpent}
 use Rattle.ice_journal_laws.specs.SoFar.{IsUnstopped, IsSoFar}
+use Rattle.ice_completeness.specs.Branches.{enough_for_regret}
 use Rattle.ice_cli.specs.Call.{Call, FaultRose, file_limit, OfFile, IsRefused}
 use Rattle.ice_cli.specs.Files.{IsExchangeOf, IsExchangeFault}
 use Rattle.ice_cli.specs.Output.{refused_line, unread_line}
-use Rattle.ice_cli.specs.Journals.{HasExchangeOf}
+use Rattle.ice_cli.specs.Journals.{HasExchangeOf, HasFewerThan}
 
 -- a journal of kind regret as far as it is written, with the exchange of the file
 pub record IsRegretSoFar (call : Call) (exchange : List ℕ) (journal : List Record) : Type 0 where
@@ -33,13 +34,14 @@ pub record RegretEnds (call : Call) (exchange : List ℕ) : Type 0 where
   pub right : IsRightRegret said
   pub checks : Checks journal
 
--- one that stops at a search whose branches are spent: that it stops is its first failed test
+-- one that stops at a search whose branches are spent: that it stops is its first failed test, and more branches would have been enough
 pub record RegretSpends (call : Call) (exchange : List ℕ) : Type 0 where
   pub journal : List Record
   pub written : IsJournal call.text journal
   pub so_far : IsRegretSoFar call exchange journal
   pub stop : (place : ℕ) × FirstFailure journal (Some (record { line = place; rule = rule.Closed }))
   pub spent : IsSpent regret_kind journal
+  pub few : HasFewerThan call exchange enough_for_regret
 
 -- whole lines that are no answer yet
 pub data IsRegretText (call : Call) (exchange : List ℕ) : List ℕ → Type 0 where

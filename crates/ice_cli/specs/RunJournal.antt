@@ -1,5 +1,5 @@
 -- The journal that `run` writes, as far as it comes.
-use Rattle.std.specs.Prelude.{ℕ, ◌+◌, ◌≡◌, List, [], ◌∷◌, ◌++◌, length, drop, slice_get, Some}
+use Rattle.std.specs.Prelude.{ℕ, ◌+◌, ◌<◌, ◌≡◌, List, [], ◌∷◌, ◌++◌, length, drop, slice_get, Some}
 use Rattle.std.specs.List.{AllByRecursion}
 use Rattle.ice_edge.specs.Told.{Told}
 use Rattle.ice_edge.specs.declared.status.Status.{Status}
@@ -22,6 +22,7 @@ use Rattle.ice_write_session.specs.Records.{closing_records, spent_records, limi
 use Rattle.ice_round_laws.specs.Running.{IsRunning, IsInRound}
 use Rattle.ice_round_laws.specs.Laws.{sought_records}
 use Rattle.ice_round_laws.specs.Written.{run_records, round_records, IsSpentJournal, IsLimitedJournal}
+use Rattle.ice_completeness.specs.Branches.{enough_for_session}
 use Rattle.ice_cli.specs.Call.{Call, FaultRose, file_limit, IsRefused}
 use Rattle.ice_cli.specs.Files.{IsRoundFault}
 use Rattle.ice_cli.specs.Parts.{HasPart}
@@ -46,7 +47,7 @@ module _ (call : Call) (files : List (List ℕ)) where
     in_round : (going : List Going) (s : SessionAt) (last : Going) (r : RoundAt) → IsInRound going s last r → AreRoundsOf call files going → BeginsRound call (drop (length going) files) (submissions_of last)
         → IsRunJournal s.exchange (round_records s going last) NoMemory
     closes : (going : List Going) (s : SessionAt) (c : Closing) → HasRun going s → IsClosing s c → AllByRecursion IsRecord (closing_records c) → IsRunJournal s.exchange (run_records s.exchange going ++ closing_records c) Done
-    spends : (going : List Going) (s : SessionAt) (at : Position) (spent : results.Spent) → HasRun going s
+    spends : (going : List Going) (s : SessionAt) (at : Position) (spent : results.Spent) → HasRun going s → s.exchange.settings.branches < enough_for_session s.exchange
         → IsSpentJournal (run_records s.exchange going ++ position_records version_2 (length (exact_of s.exchange)) s.number at ++ spent_records s.exchange spent)
         → IsRunJournal s.exchange (run_records s.exchange going ++ position_records version_2 (length (exact_of s.exchange)) s.number at ++ spent_records s.exchange spent) Spent
     limits : (going : List Going) (s : SessionAt) (final : Found) (amount : Regret) (offered : Found) (limit : PriceLimit) → HasRun going s

@@ -15,9 +15,11 @@ use Rattle.ice_journal_laws.specs.Theorems.{Says}
 use Rattle.ice_journal_laws.specs.Stops.{IsSpent}
 use Rattle.ice_journal_laws.specs.SoFar.{IsUnstopped}
 use Rattle.ice_round_laws.specs.Stops.{IsLimited, OpenSession, open_records, IsRightOpen}
+use Rattle.ice_completeness.specs.Branches.{enough_for_session}
 use Rattle.ice_cli.specs.Call.{Call, FaultRose, file_limit, OfFile, IsRefused}
 use Rattle.ice_cli.specs.Files.{IsExchangeOf, IsExchangeFault, IsRoundFault}
 use Rattle.ice_cli.specs.Output.{refused_line, unread_line}
+use Rattle.ice_cli.specs.Journals.{HasFewerThan}
 use Rattle.ice_cli.specs.Rounds.{IsRunSoFar, AreRoundsOf, rounds_in}
 
 -- the headline of a run: what it wrote is a closed journal of the exchange of the first file and of all bids of the round files, and it is right
@@ -64,12 +66,13 @@ pub data IsRunText (call : Call) (exchange : List ℕ) (rounds : List (List ℕ)
   nothing : IsRunText call exchange rounds []
   of_journal : {journal : List Record} (run : IsRunSoFar call exchange rounds session_kind journal) → IsUnstopped run.so_far.end → IsRunText call exchange rounds (bytes_of journal)
 
--- a search was spent
+-- a search was spent, of fewer branches than would be enough
 pub record RunSpends (call : Call) (exchange : List ℕ) (rounds : List (List ℕ)) : Type 0 where
   pub journal : List Record
   pub written : IsJournal call.text journal
   pub so_far : IsRunSoFar call exchange rounds session_kind journal
   pub spent : IsSpent session_kind journal
+  pub few : HasFewerThan call exchange enough_for_session
 
 -- a pricing ended at a limit
 pub record RunIsLimited (call : Call) (exchange : List ℕ) (rounds : List (List ℕ)) : Type 0 where
