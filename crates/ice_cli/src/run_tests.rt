@@ -1,6 +1,6 @@
 //! `run` on files in memory.
 use crate::serve::serve;
-use ice_edge::{MemShelf, MemSink, Status};
+use ice_edge::{FetchFault, MemShelf, MemSink, Shelf, Status};
 use std::alloc::Global;
 use std::process::Abort;
 use std::test::Fail;
@@ -524,5 +524,43 @@ fn other_words_of_run_are_refused(rt: HostRuntime) -> Result<(), Fail> {
     let (_exchange, alone) = alone.split_last().ok_or("no words")?;
     assert_eq!(rt; status_of(alloc, &many)?, Status::Words);
     assert_eq!(rt; status_of(alloc, alone)?, Status::Words);
+    Ok(())
+}
+
+/// Files in memory, and how many fetches there were.
+#[derive(Drop)]
+struct CountingShelf {
+    files: MemShelf,
+    fetches: u32,
+}
+
+impl Shelf for CountingShelf {
+    ghost use Rattle.ice_edge.specs.MemoryShelf.{told_of};
+
+    ghost told = { λ shelf. told_of shelf.files };
+
+    fn fetch(&mut self, alloc: Global, name: &str, limit: usize) -> Result<Vec<u8>, FetchFault> {
+        self.fetches = self.fetches.saturating_add(1);
+        self.files.fetch(alloc, name, limit)
+    }
+}
+
+/// How many files a session fetches.
+fn fetched(alloc: Global, exchange: &str, rounds: &[&str]) -> Result<u32, Fail> {
+    let files = shelf_of(alloc, exchange)?;
+    let mut shelf = CountingShelf { files, fetches: 0 };
+    let mut out = MemSink::new(alloc, 4096)?;
+    let words = words_of(alloc, rounds)?;
+    let _status = serve(alloc, &words, &mut shelf, &mut out);
+    Ok(shelf.fetches)
+}
+
+/// The file of a round that doesn't begin isn't fetched.
+#[test]
+fn files_behind_the_close_are_not_fetched(rt: HostRuntime) -> Result<(), Fail> {
+    let alloc = rt.alloc();
+    assert_eq!(rt; fetched(alloc, WITH_ROUNDS, &["none"])?, 1);
+    assert_eq!(rt; fetched(alloc, NO_BRANCHES, &["none"])?, 1);
+    assert_eq!(rt; fetched(alloc, TIGHTENED, &["eight", "none"])?, 2);
     Ok(())
 }
