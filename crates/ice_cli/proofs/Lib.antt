@@ -9,6 +9,8 @@ pub mod Checking
 pub mod Bidding
 -- what `best` answers
 pub mod Besting
+-- what `replay` answers
+pub mod Replayed
 -- `check` on told bytes
 pub mod Completing
 -- valid files have one reading, and aren't refused

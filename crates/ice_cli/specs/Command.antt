@@ -7,6 +7,7 @@ pub data Command : Type 0 where
   best : (exchange prices : List ℕ) → Command
   regret : (exchange : List ℕ) → Command
   xor : (file : List ℕ) → Command
+  replay : (journal : List ℕ) → (number : ℕ) → Command
   gen : (number : ℕ) → Command
   run : (exchange : List ℕ) → (rounds : List (List ℕ)) → Command
 
@@ -15,11 +16,13 @@ words_of (check journal) = codes "check" ∷ journal ∷ []
 words_of (best exchange prices) = codes "best" ∷ exchange ∷ prices ∷ []
 words_of (regret exchange) = codes "regret" ∷ exchange ∷ []
 words_of (xor file) = codes "xor" ∷ file ∷ []
+words_of (replay journal number) = codes "replay" ∷ journal ∷ decimal number ∷ []
 words_of (gen number) = codes "gen" ∷ decimal number ∷ []
 words_of (run exchange rounds) = codes "run" ∷ exchange ∷ rounds
 
--- a run has at most 20 round files, and a number has 32 bits
+-- a session has at most 20 rounds, and a run as many round files; the number of a generated exchange has 32 bits
 abbrev pub IsLimited : Command → Type 0
+IsLimited (replay journal number) = number ≤ 20
 IsLimited (run exchange rounds) = length rounds ≤ 20
 IsLimited (gen number) = number < 2 ^ 32
 IsLimited other = Unit {0}

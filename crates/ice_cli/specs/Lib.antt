@@ -4,6 +4,7 @@ pub mod Call
 pub mod Parts
 pub mod Output
 pub mod CheckServed
+pub mod ReplayServed
 pub mod Files
 pub mod Refusals
 pub mod BestServed
@@ -18,6 +19,7 @@ pub mod RunJournal
 pub mod RunSteps
 pub mod XorServed
 pub mod XorParts
+pub mod Replaying
 pub mod GenServed
 pub mod GenLines
 pub mod GenJournal

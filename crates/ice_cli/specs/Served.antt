@@ -2,13 +2,14 @@
 use Rattle.std.specs.Prelude.{◌≡◌, ℕ, List}
 use Rattle.ice_edge.specs.declared.status.Status.{Status}
 use Rattle.ice_edge.specs.declared.status.Status.TheVariants.{Words, WriteFault}
-use Rattle.ice_cli.specs.Command.{Command, check, best, regret, xor, run, gen, IsCommand, IsNoCommand}
+use Rattle.ice_cli.specs.Command.{Command, check, best, regret, xor, run, gen, IsCommand, IsNoCommand, replay}
 use Rattle.ice_cli.specs.Call.{Call, SinkFaultRose, IsPrefix}
 use Rattle.ice_cli.specs.Output.{words_line}
 use Rattle.ice_cli.specs.CheckServed.{CheckAnswers}
 use Rattle.ice_cli.specs.BestServed.{BestAnswers}
 use Rattle.ice_cli.specs.RegretServed.{RegretAnswers}
 use Rattle.ice_cli.specs.XorServed.{XorAnswers}
+use Rattle.ice_cli.specs.ReplayServed.{ReplayAnswers}
 use Rattle.ice_cli.specs.RunServed.{RunAnswers}
 use Rattle.ice_cli.specs.GenServed.{GenAnswers}
 
@@ -24,6 +25,7 @@ CommandAnswers call (check journal) = CheckAnswers call journal call.status
 CommandAnswers call (best exchange prices) = BestAnswers call exchange prices call.status
 CommandAnswers call (regret exchange) = RegretAnswers call exchange call.status
 CommandAnswers call (xor file) = XorAnswers call file call.status
+CommandAnswers call (replay journal number) = ReplayAnswers call journal number call.status
 CommandAnswers call (run exchange rounds) = RunAnswers call exchange rounds call.status
 CommandAnswers call (gen number) = GenAnswers call.text number call.status
 

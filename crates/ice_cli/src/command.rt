@@ -20,6 +20,11 @@ pub enum Command<'a> {
     Xor {
         file: &'a str,
     },
+    Replay {
+        journal: &'a str,
+        /// The number of a settlement, at most 20.
+        number: u8,
+    },
     Gen {
         number: u32,
     },
@@ -65,6 +70,29 @@ fn number_word(words: &[String]) -> Option<u32>
     Some(number as u32)
 }
 
+/// The number of a settlement, at most 20, that the word is.
+fn settlement_number(word: &str) -> Option<u8>
+    ensures { MatchOption result
+        ((number : ℕ) → number ≤ 20 → word.now ≡ decimal number → ⊥)
+        (λ number. (number ≤ 20) × (word.now ≡ decimal number)) }
+{
+    let number = natural(word.as_bytes(), 0, 20)?;
+    Some(number as u8)
+}
+
+/// The name of a journal and the number of a settlement, where the words are such.
+fn replay_words(words: &[String]) -> Option<(&str, u8)>
+    ensures { MatchOption result
+        ((journal : List ℕ) → (number : ℕ) → number ≤ 20
+        → map string_bytes words.now ≡ journal ∷ decimal number ∷ [] → ⊥)
+        (λ named. (named.1 ≤ 20)
+        × (map string_bytes words.now ≡ named.0.now ∷ decimal named.1 ∷ [])) }
+{
+    let (journal, number) = two_words(words)?;
+    let number = settlement_number(number)?;
+    Some((journal, number))
+}
+
 /// The names of an exchange and of at most 20 round files, where the words are such.
 fn run_names(words: &[String]) -> Option<(&str, &[String])>
     ensures { MatchOption result
@@ -96,6 +124,10 @@ pub fn command_in(words: &[String]) -> Option<Command<'_>>
         "regret" => {
             let exchange = one_word(names)?;
             Some(Command::Regret { exchange })
+        }
+        "replay" => {
+            let (journal, number) = replay_words(names)?;
+            Some(Command::Replay { journal, number })
         }
         "gen" => {
             let number = number_word(names)?;

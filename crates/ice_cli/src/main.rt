@@ -21,6 +21,9 @@ mod regret;
 mod regret_journal;
 #[cfg(test)]
 mod regret_tests;
+mod replay;
+#[cfg(test)]
+mod replay_tests;
 mod run;
 mod run_journal;
 #[cfg(test)]

@@ -19,6 +19,8 @@ pub enum FileFault {
     AtPlace { number: u8, place: Place },
     /// It is of another kind than the command reads.
     OtherKind,
+    /// It is a session that states no regret of the settlement.
+    NoSettlement,
     /// It has more bytes than it may have.
     TooLong,
 }
@@ -31,6 +33,7 @@ impl FileFault {
         match self {
             FileFault::AtLine { number, .. } | FileFault::AtPlace { number, .. } => *number,
             FileFault::OtherKind => 53,
+            FileFault::NoSettlement => 52,
             FileFault::TooLong => 61,
         }
     }
@@ -44,7 +47,7 @@ impl FileFault {
         match self {
             FileFault::AtLine { line, .. } => to.natural(*line),
             FileFault::AtPlace { place, .. } => to.word(place.text().as_bytes()),
-            FileFault::OtherKind | FileFault::TooLong => to.word(b"-"),
+            FileFault::OtherKind | FileFault::NoSettlement | FileFault::TooLong => to.word(b"-"),
         }
     }
 }

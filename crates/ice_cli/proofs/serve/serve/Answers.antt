@@ -1,10 +1,11 @@
 use Rattle.std.proofs.Common.{refl, [], map, string_bytes}
 use Rattle.ice_cli.specs.Call.{Call}
-use Rattle.ice_cli.specs.Command.{check, best, regret, xor, run, gen}
+use Rattle.ice_cli.specs.Command.{check, best, regret, xor, run, gen, replay}
 use Rattle.ice_cli.specs.CheckServed.{CheckAnswers}
 use Rattle.ice_cli.specs.BestServed.{BestAnswers}
 use Rattle.ice_cli.specs.RegretServed.{RegretAnswers}
 use Rattle.ice_cli.specs.XorServed.{XorAnswers}
+use Rattle.ice_cli.specs.ReplayServed.{ReplayAnswers}
 use Rattle.ice_cli.specs.RunServed.{RunAnswers}
 use Rattle.ice_cli.specs.GenServed.{GenAnswers}
 use Rattle.ice_cli.proofs.Parts.{served, refused_words}
@@ -71,6 +72,22 @@ returns-in-Some-Xor g c =
     } in
     served call (xor file) (λ one. XorAnswers one file) (g.K.Sink.written c.args.out.now) (g.K.Sink.written c.xor.new.out)
     (rw c.in-Some-Xor.field-0-is at c.in-Some-Xor.ensures) (λ text status h. h) c.xor.ensures
+
+pub returns-in-Some-Replay : goal.returns-in-Some-Replay
+returns-in-Some-Replay g c =
+    let journal = c.in-Some-Replay.journal.now in
+    let number = c.in-Some-Replay.number in
+    let call : Call = record {
+      words = map string_bytes c.args.words.now;
+      before = g.H.Shelf.told c.args.shelf.now;
+      after = g.H.Shelf.told c.replay.new.shelf;
+      sink_faults = g.K.Sink.faults c.args.out.now;
+      sink_faults_after = g.K.Sink.faults c.replay.new.out;
+      text = [];
+      status = c.replay.result;
+    } in
+    served call (replay journal number) (λ one. ReplayAnswers one journal number) (g.K.Sink.written c.args.out.now) (g.K.Sink.written c.replay.new.out)
+    (rw c.in-Some-Replay.field-0-is at c.in-Some-Replay.ensures) (λ text status h. h) c.replay.ensures
 
 pub returns-in-Some-Run : goal.returns-in-Some-Run
 returns-in-Some-Run g c =
