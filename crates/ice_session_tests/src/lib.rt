@@ -16,3 +16,5 @@ mod searches;
 mod sessions;
 #[cfg(test)]
 mod taken;
+#[cfg(test)]
+mod ways;

@@ -1,11 +1,13 @@
 //! What a search answers, in numbers.
 ghost use Rattle.std.specs.Prelude.{◌≤◌};
+ghost use Rattle.ice_defs.specs.Exchange.{trees_of};
+ghost use Rattle.ice_bound.specs.Conditions.{AreWeightsOf};
 
 use crate::markets::{free, lower};
 use ice_refute::{Log, Step};
 use ice_search::{Found, SearchEnd, is_feasible, search};
 use ice_trade::Exchange;
-use ice_tree::Assignment;
+use ice_tree::{AllWeights, Assignment};
 use std::alloc::Global;
 use std::test::Fail;
 
@@ -51,6 +53,25 @@ fn told(answer: Result<Found, SearchEnd>, left: u32) -> Result<Outcome, Fail> {
     })
 }
 
+/// What a search at these weights answers that begins with no trade.
+pub(crate) fn search_at(
+    alloc: Global,
+    exchange: &Exchange,
+    weights: &AllWeights,
+    branches: &mut u32,
+) -> Result<Result<Found, SearchEnd>, Fail>
+    requires weights { AreWeightsOf (trees_of exchange.now) weights.now }
+    requires branches { branches.old ≤ 50000 }
+{
+    let start = free(alloc, exchange)?;
+    let first = Assignment::empty(alloc, exchange.trees())?;
+    if !is_feasible(exchange, &start, &first) {
+        return Err("no trade is not feasible")?;
+    }
+    let answer = search(alloc, exchange, weights, &start, &first, branches);
+    Ok(answer)
+}
+
 /// What a search at lower values answers that begins with no trade.
 pub(crate) fn search_lower(
     alloc: Global,
@@ -60,13 +81,7 @@ pub(crate) fn search_lower(
     requires { branches.old ≤ 50000 }
 {
     let weights = lower(alloc, exchange)?;
-    let start = free(alloc, exchange)?;
-    let first = Assignment::empty(alloc, exchange.trees())?;
-    if !is_feasible(exchange, &start, &first) {
-        return Err("no trade is not feasible")?;
-    }
-    let answer = search(alloc, exchange, &weights, &start, &first, branches);
-    Ok(answer)
+    search_at(alloc, exchange, &weights, branches)
 }
 
 /// What a search answers with so many branches, in numbers.
