@@ -9,7 +9,7 @@ use Rattle.ice_journal_laws.specs.declared.answer.CheckEnd.TheVariants as ending
 use Rattle.ice_journal_laws.specs.Answers.{AnswersBytes}
 use Rattle.ice_journal_laws.proofs.Answered.{one_answer_of_bytes}
 use Rattle.ice_cli.specs.Call.{Call, IsTold, journal_limit, OfTold, OfFile, too_long, at_fault}
-use Rattle.ice_cli.specs.Command.{check, best, regret, xor, run, gen, IsCommand, replay}
+use Rattle.ice_cli.specs.Command.{check, best, regret, xor, run, gen, migrate, IsCommand, replay}
 use Rattle.ice_cli.specs.CheckServed.{IsEndFault, IsCheckFault, CheckAnswers, WritesAnswer, answer_line, answer_status, other_kind}
 use Rattle.ice_cli.specs.Output.{refused_line}
 use Rattle.ice_cli.specs.Served.{IsServed, no_command, answers, cut_short}
@@ -39,6 +39,9 @@ check_answers call journal (answers (run exchange rounds) other answer) is fault
     absurd (omega (arith, lengths))
 check_answers call journal (answers (gen number) other answer) is faultless =
     let lengths : 3 ≡ 5 = ap (λ (words : List (List ℕ)). length (get_or words 0 [])) (sym other.1 ∙ is.1) in
+    absurd (omega (arith, lengths))
+check_answers call journal (answers (migrate name) other answer) is faultless =
+    let lengths : 7 ≡ 5 = ap (λ (words : List (List ℕ)). length (get_or words 0 [])) (sym other.1 ∙ is.1) in
     absurd (omega (arith, lengths))
 check_answers call journal (cut_short text status failed rose served front) is faultless = absurd (faultless.writes rose)
 

@@ -27,6 +27,8 @@ pub mod RegretJournal
 pub mod Regretting
 -- what `xor` answers
 pub mod Translating
+-- what `migrate` answers
+pub mod Migrating
 -- faults of round files as records
 pub mod RoundFaults
 -- the rounds of a run's journal are the bids of its files

@@ -23,5 +23,7 @@ pub mod Replaying
 pub mod GenServed
 pub mod GenLines
 pub mod GenJournal
+pub mod MigrateServed
+pub mod MigrateParts
 pub mod Served
 pub mod Completeness

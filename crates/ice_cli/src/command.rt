@@ -32,6 +32,9 @@ pub enum Command<'a> {
         exchange: &'a str,
         rounds: &'a [String],
     },
+    Migrate {
+        journal: &'a str,
+    },
 }
 
 /// The word, where there is no other.
@@ -140,6 +143,10 @@ pub fn command_in(words: &[String]) -> Option<Command<'_>>
         "xor" => {
             let file = one_word(names)?;
             Some(Command::Xor { file })
+        }
+        "migrate" => {
+            let journal = one_word(names)?;
+            Some(Command::Migrate { journal })
         }
         _ => None,
     }

@@ -16,6 +16,9 @@ mod generated;
 #[cfg(test)]
 mod json_tests;
 pub mod laws;
+mod migrate;
+#[cfg(test)]
+mod migrate_tests;
 mod refusal;
 mod regret;
 mod regret_journal;

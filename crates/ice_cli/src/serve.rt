@@ -9,6 +9,7 @@ use crate::best::best;
 use crate::check::check;
 use crate::command::{Command, command_in};
 use crate::generated::generated;
+use crate::migrate::migrate;
 use crate::regret::regret;
 use crate::replay::replay;
 use crate::run::run;
@@ -29,8 +30,8 @@ fn refuse_words<K: Sink>(out: &mut K) -> Status
 /// `best EXCHANGE PRICES` writes the best set of each bidder at prices, `regret EXCHANGE` writes a journal of the best
 /// assignment at lower values and its regret, `xor FILE` writes the exchange that flat bids say, as one line of JSON,
 /// `replay JOURNAL N` writes what a session says of the settlement with this number, from 0 to 20, `run EXCHANGE ROUND..`
-/// writes the journal of a session, whose rounds have the bids of at most 20 files, and `gen NUMBER` writes a summary of the
-/// session of a generated exchange.
+/// writes the journal of a session, whose rounds have the bids of at most 20 files, `gen NUMBER` writes a summary of the
+/// session of a generated exchange, and `migrate JOURNAL` writes a journal of version 1 in version 2.
 ///
 /// Files come from `shelf`, output goes to `out`, and each line with its newline is one put. The status says how the
 /// call ended, and the clause ties it to the words, to what the shelf told, to the counts of faults that rose in this
@@ -61,6 +62,7 @@ pub fn serve<H: Shelf, K: Sink>(
         Some(Command::Replay { journal, number }) => replay(alloc, journal, number, shelf, out),
         Some(Command::Gen { number }) => generated(alloc, number, out),
         Some(Command::Run { exchange, rounds }) => run(alloc, exchange, rounds, shelf, out),
+        Some(Command::Migrate { journal }) => migrate(alloc, journal, shelf, out),
         None => refuse_words(out),
     }
 }

@@ -1,6 +1,6 @@
 use Rattle.std.proofs.Common.{refl, [], map, string_bytes}
 use Rattle.ice_cli.specs.Call.{Call}
-use Rattle.ice_cli.specs.Command.{check, best, regret, xor, run, gen, replay}
+use Rattle.ice_cli.specs.Command.{check, best, regret, xor, run, gen, migrate, replay}
 use Rattle.ice_cli.specs.CheckServed.{CheckAnswers}
 use Rattle.ice_cli.specs.BestServed.{BestAnswers}
 use Rattle.ice_cli.specs.RegretServed.{RegretAnswers}
@@ -8,6 +8,7 @@ use Rattle.ice_cli.specs.XorServed.{XorAnswers}
 use Rattle.ice_cli.specs.ReplayServed.{ReplayAnswers}
 use Rattle.ice_cli.specs.RunServed.{RunAnswers}
 use Rattle.ice_cli.specs.GenServed.{GenAnswers}
+use Rattle.ice_cli.specs.MigrateServed.{MigrateAnswers}
 use Rattle.ice_cli.proofs.Parts.{served, refused_words}
 use Rattle.ice_cli.proofs.Trials.{serves_said}
 use Rattle.ice_cli.proofs.serve.serve.Goals as goal
@@ -122,6 +123,21 @@ returns-in-Some-Gen g c =
     (rw c.in-Some-Gen.field-0-is at c.in-Some-Gen.ensures) (λ text status h. h)
     (serves_said (λ text. GenAnswers text number) shelf shelf (g.K.Sink.written c.args.out.now) (g.K.Sink.written c.generated.new.out) (g.K.Sink.faults c.args.out.now) (g.K.Sink.faults c.generated.new.out)
     c.generated.result c.generated.ensures)
+
+pub returns-in-Some-Migrate : goal.returns-in-Some-Migrate
+returns-in-Some-Migrate g c =
+    let journal = c.in-Some-Migrate.journal.now in
+    let call : Call = record {
+      words = map string_bytes c.args.words.now;
+      before = g.H.Shelf.told c.args.shelf.now;
+      after = g.H.Shelf.told c.migrate.new.shelf;
+      sink_faults = g.K.Sink.faults c.args.out.now;
+      sink_faults_after = g.K.Sink.faults c.migrate.new.out;
+      text = [];
+      status = c.migrate.result;
+    } in
+    served call (migrate journal) (λ one. MigrateAnswers one journal) (g.K.Sink.written c.args.out.now) (g.K.Sink.written c.migrate.new.out)
+    (rw c.in-Some-Migrate.field-0-is at c.in-Some-Migrate.ensures) (λ text status h. h) c.migrate.ensures
 
 pub returns-in-None : goal.returns-in-None
 returns-in-None g c =
