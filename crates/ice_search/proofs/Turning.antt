@@ -55,6 +55,17 @@ module _ (s : State) (is : IsState s) where
   raised : (side : Side) (new : Incumbent) → ((a : Assignment) → MeetsAll a side → MeetsAll a x.start) → IsOfferedAt x side held new → IsIncumbentOf x new.sets new.value × (s.value ≤ℤ new.value)
   raised side new to_start offered = raised_from x side held new is.incumbent to_start offered
 
+  -- another assignment that is worth no less takes the place of the best
+  pub better : (side2 : Side) (new : Incumbent) → IsIncumbentOf x new.sets new.value → s.value ≤ℤ new.value
+      → IsState (record { instance = x; side = side2; parts = s.parts; sets = new.sets; value = new.value; open_parts = s.open_parts })
+  better side2 new incumbent up = record {
+    instance = is.instance;
+    search = is.search;
+    incumbent = incumbent;
+    opened = open_rises s.parts s.value new.value s.open_parts is.opened up;
+    numbered = is.numbered;
+  }
+
   module _ (k : ℕ) (looks : LooksAt s k) where
     abbrev p : Part
     p = part_at s.parts k

@@ -69,7 +69,7 @@ pub fn search_from(
     let problem = Problem::new(exchange, weights, start, first);
     let mut progress = Progress::begin(alloc, problem, from, candidates)?;
     let mut left = *branches;
-    match run(&mut progress, &mut left)? {
+    match run(alloc, &mut progress, &mut left)? {
         Ended::Whole => {
             let found = progress.found(alloc)?;
             *branches -= count_branches(&found.log);

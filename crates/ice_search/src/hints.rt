@@ -49,6 +49,11 @@ pub(crate) fn most_promising(
     }
 }
 
+/// One of the nodes that the hint has for the part, the best first.
+pub(crate) fn candidate_at(hints: &[Hint], number: u32, place: usize) -> Option<Candidate> {
+    hints.get(number as usize)?.candidates.get(place).copied()
+}
+
 /// Hints for the two children of a part, for which there is room.
 pub(crate) fn push_hints(hints: &mut Vec<Hint>, number: u32, must: Candidates, never: Candidates)
     requires { vec_len hints.old + 2 ≤ vec_capacity hints.old }

@@ -5,6 +5,7 @@
 mod begin;
 mod candidates;
 mod child;
+mod dive;
 mod entry;
 mod finish;
 mod frontier;

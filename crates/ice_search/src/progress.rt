@@ -16,7 +16,7 @@ use crate::workspace::Workspace;
 use ice_assembly::Part;
 use ice_best::Mark;
 use ice_subgradient::{Candidate, Incumbent};
-use std::alloc::AllocError;
+use std::alloc::{AllocError, Global};
 use std::marker::Model;
 
 /// A search as it goes on: its parts with a hint for each, the best assignment so far, and the open parts.
@@ -98,6 +98,21 @@ impl<'a> Progress<'a> {
             }
         }
         self.space.find_node()
+    }
+
+    /// Looks for a better assignment below a part that is looked at, where no branch is left. The parts stay.
+    pub(crate) fn dive(&mut self, alloc: Global, number: u32) -> Result<(), AllocError>
+        requires { LooksAt self.old number }
+        ensures instance { self.new.instance ≡ self.old.instance }
+        ensures parts { self.new.parts ≡ self.old.parts }
+        ensures open_parts { self.new.open_parts ≡ self.old.open_parts }
+    {
+        let mut finds = self.space.finds(alloc, &self.incumbent)?;
+        let from = self.parts[number as usize].m.copy();
+        self.space
+            .dive_from(&self.parts, &self.hints, number, &from, &mut finds);
+        self.space.consider(&finds.sets, &mut self.incumbent);
+        Ok(())
     }
 
     /// Closes a swept part that is looked at and has no node to be split at.

@@ -4,7 +4,7 @@ ghost use Rattle.ice_search.specs.Ended.{HasEnded};
 
 use crate::progress::Progress;
 use ice_subgradient::Candidate;
-use std::alloc::AllocError;
+use std::alloc::{AllocError, Global};
 
 /// How the turns of a search end.
 #[derive(Clone, Copy)]
@@ -15,14 +15,20 @@ pub(crate) enum Ended {
     Spent { number: u32, node: Candidate },
 }
 
-/// Takes turns until nothing better is left, or no branch: a part of the greatest bound is swept, and then split.
-pub(crate) fn run(progress: &mut Progress, left: &mut u32) -> Result<Ended, AllocError>
+/// Takes turns until nothing better is left, or no branch: a part of the greatest bound is swept, and then split. Where no
+/// branch is left, dives look once for something better.
+pub(crate) fn run(
+    alloc: Global,
+    progress: &mut Progress,
+    left: &mut u32,
+) -> Result<Ended, AllocError>
     requires few { length progress.old.parts + 2 * left.old ≤ 200000 }
     ensures instance { progress.new.instance ≡ progress.old.instance }
     ensures left { left.new ≤ left.old }
     ensures count { OnOk result (length progress.new.parts + 2 * left.new ≡ length progress.old.parts + 2 * left.old) }
     ensures ended { IfOk result (HasEnded progress.new left.new) }
 {
+    let mut has_dived = false;
     loop {
         let Some(place) = progress.next() else {
             return Ok(Ended::Whole);
@@ -37,7 +43,12 @@ pub(crate) fn run(progress: &mut Progress, left: &mut u32) -> Result<Ended, Allo
             continue;
         };
         if *left == 0 {
-            return Ok(Ended::Spent { number, node });
+            if has_dived {
+                return Ok(Ended::Spent { number, node });
+            }
+            progress.dive(alloc, number)?;
+            has_dived = true;
+            continue;
         }
         progress.split(place, number, node)?;
         *left -= 1;

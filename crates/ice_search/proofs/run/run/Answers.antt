@@ -19,8 +19,8 @@ split-requires-clause-next c =
     let swept = subst (λ t. (part_at t.parts number).swept ≡ true) same (sym c.is_swept.ensures ∙ c.if-not-is_swept.false) in
     subst (λ t. IsNext t.parts t.value number) (sym (c.find_node.ensures.same ∙ same)) (next_of s c.in-Some.place number c.in-Some.ensures.some c.in-Some.ensures.opened c.look_at-number.ensures.number there swept)
 
-pub returns-then-left-eq0-clause-ended : goal.returns-then-left-eq0-clause-ended
-returns-then-left-eq0-clause-ended c =
+pub returns-then-has_dived-clause-ended : goal.returns-then-has_dived-clause-ended
+returns-then-has_dived-clause-ended c =
     let s = c.loop-place.progress in
     let number = c.look_at-number.result in
     let same = c.look_at-number.ensures.rest in
