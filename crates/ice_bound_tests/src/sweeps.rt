@@ -5,8 +5,8 @@ ghost use Rattle.ice_defs.specs.Trade.{tree_of};
 ghost use Rattle.ice_bound.specs.Conditions.{AreWeightsOf, AreBoundsOf, AreFixingsOf};
 
 use ice_best::{Fixings, Mark};
-use ice_bound::{Desk, Multipliers};
-use ice_mult::{improve, improve_near};
+use ice_bound::{Desk, Kept, Multipliers};
+use ice_mult::{improve, improve_kept, improve_near};
 use ice_tree::{AllWeights, Bounds, NodeKind, Tree, TreeFault, TreeMaker};
 use std::alloc::{AllocError, Global};
 use std::test::Fail;
@@ -128,5 +128,49 @@ fn a_negative_price_of_an_exact_good(rt: HostRuntime) -> Result<(), Fail> {
     assert_eq!(rt; swept.get(0), -320);
     let swept = improve(&trees, &weights, &fixings, &at(5), &mut plain);
     assert_eq!(rt; swept.get(0), 0);
+    Ok(())
+}
+
+/// The sum of the greatest nets of a seller who asks for this and a buyer who offers that, at a price in 64ths.
+fn sum_at(asked: i64, offered: i64, price: i64) -> i64 {
+    let bought = offered.wrapping_mul(64).wrapping_sub(price);
+    let sold = price.wrapping_sub(asked.wrapping_mul(64));
+    bought.max(0).wrapping_add(sold.max(0))
+}
+
+/// The first price with the least sum, of the first thousand.
+fn lowest(asked: i64, offered: i64) -> i64 {
+    let mut least = 0;
+    for price in 1..1000 {
+        if sum_at(asked, offered, price) < sum_at(asked, offered, least) {
+            least = price;
+        }
+    }
+    least
+}
+
+/// What a sweep makes of 0 with bounds that are kept, near a guess.
+fn swept(alloc: Global, asked: i64, offered: i64, guess: u16) -> Result<i64, Fail> {
+    let (seller, first) = sells(1, asked.wrapping_neg())?;
+    let (buyer, second) = buys(offered)?;
+    let trees = [seller, buyer];
+    let bounds = [first, second];
+    let weights = lower(alloc, &trees, &bounds)?;
+    let mut desk = desk(alloc, &trees, &[false])?;
+    let mut kept = Kept::new(alloc, &trees, &weights, &[false])?;
+    improve_kept(&trees, &weights, &mut kept, &at(guess), &mut desk);
+    Ok(kept.multipliers().get(0))
+}
+
+#[test]
+fn kept_bounds_are_swept_near_right_and_wrong_guesses(rt: HostRuntime) -> Result<(), Fail> {
+    for asked in 1..8i64 {
+        for offered in 1..8i64 {
+            let price = lowest(asked, offered);
+            for guess in [0, 1, 64, 65, 128, 191, 192, 320, 448] {
+                assert_eq!(rt; swept(rt.alloc(), asked, offered, guess)?, price);
+            }
+        }
+    }
     Ok(())
 }
