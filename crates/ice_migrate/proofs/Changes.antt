@@ -1,34 +1,21 @@
 -- What a leaf changes of the leaf before it, good by good, and that it may stand in a record.
-use Rattle.std.proofs.Common.{◌≡◌, ◌≢◌, ℕ, suc, ◌+◌, ◌<◌, ◌≤◌, Bool, true, false, ◌&&◌, cond, List, [], ◌∷◌, ◌++◌, length, drop, get_or, ℤ, pos, refl, sym, ap, subst, ◌∙◌, arith, add-one, drop-cons}
-use Rattle.std.specs.Prelude.{int_le}
+use Rattle.std.proofs.Common.{◌≡◌, ◌≢◌, ℕ, ◌+◌, ◌<◌, ◌≤◌, List, [], ◌∷◌, ◌++◌, length, drop, get_or, pos, refl, sym, ap, subst, ◌∙◌, arith}
 use Rattle.std.specs.List.{AllByRecursion}
-use Rattle.std.proofs.lemmas.Int.{ints}
 use Rattle.std.proofs.lemmas.List.{append-nil}
 use Rattle.std.proofs.Math.ListN.{drop_of_length-le}
 use Rattle.ice_defs.specs.Bound.{Multipliers}
 use Rattle.ice_journal.specs.Records.{Change}
 use Rattle.ice_journal.specs.Records as line
-use Rattle.ice_journal.specs.Ranges.{HasLength, IsMultiplier, Ascends, IsChange, IsRecord}
+use Rattle.ice_journal.specs.Ranges.{HasLength, IsMultiplier, IsRecord}
 use Rattle.ice_journal.specs.Plain.{changes_from}
-
-same_is : (a b : ℤ) (t : Bool) → (int_le a b && int_le b a) ≡ t → a ≡ b → t ≡ true
-same_is a b t e is = grind (arith, ints)
-
-differs : (a b : ℤ) (t : Bool) → (int_le a b && int_le b a) ≡ t → a ≢ b → t ≡ false
-differs a b t e ne = grind (arith, ints)
+use Rattle.ice_write.proofs.Changing as written
 
 module _ (old new : Multipliers) (g : ℕ) (there : g < length old) (also : g < length new) where
-  abbrev later : List Change
-  later = changes_from (g + 1) (drop (g + 1) old) (drop (g + 1) new)
-
-  opened : changes_from g (drop g old) (drop g new) ≡ cond (int_le (get_or old g (pos 0)) (get_or new g (pos 0)) && int_le (get_or new g (pos 0)) (get_or old g (pos 0))) (changes_from (g + 1) (drop (g + 1) old) (drop (g + 1) new)) (record { good = g; multiplier = get_or new g (pos 0) } ∷ changes_from (g + 1) (drop (g + 1) old) (drop (g + 1) new))
-  opened = rw (drop-cons old g (pos 0) there, drop-cons new g (pos 0) also, add-one g) refl
-
   pub nothing_changed : get_or old g (pos 0) ≡ get_or new g (pos 0) → changes_from g (drop g old) (drop g new) ≡ changes_from (g + 1) (drop (g + 1) old) (drop (g + 1) new)
-  nothing_changed is = opened ∙ ap (λ (t : Bool). cond t later (record { good = g; multiplier = get_or new g (pos 0) } ∷ later)) (same_is (get_or old g (pos 0)) (get_or new g (pos 0)) _ refl is)
+  nothing_changed is = written.nothing_changed old new g there also is
 
   pub one_changed : get_or old g (pos 0) ≢ get_or new g (pos 0) → changes_from g (drop g old) (drop g new) ≡ record { good = g; multiplier = get_or new g (pos 0) } ∷ changes_from (g + 1) (drop (g + 1) old) (drop (g + 1) new)
-  one_changed ne = opened ∙ ap (λ (t : Bool). cond t later (record { good = g; multiplier = get_or new g (pos 0) } ∷ later)) (differs (get_or old g (pos 0)) (get_or new g (pos 0)) _ refl ne)
+  one_changed ne = written.one_changed old new g there also ne
 
 -- past the end of either nothing is changed
 pub none_changed : (g : ℕ) (old : Multipliers) → changes_from g old [] ≡ []
@@ -43,25 +30,8 @@ all_changed done whole g old new past e =
 
 -- ---- in a record
 
-ascends_lower : (g : ℕ) (cs : List Change) → Ascends (suc g) cs → Ascends g cs
-ascends_lower g [] h = tt
-ascends_lower g (c ∷ cs) h = (omega (arith, h.0), h.1)
-
-abbrev pub FitFrom : ℕ → List Change → Type 0
-FitFrom g cs = (g + length cs ≤ 32) × Ascends g cs × AllByRecursion IsChange cs
-
-fit_more : (t : Bool) (g : ℕ) (b : ℤ) (cs : List Change) → g ≤ 31 → IsMultiplier b → FitFrom (suc g) cs → FitFrom g (cond t cs (record { good = g; multiplier = b } ∷ cs))
-fit_more true g b cs few range h = (omega (arith, h.0), ascends_lower g cs h.1, h.2)
-fit_more false g b cs few range h = (omega (arith, h.0), (omega arith, h.1), ((few, range), h.2))
-
-pub changes_fit : (g : ℕ) (old new : Multipliers) → g + length new ≤ 32 → AllByRecursion IsMultiplier new → FitFrom g (changes_from g old new)
-changes_fit g [] new few range = (omega (arith, few), tt, tt)
-changes_fit g (a ∷ old) [] few range = (omega (arith, few), tt, tt)
-changes_fit g (a ∷ old) (b ∷ new) few range =
-    fit_more (int_le a b && int_le b a) g b (changes_from (suc g) old new) (omega (arith, few)) range.0 (changes_fit (suc g) old new (omega (arith, few)) range.1)
-
 -- what a leaf changes may stand in a record
 pub leaf_fits : (old new : Multipliers) (cs : List Change) → HasLength 1 32 new × AllByRecursion IsMultiplier new → cs ≡ changes_from 0 old new → IsRecord (line.near cs)
 leaf_fits old new cs range is =
-    let h = changes_fit 0 old new (omega (arith, range.0.1)) range.1 in
+    let h = written.changes_fit 0 old new (omega (arith, range.0.1)) range.1 in
     subst (λ (changes : List Change). IsRecord (line.near changes)) (sym is) (omega (arith, h.0), h.1, h.2)

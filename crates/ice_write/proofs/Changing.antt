@@ -18,12 +18,12 @@ same_is a b t e is = grind (arith, ints)
 differs : (a b : ℤ) (t : Bool) → (int_le a b && int_le b a) ≡ t → a ≢ b → t ≡ false
 differs a b t e ne = grind (arith, ints)
 
-module _ (old new : Multipliers) (g : ℕ) (there : g < length old) (same : length old ≡ length new) where
+module _ (old new : Multipliers) (g : ℕ) (there : g < length old) (also : g < length new) where
   abbrev later : List Change
   later = changes_from (g + 1) (drop (g + 1) old) (drop (g + 1) new)
 
   opened : changes_from g (drop g old) (drop g new) ≡ cond (int_le (get_or old g (pos 0)) (get_or new g (pos 0)) && int_le (get_or new g (pos 0)) (get_or old g (pos 0))) (changes_from (g + 1) (drop (g + 1) old) (drop (g + 1) new)) (record { good = g; multiplier = get_or new g (pos 0) } ∷ changes_from (g + 1) (drop (g + 1) old) (drop (g + 1) new))
-  opened = rw (drop-cons old g (pos 0) there, drop-cons new g (pos 0) (omega (arith, there, same)), add-one g) refl
+  opened = rw (drop-cons old g (pos 0) there, drop-cons new g (pos 0) also, add-one g) refl
 
   pub nothing_changed : get_or old g (pos 0) ≡ get_or new g (pos 0) → changes_from g (drop g old) (drop g new) ≡ changes_from (g + 1) (drop (g + 1) old) (drop (g + 1) new)
   nothing_changed is = opened ∙ ap (λ (t : Bool). cond t later (record { good = g; multiplier = get_or new g (pos 0) } ∷ later)) (same_is (get_or old g (pos 0)) (get_or new g (pos 0)) _ refl is)
@@ -37,23 +37,23 @@ ascends_lower : (g : ℕ) (cs : List Change) → Ascends (suc g) cs → Ascends 
 ascends_lower g [] h = tt
 ascends_lower g (c ∷ cs) h = (omega (arith, h.0), h.1)
 
-abbrev FitFrom : ℕ → List Change → Type 0
+abbrev pub FitFrom : ℕ → List Change → Type 0
 FitFrom g cs = (g + length cs ≤ 32) × Ascends g cs × AllByRecursion IsChange cs
 
 fit_more : (t : Bool) (g : ℕ) (b : ℤ) (cs : List Change) → g ≤ 31 → IsMultiplier b → FitFrom (suc g) cs → FitFrom g (cond t cs (record { good = g; multiplier = b } ∷ cs))
 fit_more true g b cs few range h = (omega (arith, h.0), ascends_lower g cs h.1, h.2)
 fit_more false g b cs few range h = (omega (arith, h.0), (omega arith, h.1), ((few, range), h.2))
 
-changes_fit : (g : ℕ) (old new : Multipliers) → length old ≡ length new → g + length new ≤ 32 → AllByRecursion IsMultiplier new → FitFrom g (changes_from g old new)
-changes_fit g [] new same few range = (omega (arith, few), tt, tt)
-changes_fit g (a ∷ old) [] same few range = absurd (omega (arith, same))
-changes_fit g (a ∷ old) (b ∷ new) same few range =
-    fit_more (int_le a b && int_le b a) g b (changes_from (suc g) old new) (omega (arith, few)) range.0 (changes_fit (suc g) old new (omega (arith, same)) (omega (arith, few)) range.1)
+pub changes_fit : (g : ℕ) (old new : Multipliers) → g + length new ≤ 32 → AllByRecursion IsMultiplier new → FitFrom g (changes_from g old new)
+changes_fit g [] new few range = (omega (arith, few), tt, tt)
+changes_fit g (a ∷ old) [] few range = (omega (arith, few), tt, tt)
+changes_fit g (a ∷ old) (b ∷ new) few range =
+    fit_more (int_le a b && int_le b a) g b (changes_from (suc g) old new) (omega (arith, few)) range.0 (changes_fit (suc g) old new (omega (arith, few)) range.1)
 
 -- the record of a step behind multipliers of as many goods
 pub step_is_record : (goods : ℕ) (m : Multipliers) (x : Step) → length m ≡ goods → goods ≤ 32 → CountsGoods goods x → IsStepRecord x → IsRecord (step_record version_2 m x)
 step_is_record goods m (branch bidder n) count few counts is = is
 step_is_record goods m (leaf new) count few counts is =
-    let fit = changes_fit 0 m new (count ∙ sym counts) (omega (arith, few, counts)) is.1 in
+    let fit = changes_fit 0 m new (omega (arith, few, counts)) is.1 in
     (omega (arith, fit.0), fit.1, fit.2)
 step_is_record goods m (dead bidder) count few counts is = is
