@@ -69,8 +69,7 @@ fn pieces_are_answered_as_the_whole(rt: HostRuntime) -> Result<(), Fail> {
         let text = journal(alloc, lines)?;
         let bytes = text.as_bytes();
         let whole = check(alloc, bytes);
-        let same =
-            in_pieces(alloc, bytes, 1) == whole && in_pieces(alloc, bytes, 7) == whole;
+        let same = in_pieces(alloc, bytes, 1) == whole && in_pieces(alloc, bytes, 7) == whole;
         assert!(rt; same, "{text}");
     }
     Ok(())

@@ -6,12 +6,7 @@ use std::alloc::{AllocError, Global};
 use std::test::Fail;
 
 /// The session with another text in the place of this line, from 1, or 0 for none.
-fn changed(
-    alloc: Global,
-    session: &[&str],
-    line: usize,
-    text: &str,
-) -> Result<String, AllocError> {
+fn changed(alloc: Global, session: &[&str], line: usize, text: &str) -> Result<String, AllocError> {
     let mut journal = String::new(alloc);
     for (i, other) in session.iter().enumerate() {
         if i.saturating_add(1) == line {
@@ -45,7 +40,9 @@ fn are_bids(found: &[BidderBounds], bids: [Bid; 2]) -> bool {
 /// Whether these are prices of one good: this numerator over 1, or none.
 fn are_prices(found: &Option<Prices>, wanted: Option<i128>) -> bool {
     match (found, wanted) {
-        (Some(prices), Some(num)) => prices.den() == 1 && prices.goods() == 1 && prices.num(0) == num,
+        (Some(prices), Some(num)) => prices.den() == 1
+            && prices.goods() == 1
+            && prices.num(0) == num,
         (None, None) => true,
         _ => false,
     }
