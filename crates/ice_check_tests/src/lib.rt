@@ -9,8 +9,6 @@ mod journals;
 #[cfg(test)]
 mod pieces;
 #[cfg(test)]
-mod replays;
-#[cfg(test)]
 mod samples;
 #[cfg(test)]
 mod sessions;
