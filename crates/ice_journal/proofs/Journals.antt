@@ -36,11 +36,11 @@ joined_line [] p = tt
 joined_line (f ∷ []) p = clear_line f p.0
 joined_line (f ∷ g ∷ fs) p = one_line-append f (32 ∷ join_with_byte 32 (g ∷ fs)) (clear_line f p.0) (λ e. absurd (omega arith), joined_line (g ∷ fs) p.1)
 
-pub record_line : (r : Record) → IsRecord r → IsOneLine (text_of r)
+record_line : (r : Record) → IsRecord r → IsOneLine (text_of r)
 record_line r h = joined_line (fields_of r) (clear_record r h)
 
 -- the first newline ends the first line
-pub first_line : (a b x y : List ℕ) → IsOneLine a → IsOneLine b → a ++ 10 ∷ x ≡ b ++ 10 ∷ y → (a ≡ b) × (x ≡ y)
+first_line : (a b x y : List ℕ) → IsOneLine a → IsOneLine b → a ++ 10 ∷ x ≡ b ++ 10 ∷ y → (a ≡ b) × (x ≡ y)
 first_line [] [] x y p q e = (refl, cc)
 first_line [] (b ∷ bs) x y p q e = absurd (q.0 (cc))
 first_line (a ∷ more) [] x y p q e = absurd (p.0 (cc))
@@ -56,7 +56,7 @@ no_newline [] (b ∷ bs) x p e = absurd cc
 no_newline (a ∷ more) [] x p e = p.0 (cc)
 no_newline (a ∷ more) (b ∷ bs) x p e = no_newline more bs x p.1 (cc)
 
-pub some_line : (text after : List ℕ) → [] ≡ text ++ 10 ∷ after → ⊥
+some_line : (text after : List ℕ) → [] ≡ text ++ 10 ∷ after → ⊥
 some_line [] after e = absurd cc
 some_line (b ∷ bs) after e = absurd cc
 
