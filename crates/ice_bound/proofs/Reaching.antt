@@ -1,8 +1,10 @@
 -- The sum of the greatest nets where the multiplier of one good is one more, or one less.
-use Rattle.std.proofs.Common.{ℕ, zero, suc, ◌<◌, ◌≤◌, ◌≡◌, true, false, cond, Bool, List, length, ◌+◌, Option, None, Some, set, ℤ, pos, neg_ℤ, ◌+ℤ◌, ◌-ℤ◌, ◌*ℤ◌, ◌≤ℤ◌, refl, arith, ap, sym, ◌∙◌, subst, ◌⊎◌, inl, inr}
+use Rattle.std.proofs.Common.{ℕ, zero, suc, ◌<◌, ◌≤◌, ◌≡◌, true, false, cond, Bool, List, length, ◌+◌, ◌*◌, ◌^◌, Option, None, Some, set, ℤ, pos, neg_ℤ, ◌+ℤ◌, ◌-ℤ◌, ◌*ℤ◌, ◌≤ℤ◌, refl, arith, ap, sym, ◌∙◌, subst, ◌⊎◌, inl, inr}
 use Rattle.std.proofs.lemmas.Int.{ints}
-use Rattle.std.proofs.lemmas.Bool.{cases_lt}
+use Rattle.std.proofs.lemmas.Bool.{cases_lt, eqb-false}
 use Rattle.std.proofs.lemmas.List.{set-get_or}
+use mir.Syntax.{w128}
+use mir.Val.{SFits}
 use Rattle.ice_defs.specs.Sum.{sum_below}
 use Rattle.ice_defs.specs.declared.NodeKind.{NodeKind}
 use Rattle.ice_defs.specs.declared.NodeKind.TheVariants.{Choose, Buy, Sell}
@@ -16,11 +18,11 @@ use Rattle.ice_defs.proofs.Integers.{neg_times}
 use Rattle.ice_defs.proofs.Multiples.{one_time}
 use Rattle.ice_best.proofs.Sales.{greatest_unique}
 use Rattle.ice_bound.specs.Multipliers.{multiplier_of}
-use Rattle.ice_bound.specs.Beside.{beside, less_cost, with_beside}
-use Rattle.ice_bound.specs.Kept.{is_leaf_of, IsWithout, IsFound}
+use Rattle.ice_bound.specs.Beside.{beside, less_cost, with_beside, StandingBeside, IsFoundBeside, IsShare, IsGreatestShare}
+use Rattle.ice_bound.specs.Kept.{is_leaf_of, IsWithout, NodeStands, Stands, IsFound, net_of}
 use Rattle.ice_bound.proofs.Moving.{cost-moved}
-use Rattle.ice_bound.proofs.Staying.{Moves}
-use Rattle.ice_bound.proofs.Totals.{IsGreatestNet, IsPartialSum, no_bidder, one_bidder_more}
+use Rattle.ice_bound.proofs.Staying.{Moves, stays_best}
+use Rattle.ice_bound.proofs.Totals.{IsGreatestNet, IsPartialSum, no_bidder, one_bidder_more, total_fits}
 
 pub beside_moves : (rises : Bool) (z : ℤ) → Moves rises z (beside rises z)
 beside_moves true z = omega (arith, ints)
@@ -57,6 +59,15 @@ units_without t s g without =
     none : (b : Bool) → cond b (pos 0) (pos 0) ≡ pos 0
     none true = refl
     none false = refl
+
+-- and every set of it stands
+node_without : (kind : NodeKind) (g : ℕ) (inside rises : Bool) → is_leaf_of kind g ≡ false → NodeStands kind g inside rises
+node_without (Choose least most) g inside rises other = tt
+node_without (Buy good units) g inside rises other = λ e. absurd (eqb-false good g other e)
+node_without (Sell good units) g inside rises other = λ e. absurd (eqb-false good g other e)
+
+pub without_stands : (t : Tree) (s : NodeSet) (g : ℕ) (rises : Bool) → IsWithout t (length t) g → Stands t s g rises (length t)
+without_stands t s g rises without k h = node_without (kind_of t k) g (has s k) rises (without k h)
 
 -- what was found is the net of its set, and the greatest
 pub net_found : (t : Tree) (w : Weights) (m : Multipliers) (x : Fixing) (v : ℤ) (s : NodeSet) → IsFound t w m x (Some v) s → net t w m s ≡ v
@@ -122,6 +133,45 @@ all_are ts ws m xs b done total e partial (best, each, sum) =
 pub low_at : (m : Multipliers) (g : ℕ) → g < length m → (t : Tree) (w : Weights) (x : Fixing) (s : NodeSet) (rises : Bool) (v : ℤ) → IsFound t w m x (Some v) s
     → net t w (with_beside m g rises) s ≡ less_cost rises v (units t s g)
 low_at m g there t w x s rises v found = net-beside m g there t w s rises ∙ ap (λ k. less_cost rises k (units t s g)) (net_found t w m x v s found)
+
+module _ (st : StandingBeside) (b : ℕ) where
+  -- shares and greatest nets fit 128 bits, and so does what lies between them
+  pub share_fits : (share : ℤ) → IsShare st b share → SFits w128 share
+  share_fits share is = total_fits share (omega (arith, ints, is.low)) (omega (arith, ints, is.high))
+
+  pub greatest_fits : (v : ℤ) → IsGreatestShare st b v → SFits w128 v
+  greatest_fits v is = total_fits v (omega (arith, ints, is.low)) (omega (arith, ints, is.high))
+
+  pub gain_fits : (v share : ℤ) → IsGreatestShare st b v → IsShare st b share → SFits w128 (v -ℤ share)
+  gain_fits v share greatest is = total_fits (v -ℤ share) (omega (arith, ints, greatest.low, is.high)) (omega (arith, ints, greatest.high, is.low))
+
+module _ (st : StandingBeside) (b : ℕ) (known : IsFoundBeside st) (there : b < length st.trees) where
+  -- so the share of a bidder
+  pub share_is : (v share : ℤ) → net_of st.nets b ≡ Some v → share ≡ less_cost st.rises v (units (tree_of st.trees b) (set_of st.sets b) st.good)
+      → neg_ℤ (pos (201 * 2 ^ 90)) ≤ℤ share → share ≤ℤ pos (201 * 2 ^ 90) → IsShare st b share
+  share_is v share is less low high =
+      let t = tree_of st.trees b in
+      let w = weights_of st.weights b in
+      let x = fixing_of st.marks b in
+      let s = set_of st.sets b in
+      let found : IsFound t w st.multipliers x (Some v) s = subst (λ o. IsFound t w st.multipliers x o s) is (known.found.each b there) in
+      record {
+        is = ap (λ m. net t w m s) known.moved ∙ low_at st.multipliers st.good known.good t w x s st.rises v found ∙ sym less;
+        low = low;
+        high = high;
+      }
+
+  -- where the set stands, so does what was found
+  pub stays_found : Stands (tree_of st.trees b) (set_of st.sets b) st.good st.rises (length (tree_of st.trees b))
+      → IsFound (tree_of st.trees b) (weights_of st.weights b) st.moved (fixing_of st.marks b) (net_of st.nets b) (set_of st.sets b)
+  stays_found stands =
+      let t = tree_of st.trees b in
+      let w = weights_of st.weights b in
+      let x = fixing_of st.marks b in
+      let s = set_of st.sets b in
+      let z = multiplier_of st.multipliers st.good in
+      subst (λ m. IsFound t w m x (net_of st.nets b) s) (sym known.moved)
+      (stays_best st.multipliers st.good (beside st.rises z) known.good st.rises (beside_moves st.rises z) t w s stands x _ (known.found.each b there))
 
 module _ (ts : List Tree) (ws : List Weights) (m : Multipliers) (xs : List Fixing) (sets : Assignment) where
   -- a number is what the first bidders have as greatest nets and the sets of the others net

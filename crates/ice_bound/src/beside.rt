@@ -1,20 +1,68 @@
 //! Whether the sum of the greatest nets reaches a number where the multiplier of one good is one more, or one less.
-ghost use Rattle.std.specs.Prelude.{◌≡◌, ℕ, ◌*◌, ◌+◌, ◌^◌, ◌<◌, ◌≤◌, ◌↔◌, length, vec_len, IsTrue, if◌then◌else◌, pos, neg_ℤ, ℤ, ◌≤ℤ◌};
-ghost use Rattle.ice_defs.specs.Bound.{IsNetSum, net};
+ghost use Rattle.std.specs.Prelude.{◌≡◌, ℕ, ◌*◌, ◌^◌, ◌<◌, ◌≤◌, ◌↔◌, length, vec_len, IsTrue, if◌then◌else◌, pos, neg_ℤ, ℤ, ◌≤ℤ◌};
+ghost use Rattle.ice_defs.specs.Bound.{IsNetSum};
 ghost use Rattle.ice_defs.specs.Set.{NodeSet as Nodes, has, leaf_units, units};
 ghost use Rattle.ice_defs.specs.Sum.{sum_below};
-ghost use Rattle.ice_defs.specs.Sweep.{IsLive};
-ghost use Rattle.ice_defs.specs.Trade.{tree_of, set_of, weights_of};
-ghost use Rattle.ice_bound.specs.Beside.{less_cost, with_beside};
-ghost use Rattle.ice_bound.specs.Conditions.{AreModest, AreWeightsOf, AreFixingsOf};
-ghost use Rattle.ice_bound.specs.Kept.{IsFound, IsSmallNet, net_of, HaveRoom, AreFound, AreGoodsOf, AreGoods};
+ghost use Rattle.ice_defs.specs.Trade.{tree_of, weights_of, fixing_of};
+ghost use Rattle.ice_bound.specs.Beside.{less_cost, IsFoundBeside, net_beside, IsShare, share_of, IsGreatestShare};
+ghost use Rattle.ice_bound.specs.Kept.{IsFound, IsSmallNet, AreGoodsOf, Stands};
 
 use crate::found::stands;
 use crate::multipliers::Multipliers;
 use crate::net::NetWeights;
 use crate::room::relax;
-use ice_best::{Fixing, Fixings, Scratch};
+use ice_best::{Fixings, Scratch};
 use ice_tree::{Assignment, NodeKind, NodeSet, Tree, Weights};
+use std::marker::Model;
+
+/// The nets and sets that are found at multipliers, and the multipliers `moved`, where that of one good is one more, or
+/// one less. No bidder is dead.
+#[derive(Drop)]
+pub(crate) struct Beside<'a> {
+    pub(crate) trees: &'a [Tree],
+    pub(crate) weights: &'a [Weights],
+    pub(crate) marks: &'a Fixings,
+    pub(crate) m: &'a Multipliers,
+    pub(crate) moved: &'a Multipliers,
+    pub(crate) nets: &'a [Option<i128>],
+    pub(crate) sets: &'a Assignment,
+    /// There is one truth value for each bidder and each of 32 goods, which is false only where the tree has no leaf of it.
+    pub(crate) goods: &'a [[bool; 32]],
+    pub(crate) good: u8,
+    pub(crate) rises: bool,
+}
+
+impl<'a> Model for Beside<'a> {
+    ghost use Rattle.ice_bound.specs.Beside.{StandingBeside, IsFoundBeside};
+
+    ghost Value = { StandingBeside };
+
+    ghost view = { λ b. record {
+      trees = b.trees.now;
+      weights = b.weights.now;
+      marks = b.marks.now;
+      multipliers = b.m.now;
+      moved = b.moved.now;
+      nets = b.nets.now;
+      sets = b.sets.now;
+      goods = b.goods.now;
+      good = b.good;
+      rises = b.rises;
+    } };
+
+    ghost invariant = { λ b. IsFoundBeside (record {
+      trees = b.trees.now;
+      weights = b.weights.now;
+      marks = b.marks.now;
+      multipliers = b.m.now;
+      moved = b.moved.now;
+      nets = b.nets.now;
+      sets = b.sets.now;
+      goods = b.goods.now;
+      good = b.good;
+      rises = b.rises;
+    }) };
+}
 
 /// What a node of this kind buys of the good, or minus what it sells.
 fn units_of_kind(kind: NodeKind, of: u8) -> i64
@@ -81,144 +129,123 @@ fn after_cost(net: i128, units: i64, rises: bool) -> i128
     }
 }
 
-/// The greatest net of a bidder where the good has the multiplier beside its own, given its net and set as they stand.
-fn greatest_beside(
-    tree: &Tree,
-    weights: &Weights,
-    m: &Multipliers,
-    moved: &Multipliers,
-    fixing: &Fixing,
-    net: Option<i128>,
-    set: &NodeSet,
-    goods: &[bool; 32],
-    good: u8,
-    rises: bool,
-    nets: &mut NetWeights,
-    scratch: &mut Scratch,
-) -> Option<i128>
-    requires nodes { length weights.now ≡ length tree.now }
+/// Whether a set that has the greatest net is known to have it still where the good costs more, or less.
+fn stays(tree: &Tree, set: &NodeSet, goods: &[bool; 32], good: u8, rises: bool) -> bool
     requires set { length set.now ≡ length tree.now }
-    requires fixing { length fixing.now ≡ length tree.now }
-    requires modest { AreModest weights.now }
     requires goods { AreGoodsOf tree.now goods.now }
-    requires good { good < length m.now }
-    requires good_fits { good < 32 }
-    requires moved { moved.now ≡ with_beside m.now good rises }
-    requires found { IsFound tree.now weights.now m.now fixing.now net set.now }
-    requires small { IsSmallNet net }
-    ensures found { (s : Nodes) × IsFound tree.now weights.now (with_beside m.now good rises) fixing.now result s }
-    ensures small { IsSmallNet result }
+    requires good { good < 32 }
+    ensures { IsTrue result → Stands tree.now set.now good rises (length tree.now) }
 {
     if !goods[good as usize] {
-        return net;
+        return true;
     }
-    if stands(tree, set, good, rises) {
-        return net;
-    }
-    let mut other = NodeSet::empty(tree.nodes());
-    relax(tree, weights, moved, fixing, nets, scratch, &mut other)
+    stands(tree, set, good, rises)
 }
 
-/// What the bidders' sets net together where the good has the multiplier beside its own. No bidder is dead.
-fn sum_beside(
-    trees: &[Tree],
-    weights: &[Weights],
-    m: &Multipliers,
-    marks: &Fixings,
-    nets: &[Option<i128>],
-    sets: &Assignment,
-    goods: &[[bool; 32]],
-    good: u8,
-    rises: bool,
-) -> i128
-    requires few { length trees.now ≤ 40 }
-    requires room { HaveRoom trees.now nets.now sets.now }
-    requires live { IsLive trees.now marks.now }
-    requires found { AreFound trees.now weights.now m.now marks.now nets.now sets.now (length
-        trees.now) }
-    requires goods { AreGoods trees.now goods.now (length trees.now) }
-    requires good { good < length m.now }
-    requires good_fits { good < 32 }
-    ensures sum { sum_below (λ b. net (tree_of trees.now b) (weights_of weights.now b)
-        (with_beside m.now good rises) (set_of sets.now b)) (length trees.now) ≡ result }
-    ensures low { neg_ℤ (pos (40 * (201 * 2 ^ 90))) ≤ℤ result }
-    ensures high { result ≤ℤ pos (40 * (201 * 2 ^ 90)) }
-{
-    let mut total: i128 = 0;
-    for bidder in 0..trees.len() as u8 {
-        let place = bidder as usize;
-        let Some(net) = nets[place] else {
-            unreachable!()
-        };
-        let units = units_of_set(&trees[place], sets.of(bidder), &goods[place], good);
-        total += after_cost(net, units, rises);
+impl<'a> Beside<'a> {
+    /// The number of bidders.
+    fn bidders(&self) -> u8
+        ensures value { result ≡ length self.now.trees }
+        ensures known { IsFoundBeside self.now }
+    {
+        self.trees.len() as u8
     }
-    total
-}
 
-/// Whether the sum of the greatest nets is at least this where the good has the multiplier beside its own. No bidder is
-/// dead. The sets as they stand give a number that the sum is not below; it is raised bidder by bidder, until it tells.
-pub(crate) fn reaches(
-    trees: &[Tree],
-    weights: &[Weights],
-    m: &Multipliers,
-    moved: &Multipliers,
-    marks: &Fixings,
-    nets: &[Option<i128>],
-    sets: &Assignment,
-    goods: &[[bool; 32]],
-    good: u8,
-    rises: bool,
-    least: i128,
-    spaces: &mut Vec<NetWeights>,
-    scratch: &mut Scratch,
-) -> bool
-    requires few { length trees.now ≤ 40 }
-    requires room { HaveRoom trees.now nets.now sets.now }
-    requires weights { AreWeightsOf trees.now weights.now }
-    requires marks { AreFixingsOf trees.now marks.now }
-    requires live { IsLive trees.now marks.now }
-    requires goods { AreGoods trees.now goods.now (length trees.now) }
-    requires found { AreFound trees.now weights.now m.now marks.now nets.now sets.now (length
-        trees.now) }
-    requires good { good < length m.now }
-    requires good_fits { good < 32 }
-    requires moved { moved.now ≡ with_beside m.now good rises }
-    requires spaces { vec_len spaces.old ≡ length trees.now }
-    ensures answer { (total : ℤ) → IsNetSum trees.now weights.now (with_beside m.now good rises) marks.now
-        total → IsTrue result ↔ (least ≤ℤ total) }
-    ensures spaces { vec_len spaces.new ≡ vec_len spaces.old }
-{
-    let mut bound = sum_beside(trees, weights, m, marks, nets, sets, goods, good, rises);
-    for bidder in 0..trees.len() as u8 {
-        if bound >= least {
-            return true;
-        }
+    /// What the bidder's set nets at the moved multipliers.
+    fn share(&self, bidder: u8) -> i128
+        requires { bidder < length self.now.trees }
+        ensures { IsShare self.now bidder result }
+    {
         let place = bidder as usize;
-        let tree = &trees[place];
-        let set = sets.of(bidder);
-        let Some(net) = nets[place] else {
+        let Some(net) = self.nets[place] else {
             unreachable!()
         };
-        let units = units_of_set(tree, set, &goods[place], good);
-        let greatest = greatest_beside(
-            tree,
-            &weights[place],
-            m,
-            moved,
-            marks.of(bidder),
-            Some(net),
-            set,
-            &goods[place],
-            good,
-            rises,
-            &mut spaces[place],
-            scratch,
+        let units = units_of_set(
+            &self.trees[place],
+            self.sets.of(bidder),
+            &self.goods[place],
+            self.good,
         );
-        let Some(greatest) = greatest else {
+        after_cost(net, units, self.rises)
+    }
+
+    /// The bidder's greatest net at the moved multipliers, None where it is dead.
+    fn greatest_net(&self, bidder: u8, nets: &mut NetWeights, scratch: &mut Scratch) -> Option<i128>
+        requires { bidder < length self.now.trees }
+        ensures found { (s : Nodes) × IsFound (tree_of self.now.trees bidder)
+            (weights_of self.now.weights bidder) self.now.moved (fixing_of self.now.marks bidder)
+            result s }
+        ensures small { IsSmallNet result }
+        ensures known { IsFoundBeside self.now }
+    {
+        let place = bidder as usize;
+        let tree = &self.trees[place];
+        let set = self.sets.of(bidder);
+        if stays(tree, set, &self.goods[place], self.good, self.rises) {
+            return self.nets[place];
+        }
+        let mut other = NodeSet::empty(tree.nodes());
+        relax(
+            tree,
+            &self.weights[place],
+            self.moved,
+            self.marks.of(bidder),
+            nets,
+            scratch,
+            &mut other,
+        )
+    }
+
+    /// The same number: no bidder is dead.
+    fn greatest(&self, bidder: u8, nets: &mut NetWeights, scratch: &mut Scratch) -> i128
+        requires { bidder < length self.now.trees }
+        ensures { IsGreatestShare self.now bidder result }
+    {
+        let Some(net) = self.greatest_net(bidder, nets, scratch) else {
             unreachable!()
         };
-        bound += greatest - after_cost(net, units, rises);
+        net
     }
-    bound >= least
+
+    /// Writes down what each bidder's set nets at the moved multipliers, and answers the sum.
+    fn put_shares(&self, shares: &mut [i128; 40]) -> i128
+        ensures each { (b : ℕ) → b < length self.now.trees → IsShare self.now b (share_of shares.new
+            b) }
+        ensures sum { sum_below (net_beside self.now) (length self.now.trees) ≡ result }
+        ensures low { neg_ℤ (pos (40 * (201 * 2 ^ 90))) ≤ℤ result }
+        ensures high { result ≤ℤ pos (40 * (201 * 2 ^ 90)) }
+    {
+        let mut total: i128 = 0;
+        for bidder in 0..self.bidders() {
+            let share = self.share(bidder);
+            shares[bidder as usize] = share;
+            total += share;
+        }
+        total
+    }
+
+    /// Whether the sum of the greatest nets is at least this at the moved multipliers. The sets as they stand give a number
+    /// that the sum is not below; it is raised bidder by bidder, until it tells.
+    pub(crate) fn reaches(
+        &self,
+        least: i128,
+        spaces: &mut Vec<NetWeights>,
+        scratch: &mut Scratch,
+    ) -> bool
+        requires { vec_len spaces.old ≡ length self.now.trees }
+        ensures answer { (total : ℤ) → IsNetSum self.now.trees self.now.weights self.now.moved
+            self.now.marks total → IsTrue result ↔ (least ≤ℤ total) }
+        ensures spaces { vec_len spaces.new ≡ vec_len spaces.old }
+    {
+        let mut shares = [0; 40];
+        let mut bound = self.put_shares(&mut shares);
+        for bidder in 0..self.bidders() {
+            if bound >= least {
+                return true;
+            }
+            let place = bidder as usize;
+            bound += self.greatest(bidder, &mut spaces[place], scratch) - shares[place];
+        }
+        bound >= least
+    }
 }

@@ -13,7 +13,7 @@ ghost use Rattle.ice_bound.specs.Conditions.{AreWeightsOf, AreFixingsOf, AreMult
 ghost use Rattle.ice_bound.specs.Kept.{IsNetAnswer, IsSumOfNets, AreRelaxedSets, IsSmallNet, IsSumOf, net_of, AreTotalUnits};
 
 use crate::answer::{Bound, NetSum};
-use crate::beside::reaches;
+use crate::beside::Beside;
 use crate::bounds::floor_64th;
 use crate::copy::copy_fixings;
 use crate::found::Found;
@@ -306,21 +306,19 @@ impl<'a> Kept<'a> {
         let number = step_beside(self.m.get(good), rises);
         moved.put(good, number);
         let found = &mut self.found;
-        reaches(
-            self.trees,
-            &self.weights,
-            &self.m,
-            &moved,
-            &self.marks,
-            &found.nets,
-            &found.sets,
-            &self.goods,
+        let beside = Beside {
+            trees: self.trees,
+            weights: &self.weights,
+            marks: &self.marks,
+            m: &self.m,
+            moved: &moved,
+            nets: &found.nets,
+            sets: &found.sets,
+            goods: &self.goods,
             good,
             rises,
-            least,
-            &mut found.spaces,
-            &mut found.scratch,
-        )
+        };
+        beside.reaches(least, &mut found.spaces, &mut found.scratch)
     }
 
     /// Gives all goods these multipliers. Time: one recursion over each tree, unless they are those that are kept.

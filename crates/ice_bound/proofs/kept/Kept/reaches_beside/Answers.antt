@@ -1,4 +1,4 @@
-use Rattle.std.proofs.Common.{rules, ℤ, ◌≤ℤ◌, sym, subst}
+use Rattle.std.proofs.Common.{arith, rules, ◌<◌, ◌≡◌, length, ℤ, ◌≤ℤ◌, sym, subst}
 use Rattle.std.specs.Prelude.{IsTrue, ◌↔◌}
 use Rattle.std.proofs.lemmas.Int.{to_z-of_z}
 use mir.Syntax.{w128}
@@ -8,12 +8,28 @@ use Rattle.ice_defs.specs.Sweep.{IsLive}
 use Rattle.ice_bound.specs.Beside.{with_beside}
 use Rattle.ice_bound.proofs.kept.Kept.reaches_beside.Goals as goal
 
-pub reaches-requires-clause-live : goal.reaches-requires-clause-live
-reaches-requires-clause-live c = subst (λ st. IsLive st.trees st.marks) (sym c.self.view_is) c.requires.live
+pub invariant_of-beside : goal.invariant_of-beside
+invariant_of-beside c =
+    let i = c.self.invariant in
+    let there : c.args.good < length c.self.inside.found.room = subst (λ st. c.args.good < length st.exact) (sym c.self.view_is) c.requires.good in
+    let moved : c.put.new.self ≡ with_beside c.self.inside.m c.args.good c.args.rises = search rules in
+    rw (c.deref.ensures.value, c.deref-2.ensures.value, c.deref-3.ensures.value) (record {
+      few = i.few;
+      weights = i.weights;
+      marks = i.marks;
+      live = subst (λ st. IsLive st.trees st.marks) (sym c.self.view_is) c.requires.live;
+      room = i.room;
+      found = i.found;
+      goods = i.goods;
+      good = omega (arith, there, i.multipliers.same_length);
+      good_fits = omega (arith, there, i.few_goods);
+      moved = moved;
+    })
 
 pub returns-clause-answer : goal.returns-clause-answer
 returns-clause-answer c =
     let fits : SFits w128 c.args.least = search rules in
-    let answer = rw (c.deref.ensures.value, to_z-of_z w128 c.args.least fits) at c.reaches.ensures.answer in
+    let moved : c.put.new.self ≡ with_beside c.self.inside.m c.args.good c.args.rises = search rules in
+    let answer = rw (c.deref.ensures.value, to_z-of_z w128 c.args.least fits, moved) at c.reaches.ensures.answer in
     subst (λ st. (total : ℤ) → IsNetSum st.trees st.weights (with_beside st.multipliers c.args.good c.args.rises) st.marks total → IsTrue c.reaches.result ↔ (c.args.least ≤ℤ total))
     c.self.view_is answer
