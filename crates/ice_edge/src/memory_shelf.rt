@@ -114,6 +114,8 @@ impl Shelf for MemShelf {
             → FaultRose (told_of self.old) (told_of self.new) name.now }
         ensures overlong { IsErrOf result FetchFault.TooLong
             → OverlongRose (told_of self.old) (told_of self.new) name.now limit }
+        ensures kept { OnOk result (told_of self.new ≡ told_of self.old) }
+        ensures kept_in_want { IsErrOf result FetchFault.NoMemory → told_of self.new ≡ told_of self.old }
         ensures later { IsLater (told_of self.old) (told_of self.new) }
 
         // It fails exactly where it is told to and where there is no file, and else is too long exactly where there are

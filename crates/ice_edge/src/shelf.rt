@@ -1,4 +1,4 @@
-ghost use Rattle.std.specs.Prelude.{◌≡◌, ◌≤◌, length, IfOk, IsErrOf};
+ghost use Rattle.std.specs.Prelude.{◌≡◌, ◌≤◌, length, IfOk, IsErrOf, OnOk};
 ghost use Rattle.ice_edge.specs.Told.{Told, IsLater, AreTold, IsLonger, FaultRose, OverlongRose};
 
 use std::alloc::{AllocError, Global};
@@ -30,7 +30,8 @@ pub trait Shelf {
     /// The bytes under a name, of which there are at most `limit`. Of the same files nothing else is told after it.
     ///
     /// `TooLong` comes where there are more bytes than `limit`, and `Failed` where the file could not be read; each
-    /// raises a count. `NoMemory` is free.
+    /// raises a count. `NoMemory` is free. Where the bytes are had, and where memory is wanting, all that is told stays
+    /// the same, each count among it.
     fn fetch(&mut self, alloc: Global, name: &str, limit: usize) -> Result<Vec<u8>, FetchFault>
         ensures bytes { IfOk result (λ v. AreTold (told self.old) name.now v.items) }
         ensures within { IfOk result (λ v. length v.items ≤ limit) }
@@ -41,5 +42,7 @@ pub trait Shelf {
         ensures overlong { IsErrOf result FetchFault.TooLong
             → OverlongRose (told self.old) (told self.new) name.now limit }
 
+        ensures kept { OnOk result (told self.new ≡ told self.old) }
+        ensures kept_in_want { IsErrOf result FetchFault.NoMemory → told self.new ≡ told self.old }
         ensures later { IsLater (told self.old) (told self.new) };
 }
