@@ -1,4 +1,6 @@
 //! The pivots of a dictionary.
+ghost use Rattle.ice_cuts.specs.Works.{IsMoreWork};
+
 use crate::dictionary::Dictionary;
 use crate::equation::{Equation, Variable};
 use crate::numbers::product;
@@ -101,7 +103,9 @@ impl Dictionary {
     }
 
     /// Takes pivots until no coefficient of the objective is above 0.
-    pub(crate) fn solve(&mut self, work: &mut Work) -> Result<(), GivenUp> {
+    pub(crate) fn solve(&mut self, work: &mut Work) -> Result<(), GivenUp>
+        ensures { IsMoreWork work.old work.new }
+    {
         for _pivot in 0..MOST_PIVOTS {
             let Some(entering) = self.entering() else {
                 return Ok(());

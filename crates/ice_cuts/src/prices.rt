@@ -1,4 +1,6 @@
 //! Prices by cutting planes.
+ghost use Rattle.ice_cuts.specs.Works.{IsMoreWork};
+
 use crate::dictionary::{Dictionary, Point};
 use crate::equation::Variable;
 use crate::numbers::{divisor, divisor_of, product, quotient};
@@ -52,6 +54,21 @@ fn second_dictionary(
     Ok(second)
 }
 
+/// Rounds prices whose denominator is too long.
+fn round_to_fit(
+    found: &mut Rounding,
+    search: &mut CutSearch<'_>,
+    work: &mut Work,
+) -> Result<(), GivenUp>
+    ensures { IsMoreWork work.old work.new }
+{
+    if found.fits()? {
+        return Ok(());
+    }
+    work.is_rounded = true;
+    found.round_all(search)
+}
+
 /// Prices in hundredths as prices in whole units.
 fn whole_prices(alloc: Global, found: &Rounding) -> Result<Prices, GivenUp> {
     let whole = product(found.den, 100)?;
@@ -67,13 +84,16 @@ fn whole_prices(alloc: Global, found: &Rounding) -> Result<Prices, GivenUp> {
 
 /// Looks for prices of a provisional trade that are accurate and then balanced, with their violation and certificates.
 ///
-/// What it finds isn't promised to be so, nor to be within the limits of prices and certificates. It takes at most 5,000
-/// pivots and 400 columns a stage, and gives up where a number doesn't fit.
+/// What it finds isn't promised to be so, nor to be within the limits of prices and certificates. It gives up where a
+/// number doesn't fit, where a stage has more than 400 columns, and where `work` has 5,000 pivots and one more is to be
+/// taken. What it does is added to `work`, in which no count falls.
 pub fn cut_prices(
     alloc: Global,
     trade: &Provisional<'_>,
     work: &mut Work,
-) -> Result<Pricing, GivenUp> {
+) -> Result<Pricing, GivenUp>
+    ensures { IsMoreWork work.old work.new }
+{
     let goods = trade.goods();
     let mut search = CutSearch::new(alloc, trade);
     let mut first = Dictionary::accuracy(alloc, goods, trade.cap())?;
@@ -84,10 +104,7 @@ pub fn cut_prices(
     let balance = second.certificate(alloc)?;
     point.nums.truncate(usize::from(goods));
     let mut found = Rounding::of(point.den, point.nums, &second.asked)?;
-    if !found.fits()? {
-        work.is_rounded = true;
-        found.round_all(&mut search)?;
-    }
+    round_to_fit(&mut found, &mut search, work)?;
     let prices = whole_prices(alloc, &found)?;
     let delta = violation.over(i128::from(prices.den()))?;
     Ok(Pricing {

@@ -1,5 +1,6 @@
 //! The turns of a stage.
 ghost use Rattle.std.specs.Prelude.{◌≡◌, ◌<◌, length};
+ghost use Rattle.ice_cuts.specs.Works.{IsMoreWork};
 
 use crate::cut::Cut;
 use crate::dictionary::{Dictionary, Point};
@@ -86,16 +87,19 @@ impl<'a> CutSearch<'a> {
         &mut self,
         dictionary: &mut Dictionary,
         work: &mut Work,
-    ) -> Result<Point, GivenUp> {
+    ) -> Result<Point, GivenUp>
+        ensures { IsMoreWork work.old work.new }
+    {
         for _turn in 0..MOST_COLUMNS {
             work.turns = work.turns.saturating_add(1);
             dictionary.solve(work)?;
-            if dictionary.columns() > MOST_COLUMNS {
-                return Err(GivenUp::Spent);
-            }
             let point = dictionary.point(self.alloc)?;
             let added = self.add_cuts(dictionary, &point)?;
-            work.columns = work.columns.max(dictionary.columns());
+            let columns = dictionary.columns();
+            if columns > MOST_COLUMNS {
+                return Err(GivenUp::Spent);
+            }
+            work.columns = work.columns.max(columns);
             if added == 0 {
                 return Ok(point);
             }

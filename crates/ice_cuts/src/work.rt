@@ -1,4 +1,7 @@
 //! How much work prices took, and why they were given up.
+ghost use Rattle.std.specs.Prelude.{◌≡◌};
+ghost use Rattle.ice_cuts.specs.Works.{no_work};
+
 use std::alloc::{AllocError, AllocFailed};
 
 /// The most pivots that prices may take.
@@ -22,7 +25,9 @@ pub struct Work {
 
 impl Work {
     /// No work.
-    pub fn none() -> Work {
+    pub fn none() -> Work
+        ensures { result ≡ no_work }
+    {
         Work {
             turns: 0,
             pivots: 0,
