@@ -3,6 +3,7 @@ use Rattle.std.proofs.Common.{ℕ, suc, ◌<◌, ◌≡◌, true, false, List, [
 use Rattle.std.specs.List.{AllByRecursion, AllZip, IsDistinct}
 use Rattle.std.specs.Str.{bytes_eq}
 use Rattle.std.proofs.lemmas.Bool.{eq-eqb}
+use Rattle.std.proofs.lemmas.Cmp.{nat_list_eq_equiv}
 use Rattle.ice_defs.specs.declared.Verdict.{Verdict}
 use Rattle.ice_defs.specs.declared.Verdict.TheVariants.{Accepted}
 use Rattle.ice_defs.specs.Tree.{Tree}
@@ -16,7 +17,6 @@ use Rattle.ice_defs.specs.Exchange.{Bidder, names_of}
 use Rattle.ice_defs.specs.Lawful.{AreBounds}
 use Rattle.ice_defs.specs.Session.{standings_from, standings}
 use Rattle.ice_defs.proofs.Naming.{bytes_eq-same}
-use Rattle.ice_rounds.proofs.Names.{false_at_others}
 use Rattle.ice_rounds.proofs.Naming.{standings_are_named}
 use Rattle.ice_rules.proofs.Exact.{exact_is_accepted, accepted_alone}
 use Rattle.ice_truths.specs.Truths.{IsTruth, AreTruths, truth_bids}
@@ -58,12 +58,6 @@ rest_are e = ap (drop 1) e
 abbrev AreOthers : List ℕ → List Standing → Type 0
 AreOthers name bidders = AllByRecursion (λ n. bytes_eq name n ≡ false) (map (λ (b : Standing). b.name) bidders)
 
-apart : (a b : List ℕ) → bytes_eq a b ≡ false → bytes_eq b a ≡ false
-apart a b other = false_at_others b a (λ e. absurd (by (bytes_eq-same a b (sym e))))
-  where
-    by : bytes_eq a b ≡ true → ⊥
-    by same = cc
-
 -- the bids of others are none of this name
 none_named : (name : List ℕ) (bidders : List Standing) (truths : List Bounds) (judged : List Judged) → AreOthers name bidders
     → map (λ (j : Judged). j.submission) judged ≡ truth_bids (map (λ (b : Standing). b.name) bidders) truths → of_name name judged ≡ []
@@ -77,7 +71,7 @@ none_named name (b ∷ bidders) (t ∷ truths) (j ∷ judged) others said =
 -- and a bid of this name none of the others
 skips : (name : List ℕ) (b : Standing) (j : Judged) (judged : List Judged) → bytes_eq name b.name ≡ false → j.submission.name ≡ name → of_name b.name (j ∷ judged) ≡ of_name b.name judged
 skips name b j judged other named =
-    let is : bytes_eq b.name j.submission.name ≡ false = ap (bytes_eq b.name) named ∙ apart name b.name other in
+    let is : bytes_eq b.name j.submission.name ≡ false = ap (bytes_eq b.name) named ∙ nat_list_eq_equiv.symm b.name name ∙ other in
     rw is refl
 
 -- ---- all bidders
