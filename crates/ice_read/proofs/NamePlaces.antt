@@ -1,8 +1,9 @@
 -- Names that differ are found at their places.
-use Rattle.std.proofs.Common.{◌≡◌, ℕ, zero, suc, ◌<◌, Bool, true, false, ltb, List, [], ◌∷◌, length, get_or, Some, None, refl, sym, arith}
+use Rattle.std.proofs.Common.{◌≡◌, ℕ, zero, suc, ◌<◌, false, ltb, List, [], ◌∷◌, length, get_or, Some, None, refl, ◌∙◌, arith}
 use Rattle.std.specs.List.{AllByRecursion, IsDistinct, position, position_or_len}
 use Rattle.std.specs.Str.{bytes_eq}
 use Rattle.std.proofs.lemmas.Bool.{lt-ltb, cond-true}
+use Rattle.std.proofs.lemmas.Cmp.{nat_list_eq_equiv}
 use Rattle.std.proofs.lemmas.List.Sums.{position_or_len_is}
 use Rattle.std.proofs.lemmas.List.Quantifiers.{position-Some}
 use Rattle.ice_defs.proofs.Naming.{bytes_eq-same, same-bytes_eq}
@@ -20,19 +21,12 @@ differs (x ∷ names) k zero distinct before l = absurd (omega arith)
 differs (x ∷ names) zero (suc g) distinct before l = all_at (λ y. bytes_eq x y ≡ false) names g [] (omega arith) distinct.0
 differs (x ∷ names) (suc k) (suc g) distinct before l = differs names k g distinct.1 (omega arith) (omega arith)
 
-turned_false : (a b : List ℕ) → bytes_eq a b ≡ false → bytes_eq b a ≡ false
-turned_false a b e = by (bytes_eq b a) refl
-  where
-    by : (c : Bool) → bytes_eq b a ≡ c → c ≡ false
-    by true is = let same : bytes_eq a b ≡ true = bytes_eq-same a b (sym (same-bytes_eq b a is)) in absurd cc
-    by false is = refl
-
 -- the place of a name
 pub place_of_name : (names : List (List ℕ)) (g : ℕ) → IsDistinct bytes_eq names → g < length names → position (bytes_eq (get_or names g [])) names ≡ Some g
 place_of_name names g distinct l =
     let here : position_or_len (bytes_eq (get_or names g [])) names ≡ g =
     position_or_len_is (bytes_eq (get_or names g [])) names g [] (omega arith)
-    (λ k before. turned_false (get_or names k []) (get_or names g []) (differs names k g distinct before l))
+    (λ k before. nat_list_eq_equiv.symm (get_or names g []) (get_or names k []) ∙ differs names k g distinct before l)
     (λ m. bytes_eq-same (get_or names g []) (get_or names g []) refl) in
     rw here (cond-true (ltb g (length names)) (Some g) None (lt-ltb g (length names) l))
 
