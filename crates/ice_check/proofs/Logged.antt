@@ -1,6 +1,7 @@
 -- What the records of a log make of what is known of a journal behind its exchange.
 use Rattle.std.proofs.Common.{◌≡◌, ◌<◌, ℕ, suc, Bool, true, false, cond, eqb, List, [], ◌∷◌, ◌++◌, length, ℤ, refl, sym, ◌∙◌, ap, subst, arith, length-append}
 use Rattle.std.proofs.lemmas.Bool.{eqb-true, eqb-false}
+use Rattle.std.proofs.lemmas.List.{nil_from_length}
 use Rattle.arrayvec.specs.ArrayVec.{ArrayVec}
 use Rattle.ice_defs.specs.declared.Group.{Group}
 use Rattle.ice_defs.specs.declared.Group.TheVariants.{Assign, Final, Rival, Provisional, Without}
@@ -34,10 +35,6 @@ use Rattle.ice_check.specs.Taking.{Goes, IsTaken, Fails, HasKeptFinal, with_fina
 use Rattle.ice_check.proofs.Knowing.{known_again, stands_known}
 
 -- ---- a group is complete
-
-no_items : {X : Type 0} (xs : List X) → length xs ≡ 0 → xs ≡ []
-no_items [] e = refl
-no_items (x ∷ xs) e = absurd (omega (arith, e))
 
 rival_follows : (h : Head) → IsGroupOf h Final → IsGroupOf h Rival
 rival_follows head.Assign is = absurd is
@@ -75,7 +72,7 @@ pub rival_left : (g : Groups) → HasOpen g Rival → AreKept g → LeavesGroup 
 rival_left g holds kept = record {
   stands = λ n s. record { known = refl; offer = tt };
   kept = record { lawful = kept.lawful; walk = kept.walk; room = kept.room; offer = kept.offer; number = kept.number };
-  ready = record { regret = regret_follows g.head holds.at.of; none = refl; withouts = no_items g.withouts.items holds.at.withouts; fresh = holds.at.fresh };
+  ready = record { regret = regret_follows g.head holds.at.of; none = refl; withouts = nil_from_length g.withouts.items holds.at.withouts; fresh = holds.at.fresh };
 }
 
 -- the provisional sets are offered
@@ -91,7 +88,7 @@ provisional_left g offer holds kept offer_kept same stands = record {
   ready = record {
     session = offer_follows g.head holds.at.of;
     none = refl;
-    withouts = no_items g.withouts.items holds.at.withouts;
+    withouts = nil_from_length g.withouts.items holds.at.withouts;
     weights = subst (λ (bounds : List Bounds). g.log.weights ≡ weighted_weights g.stated.exchange.settings.weight bounds) (sym same) holds.weights;
     rounds = holds.at.round;
   };

@@ -17,7 +17,7 @@ use Rattle.ice_tree.specs.Alike.{AreAlike, AreChosen, HasSetPerTree}
 use Rattle.ice_bound.specs.Conditions.{AreBoundsOf, AreWeightsOf}
 use Rattle.ice_bound.proofs.Fixings.{free_fixings}
 use Rattle.ice_bound.proofs.Modest.{lower_modest, weighted_modest, perturbed_modest}
-use Rattle.ice_verdicts.specs.Judges.{Round, IsRoundOf}
+use Rattle.ice_trade.proofs.Weighted.{length-trees}
 use Rattle.ice_check.specs.declared.log.LogWalk.{LogWalk}
 use Rattle.ice_check.specs.Heads.{IsThere}
 use Rattle.ice_check.specs.Logs.{IsWalkOf, started, CanStart}
@@ -25,24 +25,12 @@ use Rattle.ice_check.specs.Logs.{IsWalkOf, started, CanStart}
 -- ---- the bidders of an exchange
 
 pub few_trees : (ex : Exchange) → IsExchange ex → (0 < length (trees_of ex)) × (length (trees_of ex) ≤ 40)
-few_trees ex lawful =
-    let count = length-map ex.bidders (λ (b : Bidder). b.tree) in
-    (omega (arith, count, lawful.bidders_count.0), omega (arith, count, lawful.bidders_count.1))
-
-pub bidders_are : (ex : Exchange) → length ex.bidders ≡ length (trees_of ex)
-bidders_are ex = sym (length-map ex.bidders (λ (b : Bidder). b.tree))
+few_trees ex lawful = (omega (arith, length-trees ex, lawful.bidders_count.0), omega (arith, length-trees ex, lawful.bidders_count.1))
 
 tree_at : (goods : ℕ) (bidders : List Bidder) → AllByRecursion (IsBidder goods) bidders → (b : ℕ) → b < length (map (λ x. x.tree) bidders) → IsTree (tree_of (map (λ x. x.tree) bidders) b)
 tree_at goods [] are b there = absurd (omega arith)
 tree_at goods (x ∷ bidders) are zero there = are.0.tree.tree
 tree_at goods (x ∷ bidders) are (suc b) there = tree_at goods bidders are.1 b (omega arith)
-
--- bounds of a round are bounds of its trees
-pub round_bounds : (ex : Exchange) (r : Round) → IsRoundOf ex r → AreBoundsOf (trees_of ex) r.bounds
-round_bounds ex r is = record {
-  same_length = is.bounds_count ∙ bidders_are ex;
-  each = λ b l. is.bounds b (omega (arith, l, bidders_are ex));
-}
 
 -- ---- weights
 

@@ -11,7 +11,7 @@ use Rattle.ice_bound.specs.Conditions.{AreBoundsOf}
 use Rattle.ice_check.specs.declared.next.Next.TheVariants as coming
 use Rattle.ice_tree.specs.Alike.{HasSetPerTree}
 use Rattle.ice_check.specs.Logs.{IsWalkOf}
-use Rattle.ice_check.proofs.Walks.{round_bounds}
+use Rattle.ice_verdicts.proofs.Bounded.{round_bounds}
 use Rattle.ice_check.proofs.groups.Groups.begin.Goals as goal
 
 pub weigh-requires-clause-lawful : goal.weigh-requires-clause-lawful

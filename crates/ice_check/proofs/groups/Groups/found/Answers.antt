@@ -8,7 +8,8 @@ use Rattle.ice_defs.specs.Weighing.{lower_weights}
 use Rattle.ice_defs.specs.Exchange.{trees_of}
 use Rattle.ice_tree.specs.Alike.{AreChosen}
 use Rattle.ice_check.specs.Heads.{kind_of_head}
-use Rattle.ice_check.proofs.Walks.{few_trees, round_bounds, sized_chosen}
+use Rattle.ice_verdicts.proofs.Bounded.{round_bounds}
+use Rattle.ice_check.proofs.Walks.{few_trees, sized_chosen}
 use Rattle.ice_check.proofs.groups.Groups.found.Goals as goal
 
 pub lower_value-requires-clause-few : goal.lower_value-requires-clause-few

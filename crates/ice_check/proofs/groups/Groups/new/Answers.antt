@@ -14,7 +14,8 @@ use Rattle.ice_check.specs.declared.next.Next.{Next}
 use Rattle.ice_check.specs.Stating.{Stating}
 use Rattle.ice_check.specs.Openings.{opened_next, opened_value}
 use Rattle.ice_check.specs.Taking.{Begins}
-use Rattle.ice_check.proofs.Walks.{empty_sized, round_bounds}
+use Rattle.ice_verdicts.proofs.Bounded.{round_bounds}
+use Rattle.ice_check.proofs.Walks.{empty_sized}
 use Rattle.ice_check.proofs.Ending.{begins}
 use Rattle.ice_check.proofs.groups.Groups.new.Goals as goal
 

@@ -8,7 +8,7 @@ use Rattle.ice_offer.specs.Offers as offers
 use Rattle.ice_check.specs.declared.next.Next.TheVariants as coming
 use Rattle.ice_check.specs.Stating.{Stating}
 use Rattle.ice_check.specs.Taking.{LeavesGroup}
-use Rattle.ice_check.proofs.Walks.{bidders_are}
+use Rattle.ice_trade.proofs.Weighted.{length-trees}
 use Rattle.ice_check.proofs.Logged.{provisional_left}
 use Rattle.ice_check.proofs.groups.Groups.offer_sets.Goals as goal
 
@@ -21,12 +21,12 @@ begin-requires-clause-fresh c = subst (λ (ex : Exchange). offers.IsFresh ex c.a
 pub begin-requires-clause-count : goal.begin-requires-clause-count
 begin-requires-clause-count c =
     let ex = c.args.self.now.stated.exchange in
-    ap length c.sets.ensures.value ∙ c.requires.opened.full ∙ sym (bidders_are ex) ∙ ap (λ (e : Exchange). length e.bidders) (sym c.exchange.ensures)
+    ap length c.sets.ensures.value ∙ c.requires.opened.full ∙ length-trees ex ∙ ap (λ (e : Exchange). length e.bidders) (sym c.exchange.ensures)
 
 pub begin-requires-clause-satisfied : goal.begin-requires-clause-satisfied
 begin-requires-clause-satisfied c = λ b l.
     let g = c.args.self.now in
-    let there : b < length g.stated.sets = omega (arith, l, ap (λ (e : Exchange). length e.bidders) c.exchange.ensures, bidders_are g.stated.exchange, c.requires.opened.full) in
+    let there : b < length g.stated.sets = omega (arith, l, ap (λ (e : Exchange). length e.bidders) c.exchange.ensures, length-trees g.stated.exchange, c.requires.opened.full) in
     subst (λ (ex : Exchange). IsSatisfied (tree_of (trees_of ex) b) (set_of c.sets.result.now b)) (sym c.exchange.ensures)
     (subst (λ (sets : Assignment). IsSatisfied (tree_of (trees_of g.stated.exchange) b) (set_of sets b)) (sym c.sets.ensures.value) (c.sets.ensures.satisfied b there))
 
