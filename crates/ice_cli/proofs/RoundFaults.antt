@@ -3,6 +3,7 @@ use Rattle.std.proofs.Common.{◌≡◌, ℕ, zero, suc, ◌+◌, ◌*◌, ◌^�
 use Rattle.std.specs.Prelude.{codes, nat_le, nat_lt, int_le, IfErr, ◌==◌}
 use Rattle.std.specs.List.{AllByRecursion, list_all, join_with_byte}
 use Rattle.std.specs.Str.Parse.{AllDigits}
+use Rattle.std.proofs.lemmas.Bool.{and_from}
 use Rattle.std.proofs.lemmas.Fmt.{decimal_is_IsNumeral, length-decimal-le}
 use Rattle.std.proofs.lemmas.List.Folds.{list_all-append}
 use Rattle.std.proofs.lemmas.Str.Parse.{digit_from_value}
@@ -23,10 +24,6 @@ use Rattle.ice_cli.specs.Files.{IsRoundFault}
 
 -- ---- places
 
-and_of : (a b : Bool) → a ≡ true → b ≡ true → (a && b) ≡ true
-and_of true b p q = q
-and_of false b p q = absurd cc
-
 -- a part of a path in a round file
 abbrev IsPart : List ℕ → Type 0
 IsPart part = HasLength 1 20 part × IsTrue (list_all is_name_byte part)
@@ -36,13 +33,13 @@ record IsShort (path : Path) : Type 0 where
   pub few : length path ≤ 4
 
 digit_is : (b : ℕ) → 48 ≤ b → b ≤ 57 → is_name_byte b ≡ true
-digit_is b low high = ap (λ (t : Bool). t || (nat_le 65 b && nat_le b 90) || (nat_le 97 b && nat_le b 122) || (b == 95) || (b == 45) || (b == 46)) (and_of (nat_le 48 b) (nat_le b 57) (grind (arith, low)) (grind (arith, high)))
+digit_is b low high = ap (λ (t : Bool). t || (nat_le 65 b && nat_le b 90) || (nat_le 97 b && nat_le b 122) || (b == 95) || (b == 45) || (b == 46)) (and_from (nat_le 48 b) (nat_le b 57) (grind (arith, low)) (grind (arith, high)))
 
 digits_are : (ds : List ℕ) → AllDigits 10 ds → list_all is_name_byte ds ≡ true
 digits_are [] all = refl
 digits_are (d ∷ ds) all =
     let range = digit_from_value d all.0 in
-    and_of (is_name_byte d) (list_all is_name_byte ds) (digit_is d range.0 range.1) (digits_are ds all.1)
+    and_from (is_name_byte d) (list_all is_name_byte ds) (digit_is d range.0 range.1) (digits_are ds all.1)
 
 index_is : (i : ℕ) → i < 2 ^ 60 → IsPart (decimal i)
 index_is i small =
@@ -58,7 +55,7 @@ joined part (next ∷ parts) all =
     let tail = join_with_byte 46 (next ∷ parts) in (
       omega (arith, all.0.0.0, length-append part (46 ∷ tail)),
       omega (arith, all.0.0.1, rest.1, length-append part (46 ∷ tail)),
-      list_all-append is_name_byte part (46 ∷ tail) ∙ and_of (list_all is_name_byte part) (list_all is_name_byte (46 ∷ tail)) all.0.1 rest.2,
+      list_all-append is_name_byte part (46 ∷ tail) ∙ and_from (list_all is_name_byte part) (list_all is_name_byte (46 ∷ tail)) all.0.1 rest.2,
     )
 
 place_is : (path : Path) → IsShort path → IsPlace (place_of path)

@@ -283,10 +283,6 @@ refusal_ends r name before after refusal.NoMemory old new f g result is said goi
 
 -- ---- the rest of a run
 
-pub none_left : {X : Type 0} (xs : List X) → length xs ≡ 0 → xs ≡ []
-none_left [] none = refl
-none_left (x ∷ xs) none = absurd (omega (arith, none))
-
 module _ (s : SessionAt) (files : List (List ℕ)) (before after : Told) where
   -- it ends with the next settlement
   pub plays_ends : (old new : Option (List ℕ)) (f g : ℕ) (result : Status) → EndsHere s old new f g result → Plays s files before after old new f g result

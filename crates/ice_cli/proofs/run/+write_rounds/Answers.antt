@@ -1,8 +1,9 @@
 use Rattle.std.proofs.Common.{◌≡◌, ◌∙◌, ◌<◌, ℕ, List, [], ◌∷◌, ◌++◌, length, map, refl, sym, ap, arith}
 use Rattle.std.specs.Prelude.{string_bytes}
+use Rattle.std.proofs.lemmas.List.{nil_from_length}
 use Rattle.ice_round.proofs.GoingOn.{more_rounds}
 use Rattle.ice_cli.proofs.Parts.{later_refl, later_trans}
-use Rattle.ice_cli.proofs.RunPlaying.{none_left, plays_ends, plays_open, plays_in_round, plays_on}
+use Rattle.ice_cli.proofs.RunPlaying.{plays_ends, plays_open, plays_in_round, plays_on}
 use Rattle.ice_cli.proofs.run.+write_rounds.Goals as goal
 
 pub settled_round-requires : goal.settled_round-requires
@@ -22,7 +23,7 @@ returns-in-None-clause-plays g t c =
     let shelf = g.H.Shelf.told c.args.shelf.now in
     plays_open c.args.ready (map string_bytes c.args.rounds.now) shelf shelf c.in-Ok.round
     (g.K.Sink.written c.args.out.now) (g.K.Sink.written c.settled_round.new.out) (g.K.Sink.faults c.args.out.now) (g.K.Sink.faults c.settled_round.new.out) c.in-Ok.ensures
-    (g.K.Sink.written c.stay_open.new.out) (g.K.Sink.faults c.stay_open.new.out) c.stay_open.result (ap (map string_bytes) (none_left c.args.rounds.now c.in-None.ensures.cases)) c.stay_open.ensures
+    (g.K.Sink.written c.stay_open.new.out) (g.K.Sink.faults c.stay_open.new.out) c.stay_open.result (ap (map string_bytes) (nil_from_length c.args.rounds.now c.in-None.ensures.cases)) c.stay_open.ensures
 
 pub returns-in-None-clause-later : goal.returns-in-None-clause-later
 returns-in-None-clause-later g t c = later_refl (g.H.Shelf.told c.args.shelf.now)
