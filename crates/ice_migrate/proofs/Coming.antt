@@ -1,13 +1,16 @@
 -- The records that are left, taken one after another.
 use Rattle.std.proofs.Common.{◌≡◌, ◌+◌, ◌<◌, ℕ, List, [], ◌∷◌, ◌++◌, length, refl, sym, ap, arith}
 use Rattle.std.specs.Prelude.{Some, None}
+use Rattle.std.specs.Borrow.{Bor}
 use Rattle.ice_journal.specs.declared.line.Line.{Line}
 use Rattle.ice_journal.specs.Records.{Record}
+use Rattle.ice_journal.specs.Ranges.{IsRecord}
+use Rattle.ice_journal.specs.Spelling.{line_of}
 use Rattle.ice_journal.specs.Journal.{IsJournal}
 use Rattle.ice_journal.specs.Lines.{record_of}
 use Rattle.ice_journal.specs.Plain.{goods_in}
 use Rattle.ice_journal_laws.proofs.Plaining.{goods_more}
-use Rattle.ice_migrate.specs.Reading.{Starts, bidders_in}
+use Rattle.ice_migrate.specs.Reading.{Starts, HasLine, bidders_in}
 use Rattle.ice_migrate.specs.declared.counts.Counts.{Counts}
 use Rattle.ice_migrate.proofs.Walking.{bidders_more}
 
@@ -26,6 +29,24 @@ pub none_left : (after : List ℕ) (left : List Record) → Starts left None aft
 none_left after [] h = refl
 none_left after (r ∷ rest) h = absurd h
 
+-- the same by its line
+pub record HasNext (text : List ℕ) (after : List ℕ) (left : List Record) : Type 0 where
+  pub first : Record
+  pub rest : List Record
+  pub lawful : IsRecord first
+  pub text_is : text ≡ line_of first
+  pub journal : IsJournal after rest
+  pub is : left ≡ first ∷ rest
+
+pub has_next : (text : Bor (List ℕ)) (after : List ℕ) (left : List Record) → HasLine left (Some text) after → HasNext text.now after left
+has_next text after [] h = absurd h
+has_next text after (r ∷ rest) h = record { first = r; rest = rest; lawful = h.0; text_is = h.1; journal = h.2; is = refl }
+
+-- nothing is left where there is no line
+pub no_next : (after : List ℕ) (left : List Record) → HasLine left None after → left ≡ []
+no_next after [] h = refl
+no_next after (r ∷ rest) h = absurd h
+
 -- of these records so many are still to be counted, and the others have these counts
 pub record IsLeft (bytes : List ℕ) (c : Counts) (taken : ℕ) (before after : List Record) : Type 0 where
   pub rest : List Record
@@ -38,26 +59,26 @@ pub all_left : (bytes : List ℕ) (c : Counts) (before after : List Record) → 
 all_left bytes c before after goods bidders is = record { rest = before; journal = is; count = omega arith; goods = omega (arith, goods); bidders = omega (arith, bidders) }
 
 -- one record more is counted
-pub one_less : (bytes next : List ℕ) (c d : Counts) (taken : ℕ) (before after : List Record) (found : Line) → taken < length before → IsLeft bytes c taken before after
-    → ((left : List Record) → IsJournal bytes left → Starts left (Some found) next) → d.goods ≡ c.goods + goods_in (record_of found ∷ []) → d.bidders ≡ c.bidders + bidders_in (record_of found ∷ [])
+pub one_less : (bytes next : List ℕ) (c d : Counts) (taken : ℕ) (before after : List Record) (text : Bor (List ℕ)) → taken < length before → IsLeft bytes c taken before after
+    → ((left : List Record) → IsJournal bytes left → HasLine left (Some text) next) → ((r : Record) → text.now ≡ line_of r → d.goods ≡ c.goods + goods_in (r ∷ [])) → ((r : Record) → text.now ≡ line_of r → d.bidders ≡ c.bidders + bidders_in (r ∷ []))
     → IsLeft next d (taken + 1) before after
-one_less bytes next c d taken before after found more h starts goods bidders = by h.rest h.journal h.count h.goods h.bidders
+one_less bytes next c d taken before after text more h starts goods bidders = by h.rest h.journal h.count h.goods h.bidders
   where
     by : (rest : List Record) → IsJournal bytes (rest ++ after) → taken + length rest ≡ length before → c.goods + goods_in rest ≡ goods_in before → c.bidders + bidders_in rest ≡ bidders_in before → IsLeft next d (taken + 1) before after
     by [] is count g b = absurd (omega (arith, count, more))
     by (r ∷ rest) is count g b =
-        let h : (record_of found ≡ r) × IsJournal next (rest ++ after) = starts (r ∷ rest ++ after) is in
+        let h : IsRecord r × (text.now ≡ line_of r) × IsJournal next (rest ++ after) = starts (r ∷ rest ++ after) is in
         record {
           rest = rest;
-          journal = h.1;
+          journal = h.2;
           count = omega (arith, count);
-          goods = omega (arith, g, goods, goods_more (r ∷ []) rest, ap (λ (x : Record). goods_in (x ∷ [])) h.0);
-          bidders = omega (arith, b, bidders, bidders_more r rest, ap (λ (x : Record). bidders_in (x ∷ [])) h.0);
+          goods = omega (arith, g, goods r h.1, goods_more (r ∷ []) rest);
+          bidders = omega (arith, b, bidders r h.1, bidders_more r rest);
         }
 
 -- a record is there where some are left
 pub not_none : (bytes next : List ℕ) (c : Counts) (taken : ℕ) (before after : List Record) → taken < length before → IsLeft bytes c taken before after
-    → ((left : List Record) → IsJournal bytes left → Starts left None next) → ⊥
+    → ((left : List Record) → IsJournal bytes left → HasLine left None next) → ⊥
 not_none bytes next c taken before after more h starts = by h.rest h.journal h.count
   where
     by : (rest : List Record) → IsJournal bytes (rest ++ after) → taken + length rest ≡ length before → ⊥
@@ -77,10 +98,10 @@ counted_all bytes c before after n all h = by h.rest h.journal h.count h.goods h
 abbrev pub GoodsLeft : List ℕ → ℕ → ℕ → Type 0
 GoodsLeft bytes goods all = (rest : List Record) × IsJournal bytes rest × (goods + goods_in rest ≡ all)
 
-pub one_counted : (bytes next : List ℕ) (n m all : ℕ) (found : Line) → GoodsLeft bytes n all → ((left : List Record) → IsJournal bytes left → Starts left (Some found) next) → m ≡ n + goods_in (record_of found ∷ []) → GoodsLeft next m all
-one_counted bytes next n m all found h starts more =
-    let x = opens found next h.0 (starts h.0 h.1) in
-    (x.rest, x.journal, omega (arith, h.2, more, ap goods_in x.is, goods_more (record_of found ∷ []) x.rest))
+pub one_counted : (bytes next : List ℕ) (n m all : ℕ) (text : Bor (List ℕ)) → GoodsLeft bytes n all → ((left : List Record) → IsJournal bytes left → HasLine left (Some text) next) → ((r : Record) → text.now ≡ line_of r → m ≡ n + goods_in (r ∷ [])) → GoodsLeft next m all
+one_counted bytes next n m all text h starts more =
+    let x = has_next text next h.0 (starts h.0 h.1) in
+    (x.rest, x.journal, omega (arith, h.2, more x.first x.text_is, ap goods_in x.is, goods_more (x.first ∷ []) x.rest))
 
-pub counted_goods : (bytes next : List ℕ) (n all : ℕ) → GoodsLeft bytes n all → ((left : List Record) → IsJournal bytes left → Starts left None next) → n ≡ all
-counted_goods bytes next n all h starts = omega (arith, h.2, ap goods_in (none_left next h.0 (starts h.0 h.1)))
+pub counted_goods : (bytes next : List ℕ) (n all : ℕ) → GoodsLeft bytes n all → ((left : List Record) → IsJournal bytes left → HasLine left None next) → n ≡ all
+counted_goods bytes next n all h starts = omega (arith, h.2, ap goods_in (no_next next h.0 (starts h.0 h.1)))

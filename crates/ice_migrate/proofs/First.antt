@@ -1,8 +1,10 @@
 -- The first line of the bytes of a journal is the text of its first record.
-use Rattle.std.proofs.Common.{◌≡◌, ℕ, ◌<◌, ltb, List, [], ◌∷◌, ◌++◌, Contains, refl, sym, subst, ◌∙◌, append_assoc, arith}
+use Rattle.std.proofs.Common.{◌≡◌, ℕ, ◌<◌, ltb, List, [], ◌∷◌, ◌++◌, Contains, length, take, ◌+◌, refl, sym, ap, subst, ◌∙◌, append_assoc, arith}
 use Rattle.std.specs.Prelude.{Option, Some, None, IfSome, option_map}
+use Rattle.std.specs.Borrow.{Bor}
 use Rattle.std.specs.List.{join_with_byte}
 use Rattle.std.proofs.lemmas.Bool.{ltb-true, and_parts}
+use Rattle.std.proofs.Math.Seq.{take-append-add}
 use Rattle.std.proofs.lemmas.List.Concat.{flat_map-cons}
 use Rattle.std.proofs.lemmas.List.Elements.{Contains-append_right}
 use Rattle.ice_line.specs.Reading.{Reads}
@@ -14,7 +16,7 @@ use Rattle.ice_journal.specs.Journal.{bytes_of, IsJournal}
 use Rattle.ice_journal.specs.Lines.{record_of}
 use Rattle.ice_journal.proofs.Clear.{IsClear, AreClear, is_clear, clear_record}
 use Rattle.ice_journal.proofs.Journals.{IsOneLine, one_line}
-use Rattle.ice_migrate.specs.Reading.{Starts}
+use Rattle.ice_migrate.specs.Reading.{Starts, HasLine}
 
 clear_field : (field : List ℕ) → IsClear field → IsOneLine field
 clear_field [] p = tt
@@ -69,6 +71,18 @@ starts bytes text after found parts one reads (r ∷ rest) is =
 pub starts_none : (bytes : List ℕ) → ¬ Contains bytes 10 → (left : List Record) → IsJournal bytes left → Starts left None bytes
 starts_none bytes none [] is = is
 starts_none bytes none (r ∷ rest) is = none (subst (λ (l : List ℕ). Contains l 10) (sym (opened bytes r rest is)) (Contains-append_right (text_of r) (10 ∷ bytes_of rest) 10 (0, omega arith, refl)))
+
+-- a line is there, with its newline
+pub has_line : (bytes text after : List ℕ) (found : Bor (List ℕ)) → bytes ≡ text ++ 10 ∷ after → ¬ Contains text 10 → found.now ≡ text ++ 10 ∷ []
+    → (left : List Record) → IsJournal bytes left → HasLine left (Some found) after
+has_line bytes text after found parts one whole [] is = absurd (no_line text after (sym is.spelled ∙ parts))
+has_line bytes text after found parts one whole (r ∷ rest) is =
+    let both = same_line text (text_of r) after (bytes_of rest) (one_line text one) (text_is_line r is.lawful.0) (sym parts ∙ opened bytes r rest is) in
+    (is.lawful.0, whole ∙ ap (λ (l : List ℕ). l ++ 10 ∷ []) both.0, record { lawful = is.lawful.1; spelled = both.1 })
+
+-- the bytes up to the first newline, with it
+pub cut_line : (bytes text after : List ℕ) (n : ℕ) → bytes ≡ text ++ 10 ∷ after → n ≡ length text + 1 → take n bytes ≡ text ++ 10 ∷ []
+cut_line bytes text after n parts count = ap (λ (k : ℕ). take k bytes) count ∙ ap (take (length text + 1)) parts ∙ take-append-add text (10 ∷ after) 1
 
 -- a line that is read is that of a record
 pub reads_lawful : (text : List ℕ) (found : Option Line) → Reads (option_map record_of found) IsRecord text_of text → IfSome found (λ l. IsRecord (record_of l))

@@ -1,13 +1,13 @@
 -- The records behind a head, put one after another.
-use Rattle.std.proofs.Common.{◌≡◌, ◌∙◌, ℕ, ℤ, true, List, [], ◌∷◌, ◌++◌, refl, sym, ap, subst}
+use Rattle.std.proofs.Common.{◌≡◌, ◌∙◌, ℕ, true, List, [], ◌∷◌, ◌++◌, refl, sym, ap, subst}
 use Rattle.std.specs.Prelude.{Option, Some, None, Result, Err}
+use Rattle.std.specs.Borrow.{Bor}
 use Rattle.std.proofs.lemmas.Bool.{false≢true}
 use Rattle.ice_edge.specs.declared.sink.SinkFault.{SinkFault}
 use Rattle.ice_edge.specs.Puts.{Takes, FailsIn, IsPut, TakesAllBut}
 use Rattle.ice_edge.proofs.Puts.{none_left, all_left}
-use Rattle.arrayvec.specs.ArrayVec.{ArrayVec}
 use Rattle.ice_defs.specs.Bound.{Multipliers}
-use Rattle.ice_defs.specs.declared.NodeKind.TheVariants.{Choose, Buy, Sell}
+use Rattle.ice_defs.specs.Steps.{branch, leaf, dead}
 use Rattle.ice_journal.specs.declared.line.Line.{Line}
 use Rattle.ice_journal.specs.declared.line.Line.TheVariants as shown
 use Rattle.ice_journal.specs.declared.line.Version.{Version as ShownVersion}
@@ -17,11 +17,11 @@ use Rattle.ice_journal.specs.Ranges.{IsRecord}
 use Rattle.ice_journal.specs.Records.{Record, version_1, version_2, Kind, assign_kind, regret_kind, session_kind}
 use Rattle.ice_journal.specs.Spelling.{line_of}
 use Rattle.ice_journal.specs.Journal.{IsJournal, bytes_of}
-use Rattle.ice_journal.specs.Lines.{record_of, kind_of}
+use Rattle.ice_journal.specs.Lines.{kind_of}
 use Rattle.ice_journal.specs.Plain.{goods_in, all_zero, packed_records, packed}
 use Rattle.ice_write.proofs.Loops.{bytes_cons, next_taken, next_fails, fails_as, put_as, first_fails, then_put}
-use Rattle.ice_migrate.specs.Reading.{Starts}
-use Rattle.ice_migrate.specs.Packing.{before_of, PutsPacked}
+use Rattle.ice_migrate.specs.Reading.{Starts, HasLine}
+use Rattle.ice_migrate.specs.Packing.{before_of, packed_record, packed_after, PutsPacked}
 use Rattle.ice_migrate.specs.Migrating.{is_old, IsMigrated}
 use Rattle.ice_migrate.specs.declared.packing.Packing.{Packing}
 use Rattle.ice_migrate.proofs.Coming as coming
@@ -34,16 +34,12 @@ pub record IsPutSoFar (goods : ℕ) (p : Packing) (bytes : List ℕ) (all : List
 
 -- ---- a record in version 2
 
--- one that is no step stays, and a log that follows it begins with all 0
-pub other_packed : (goods : ℕ) (m : Multipliers) (l : Line) (rest : List Record) → ((x : ArrayVec ℤ) → l ≡ shown.Leaf x → ⊥) → ((b n : ℕ) → l ≡ shown.Branch b n → ⊥) → ((b : ℕ) → l ≡ shown.Dead b → ⊥)
-    → packed_records goods m (record_of l ∷ rest) ≡ record_of l ∷ packed_records goods (all_zero goods) rest
-other_packed goods m (shown.Leaf x) rest leaf branch dead = absurd (leaf x refl)
-other_packed goods m (shown.Branch b n) rest leaf branch dead = absurd (branch b n refl)
-other_packed goods m (shown.Dead b) rest leaf branch dead = absurd (dead b refl)
-other_packed goods m (shown.Node (Choose least most) children lo hi) rest leaf branch dead = refl
-other_packed goods m (shown.Node (Buy good units) children lo hi) rest leaf branch dead = refl
-other_packed goods m (shown.Node (Sell good units) children lo hi) rest leaf branch dead = refl
-other_packed goods m other rest leaf branch dead = refl
+-- the first record, and those behind it
+pub packed_cons : (goods : ℕ) (m : Multipliers) (r : Record) (rest : List Record) → packed_records goods m (r ∷ rest) ≡ packed_record m r ∷ packed_records goods (packed_after goods m r) rest
+packed_cons goods m (line.step (leaf new)) rest = refl
+packed_cons goods m (line.step (branch b n)) rest = refl
+packed_cons goods m (line.step (dead b)) rest = refl
+packed_cons goods m other rest = refl
 
 -- ---- one after another
 
@@ -54,36 +50,43 @@ nothing_put goods p bytes all old faults zero is = record {
   left = subst (λ (m : Multipliers). TakesAllBut (bytes_of (packed_records goods m all)) (bytes_of (packed_records goods (all_zero goods) all)) old old faults faults) (sym zero) (all_left (bytes_of (packed_records goods (all_zero goods) all)) old faults);
 }
 
-module _ (goods : ℕ) (p q : Packing) (bytes after : List ℕ) (found packed : Line) (all : List Record) (old mid new : Option (List ℕ)) (f g h : ℕ) (x : IsPutSoFar goods p bytes all old mid f g)
-    (starts : (left : List Record) → IsJournal bytes left → Starts left (Some found) after) (same : p.goods ≡ goods)
-    (packs : (rest : List Record) → packed_records p.goods (before_of p) (record_of found ∷ rest) ≡ record_of packed ∷ packed_records p.goods (before_of q) rest) where
-  more : coming.Opens found after x.rest
-  more = coming.opens found after x.rest (starts x.rest x.journal)
+module _ (goods : ℕ) (p q : Packing) (bytes after : List ℕ) (text : Bor (List ℕ)) (all : List Record) (old mid new : Option (List ℕ)) (f g h : ℕ) (x : IsPutSoFar goods p bytes all old mid f g)
+    (starts : (left : List Record) → IsJournal bytes left → HasLine left (Some text) after) (same : p.goods ≡ goods)
+    (moves : (r : Record) → IsRecord r → text.now ≡ line_of r → before_of q ≡ packed_after p.goods (before_of p) r) where
+  more : coming.HasNext text.now after x.rest
+  more = coming.has_next text after x.rest (starts x.rest x.journal)
 
-  text_is : bytes_of (packed_records goods (before_of p) x.rest) ≡ line_of (record_of packed) ++ bytes_of (packed_records goods (before_of q) more.rest)
+  abbrev packed_line : List ℕ
+  packed_line = line_of (packed_record (before_of p) more.first)
+
+  before_is : before_of q ≡ packed_after goods (before_of p) more.first
+  before_is = moves more.first more.lawful more.text_is ∙ ap (λ (n : ℕ). packed_after n (before_of p) more.first) same
+
+  text_is : bytes_of (packed_records goods (before_of p) x.rest) ≡ packed_line ++ bytes_of (packed_records goods (before_of q) more.rest)
   text_is =
       ap (λ (l : List Record). bytes_of (packed_records goods (before_of p) l)) more.is
-      ∙ subst (λ (n : ℕ). bytes_of (packed_records n (before_of p) (record_of found ∷ more.rest)) ≡ bytes_of (record_of packed ∷ packed_records n (before_of q) more.rest)) same (ap bytes_of (packs more.rest))
-      ∙ bytes_cons (record_of packed) (packed_records goods (before_of q) more.rest)
+      ∙ ap bytes_of (packed_cons goods (before_of p) more.first more.rest)
+      ∙ bytes_cons (packed_record (before_of p) more.first) (packed_records goods (packed_after goods (before_of p) more.first) more.rest)
+      ∙ ap (λ (m : Multipliers). packed_line ++ bytes_of (packed_records goods m more.rest)) (sym before_is)
 
   -- a record more is put
-  pub one_put : Takes (line_of (record_of packed)) mid new g h → IsPutSoFar goods q after all old new f h
+  pub one_put : ((r : Record) → IsRecord r → text.now ≡ line_of r → Takes (line_of (packed_record (before_of p) r)) mid new g h) → IsPutSoFar goods q after all old new f h
   one_put takes = record {
     rest = more.rest;
     journal = more.journal;
-    left = next_taken (line_of (record_of packed)) (bytes_of (packed_records goods (before_of q) more.rest)) (bytes_of (packed_records goods (before_of p) x.rest)) (bytes_of (packed_records goods (all_zero goods) all)) text_is x.left takes;
+    left = next_taken packed_line (bytes_of (packed_records goods (before_of q) more.rest)) (bytes_of (packed_records goods (before_of p) x.rest)) (bytes_of (packed_records goods (all_zero goods) all)) text_is x.left (takes more.first more.lawful more.text_is);
   }
 
   -- or the sink fails in it
-  pub one_fails : FailsIn (line_of (record_of packed)) mid new g h → FailsIn (bytes_of (packed_records goods (all_zero goods) all)) old new f h
+  pub one_fails : ((r : Record) → IsRecord r → text.now ≡ line_of r → FailsIn (line_of (packed_record (before_of p) r)) mid new g h) → FailsIn (bytes_of (packed_records goods (all_zero goods) all)) old new f h
   one_fails fails =
-      next_fails (line_of (record_of packed)) (bytes_of (packed_records goods (before_of q) more.rest)) (bytes_of (packed_records goods (before_of p) x.rest)) (bytes_of (packed_records goods (all_zero goods) all)) text_is x.left fails
+      next_fails packed_line (bytes_of (packed_records goods (before_of q) more.rest)) (bytes_of (packed_records goods (before_of p) x.rest)) (bytes_of (packed_records goods (all_zero goods) all)) text_is x.left (fails more.first more.lawful more.text_is)
 
 -- all of them are put
-pub all_put : (goods : ℕ) (p : Packing) (bytes after : List ℕ) (all : List Record) (old new : Option (List ℕ)) (f g : ℕ) → IsPutSoFar goods p bytes all old new f g → ((left : List Record) → IsJournal bytes left → Starts left None after)
+pub all_put : (goods : ℕ) (p : Packing) (bytes after : List ℕ) (all : List Record) (old new : Option (List ℕ)) (f g : ℕ) → IsPutSoFar goods p bytes all old new f g → ((left : List Record) → IsJournal bytes left → HasLine left None after)
     → Takes (bytes_of (packed_records goods (all_zero goods) all)) old new f g
 all_put goods p bytes after all old new f g x starts =
-    let none : x.rest ≡ [] = coming.none_left after x.rest (starts x.rest x.journal) in
+    let none : x.rest ≡ [] = coming.no_next after x.rest (starts x.rest x.journal) in
     none_left (bytes_of (packed_records goods (all_zero goods) all)) old new f g
     (subst (λ (l : List Record). TakesAllBut (bytes_of (packed_records goods (before_of p) l)) (bytes_of (packed_records goods (all_zero goods) all)) old new f g) none x.left)
 

@@ -2,13 +2,13 @@
 ghost use Rattle.std.specs.Prelude.{◌≡◌, ◌+◌, ◌-◌, ◌<◌, ◌≤◌, ◌^◌, ◌∷◌, [], ◌++◌, ℕ, List, length, IfSome};
 ghost use Rattle.ice_journal.specs.Records.{Record};
 ghost use Rattle.ice_journal.specs.Journal.{IsJournal};
-ghost use Rattle.ice_journal.specs.Lines.{record_of};
+ghost use Rattle.ice_journal.specs.Spelling.{line_of};
 ghost use Rattle.ice_journal.specs.Plain.{goods_in};
 ghost use Rattle.ice_migrate.specs.Reading.{bidders_in};
 ghost use Rattle.ice_migrate.specs.Stopped.{AreCounted};
 
 use crate::records::Records;
-use ice_journal::Line;
+use crate::sort::{Sort, sort_of};
 
 /// How many goods and bidders records name.
 #[derive(Clone, Copy)]
@@ -29,19 +29,21 @@ impl Counts {
         }
     }
 
-    /// These with one record more.
-    fn with(self, line: &Line) -> Counts
+    /// These with one record more, of this line.
+    fn with(self, line: &[u8]) -> Counts
         requires few { self.goods + self.bidders < 2 ^ 64 - 1 }
-        ensures goods { result.goods ≡ self.goods + goods_in (record_of line.now ∷ []) }
-        ensures bidders { result.bidders ≡ self.bidders + bidders_in (record_of line.now ∷ []) }
+        ensures goods { (r : Record) → line.now ≡ line_of r
+            → result.goods ≡ self.goods + goods_in (r ∷ []) }
+        ensures bidders { (r : Record) → line.now ≡ line_of r
+            → result.bidders ≡ self.bidders + bidders_in (r ∷ []) }
         ensures more { result.goods + result.bidders ≤ self.goods + self.bidders + 1 }
     {
-        match line {
-            Line::Good(_) | Line::Exact(_) => Counts {
+        match sort_of(line) {
+            Sort::Good => Counts {
                 goods: self.goods + 1,
                 bidders: self.bidders,
             },
-            Line::Bidder { .. } => Counts {
+            Sort::Bidder => Counts {
                 goods: self.goods,
                 bidders: self.bidders + 1,
             },
@@ -57,8 +59,8 @@ impl Counts {
     {
         let mut counts = Counts::none();
         for _ in 0..lines {
-            let line = records.next()?;
-            counts = counts.with(&line);
+            let line = records.next_line()?;
+            counts = counts.with(line);
         }
         Some(counts)
     }
@@ -70,8 +72,8 @@ impl Counts {
     {
         let mut records = Records::new(bytes);
         let mut counts = Counts::none();
-        while let Some(line) = records.next() {
-            counts = counts.with(&line);
+        while let Some(line) = records.next_line() {
+            counts = counts.with(line);
         }
         counts
     }

@@ -7,6 +7,7 @@ mod judging;
 mod packing;
 mod place;
 mod records;
+mod sort;
 #[cfg(test)]
 mod tests;
 

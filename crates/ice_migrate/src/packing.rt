@@ -1,20 +1,25 @@
 //! The records of a version 1 journal, written in version 2.
-ghost use Rattle.std.specs.Prelude.{◌≡◌, ◌≤◌, ◌<◌, ◌∷◌, List, length, map, slice_index_or, pos};
+ghost use Rattle.std.specs.Prelude.{◌≡◌, ◌≤◌, ◌<◌, List, length, map, slice_index_or, pos, IfSome, MatchOption};
 ghost use Rattle.ice_edge.specs.Puts.{IsPut};
-ghost use Rattle.ice_journal.specs.Records.{Record};
+ghost use Rattle.ice_defs.specs.Steps.{leaf};
+ghost use Rattle.ice_journal.specs.Records.{Record, step, near};
 ghost use Rattle.ice_journal.specs.Ranges.{IsRecord};
+ghost use Rattle.ice_journal.specs.Spelling.{line_of};
 ghost use Rattle.ice_journal.specs.Journal.{IsJournal, bytes_of};
-ghost use Rattle.ice_journal.specs.Lines.{record_of, change_of};
+ghost use Rattle.ice_journal.specs.Lines.{change_of};
 ghost use Rattle.ice_journal.specs.Plain.{all_zero, changes_from, packed_records};
 ghost use Rattle.ice_journal_laws.specs.Answers.{OfJournal};
 ghost use Rattle.ice_migrate.specs.Migrating.{IsMigrated};
-ghost use Rattle.ice_migrate.specs.Packing.{before_of, PutsPacked};
+ghost use Rattle.ice_migrate.specs.Sorts as shown;
+ghost use Rattle.ice_migrate.specs.Packing.{before_of, packed_record, packed_after, PutsPacked};
 
 use crate::counts::Counts;
 use crate::records::Records;
+use crate::sort::{Sort, sort_of};
 use arrayvec::ArrayVec;
 use ice_edge::{Sink, SinkFault};
-use ice_journal::{Change, Line, Version};
+use ice_journal::{Change, Line, Version, read_record, write_record};
+use ice_line::LineWriter;
 use ice_write::put_record;
 
 /// The multipliers of the leaf before in the same log; all 0, one for each of so many goods, where there
@@ -73,28 +78,81 @@ impl Packing {
         changes
     }
 
-    /// The next record behind the head, in version 2.
-    fn pack(&mut self, line: Line) -> Line
-        requires { IsRecord (record_of line) }
-        ensures text { (rest : List Record)
-            → packed_records self.old.goods (before_of self.old) (record_of line ∷ rest)
-            ≡ record_of result ∷ packed_records self.old.goods (before_of self.new) rest }
-        ensures lawful { IsRecord (record_of result) }
+    /// Puts a leaf as what it changes.
+    fn put_leaf<K: Sink>(
+        &mut self,
+        multipliers: ArrayVec<i64, 32>,
+        writer: &mut LineWriter,
+        out: &mut K,
+    ) -> Result<(), SinkFault>
+        requires { IsRecord (step (leaf multipliers.items)) }
+        ensures put { IsPut (line_of (near (changes_from 0 (before_of self.old) multipliers.items))) result
+            (K.written out.old) (K.written out.new) (K.faults out.old) (K.faults out.new) }
+        ensures after { before_of self.new ≡ multipliers.items }
         ensures goods { self.new.goods ≡ self.old.goods }
     {
-        match line {
-            Line::Leaf(multipliers) => {
-                let changes = self.changes(&multipliers);
-                self.leaf = Some(multipliers);
-                Line::Near(changes)
+        let changes = self.changes(&multipliers);
+        self.leaf = Some(multipliers);
+        put_changes(changes, writer, out)
+    }
+
+    /// Puts the next record behind the head, which has this line, in version 2: but for a leaf the line is the same.
+    fn put_line<K: Sink>(
+        &mut self,
+        line: &[u8],
+        writer: &mut LineWriter,
+        out: &mut K,
+    ) -> Result<(), SinkFault>
+        requires { 0 < length line.now }
+        ensures put { (r : Record) → IsRecord r → line.now ≡ line_of r
+            → IsPut (line_of (packed_record (before_of self.old) r)) result
+            (K.written out.old) (K.written out.new) (K.faults out.old) (K.faults out.new) }
+        ensures after { (r : Record) → IsRecord r → line.now ≡ line_of r
+            → before_of self.new ≡ packed_after self.old.goods (before_of self.old) r }
+        ensures goods { self.new.goods ≡ self.old.goods }
+    {
+        match sort_of(line) {
+            Sort::Leaf => {
+                let Some(multipliers) = leaf_of(line) else {
+                    return Ok(());
+                };
+                self.put_leaf(multipliers, writer, out)
             }
-            Line::Branch { .. } | Line::Dead { .. } => line,
-            other => {
+            Sort::Step => out.put(line),
+            _ => {
                 self.leaf = None;
-                other
+                out.put(line)
             }
         }
     }
+}
+
+/// The multipliers of the leaf that has this line.
+fn leaf_of(line: &[u8]) -> Option<ArrayVec<i64, 32>>
+    requires { 0 < length line.now }
+    ensures is { (r : Record) → IsRecord r → line.now ≡ line_of r → shown.sort_of r ≡ Sort.Leaf
+        → MatchOption result ⊥ (λ multipliers. r ≡ step (leaf multipliers.items)) }
+    ensures lawful { IfSome result (λ multipliers. IsRecord (step (leaf multipliers.items))) }
+{
+    match read_record(&line[..line.len() - 1])? {
+        Line::Leaf(multipliers) => Some(multipliers),
+        _ => None,
+    }
+}
+
+/// Puts the line of these changes, which may stand in a record.
+fn put_changes<K: Sink>(
+    changes: ArrayVec<Change, 32>,
+    writer: &mut LineWriter,
+    out: &mut K,
+) -> Result<(), SinkFault>
+    requires { IsRecord (near (map change_of changes.items)) }
+    ensures { IsPut (line_of (near (map change_of changes.items))) result
+        (K.written out.old) (K.written out.new) (K.faults out.old) (K.faults out.new) }
+{
+    writer.clear();
+    write_record(&Line::Near(changes), writer);
+    out.put(writer.end())
 }
 
 /// Puts the records behind a journal's head.
@@ -108,8 +166,9 @@ fn put_behind_head<K: Sink>(
         (K.written out.old) (K.written out.new) (K.faults out.old) (K.faults out.new) }
 {
     let mut packing = Packing::new(goods);
-    while let Some(line) = records.next() {
-        put_record(&packing.pack(line), out)?;
+    let mut writer = LineWriter::new();
+    while let Some(line) = records.next_line() {
+        packing.put_line(line, &mut writer, out)?;
     }
     Ok(())
 }

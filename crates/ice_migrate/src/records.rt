@@ -1,10 +1,10 @@
 //! The records of bytes, taken one after another.
-ghost use Rattle.std.specs.Prelude.{◌≡◌, List, IfSome};
+ghost use Rattle.std.specs.Prelude.{◌≡◌, ◌<◌, List, length, IfSome};
 ghost use Rattle.ice_journal.specs.Records.{Record};
 ghost use Rattle.ice_journal.specs.Ranges.{IsRecord};
 ghost use Rattle.ice_journal.specs.Journal.{IsJournal};
 ghost use Rattle.ice_journal.specs.Lines.{record_of};
-ghost use Rattle.ice_migrate.specs.Reading.{Starts, Shortens};
+ghost use Rattle.ice_migrate.specs.Reading.{Starts, HasLine, Shortens};
 
 use ice_journal::{Line, read_record};
 use ice_line::split_line;
@@ -42,5 +42,18 @@ impl<'a> Records<'a> {
         let (text, after) = split_line(self.rest)?;
         self.rest = after;
         read_record(text)
+    }
+
+    /// The line of the next record with its newline, where one is left; it is not read.
+    pub(crate) fn next_line(&mut self) -> Option<&'a [u8]>
+        ensures next { (left : List Record) → IsJournal self.old left
+            → HasLine left result self.new }
+        ensures some { IfSome result (λ line. 0 < length line.now) }
+        ensures shorter { Shortens self.old result self.new }
+    {
+        let (text, after) = split_line(self.rest)?;
+        let line = &self.rest[..text.len() + 1];
+        self.rest = after;
+        Some(line)
     }
 }

@@ -6,26 +6,23 @@ use Rattle.ice_write.proofs.Loops.{fails_as}
 use Rattle.ice_migrate.proofs.Puts.{one_put, one_fails}
 use Rattle.ice_migrate.proofs.packing.put_behind_head.Goals as goal
 
-pub pack-requires : goal.pack-requires
-pack-requires g c = c.in-Some.ensures.lawful
-
 pub loop-line-preserved : goal.loop-line-preserved
 loop-line-preserved g c =
     let goods = c.args.goods in
     record {
-      goods = c.pack.ensures.goods ∙ c.loop-line.invariant.goods;
+      goods = c.put_line.ensures.goods ∙ c.loop-line.invariant.goods;
       left = λ left is.
-          one_put goods c.loop-line.packing c.pack.new.self c.loop-line.records c.next.new.self c.in-Some.line c.pack.result left
-          (g.K.Sink.written c.args.out.now) (g.K.Sink.written c.loop-line.out) (g.K.Sink.written c.put_record.new.out) (g.K.Sink.faults c.args.out.now) (g.K.Sink.faults c.loop-line.out) (g.K.Sink.faults c.put_record.new.out)
-          (c.loop-line.invariant.left left is) c.in-Some.ensures.next c.loop-line.invariant.goods c.pack.ensures.text c.in_ok-put_record.ensures;
+          one_put goods c.loop-line.packing c.put_line.new.self c.loop-line.records c.next_line.new.self c.in-Some.line left
+          (g.K.Sink.written c.args.out.now) (g.K.Sink.written c.loop-line.out) (g.K.Sink.written c.put_line.new.out) (g.K.Sink.faults c.args.out.now) (g.K.Sink.faults c.loop-line.out) (g.K.Sink.faults c.put_line.new.out)
+          (c.loop-line.invariant.left left is) c.in-Some.ensures.next c.loop-line.invariant.goods c.put_line.ensures.after c.in_ok-put_line.ensures.put;
     }
 
-pub returns-in_err-put_record : goal.returns-in_err-put_record
-returns-in_err-put_record g c = λ left is.
+pub returns-in_err-put_line : goal.returns-in_err-put_line
+returns-in_err-put_line g c = λ left is.
     let goods = c.args.goods in
     let whole = bytes_of (packed_records goods (all_zero goods) left) in
     let p = err_from_is_err_and c.from_residual.result c.from_residual.ensures.1 in
     fails_as whole whole c.from_residual.result p.0 p.1 refl
-    (one_fails goods c.loop-line.packing c.pack.new.self c.loop-line.records c.next.new.self c.in-Some.line c.pack.result left
-    (g.K.Sink.written c.args.out.now) (g.K.Sink.written c.loop-line.out) (g.K.Sink.written c.put_record.new.out) (g.K.Sink.faults c.args.out.now) (g.K.Sink.faults c.loop-line.out) (g.K.Sink.faults c.put_record.new.out)
-    (c.loop-line.invariant.left left is) c.in-Some.ensures.next c.loop-line.invariant.goods c.pack.ensures.text c.in_err-put_record.ensures)
+    (one_fails goods c.loop-line.packing c.put_line.new.self c.loop-line.records c.next_line.new.self c.in-Some.line left
+    (g.K.Sink.written c.args.out.now) (g.K.Sink.written c.loop-line.out) (g.K.Sink.written c.put_line.new.out) (g.K.Sink.faults c.args.out.now) (g.K.Sink.faults c.loop-line.out) (g.K.Sink.faults c.put_line.new.out)
+    (c.loop-line.invariant.left left is) c.in-Some.ensures.next c.loop-line.invariant.goods c.put_line.ensures.after c.in_err-put_line.ensures.put)

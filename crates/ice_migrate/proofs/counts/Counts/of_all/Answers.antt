@@ -7,5 +7,5 @@ pub loop-line-preserved : goal.loop-line-preserved
 loop-line-preserved c = record {
   few = omega (arith, c.loop-line.invariant.few, c.in-Some.ensures.shorter, c.with-counts.ensures.more);
   left = λ journal is.
-      one_counted c.loop-line.records c.next.new.self c.loop-line.counts.goods c.with-counts.result.goods (goods_in journal) c.in-Some.line (c.loop-line.invariant.left journal is) c.in-Some.ensures.next c.with-counts.ensures.goods;
+      one_counted c.loop-line.records c.next_line.new.self c.loop-line.counts.goods c.with-counts.result.goods (goods_in journal) c.in-Some.line (c.loop-line.invariant.left journal is) c.in-Some.ensures.next c.with-counts.ensures.goods;
 }

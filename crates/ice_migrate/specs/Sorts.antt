@@ -1,0 +1,26 @@
+-- What the migration of a record goes by.
+use Rattle.std.specs.Prelude.{ℕ, ◌==◌, ◌&&◌, if◌then◌else◌}
+use Rattle.ice_defs.specs.Steps.{branch, leaf, dead}
+use Rattle.ice_journal.specs.Records.{Record}
+use Rattle.ice_journal.specs.Records as line
+use Rattle.ice_migrate.specs.declared.sort.Sort.{Sort}
+use Rattle.ice_migrate.specs.declared.sort.Sort.TheVariants.{Good, Bidder, Leaf, Step, Other}
+
+abbrev pub sort_of : Record → Sort
+sort_of (line.good name) = Good
+sort_of (line.exact name) = Good
+sort_of (line.bidder name own) = Bidder
+sort_of (line.step (leaf m)) = Leaf
+sort_of (line.step (branch b n)) = Step
+sort_of (line.step (dead b)) = Step
+sort_of other = Other
+
+-- by the first two bytes of a line: `go`, `ex`, `bi`, `le`, `br` or `de`
+abbrev pub sort_by : ℕ → ℕ → Sort
+sort_by first second =
+    if first == 103 && second == 111 then Good else
+    if first == 101 && second == 120 then Good else
+    if first == 98 && second == 105 then Bidder else
+    if first == 108 && second == 101 then Leaf else
+    if first == 98 && second == 114 then Step else
+    if first == 100 && second == 101 then Step else Other
