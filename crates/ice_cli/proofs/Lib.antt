@@ -3,6 +3,8 @@
 pub mod Parts
 -- why a file is not had
 pub mod Refusing
+-- all that is told stays the same where no file caused the status
+pub mod Keeping
 -- what `check` answers
 pub mod Checking
 -- the best sets of all bidders

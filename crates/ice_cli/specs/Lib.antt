@@ -2,6 +2,7 @@ pub mod Command
 pub mod Words
 pub mod Call
 pub mod Parts
+pub mod Keeping
 pub mod Output
 pub mod CheckServed
 pub mod ReplayServed

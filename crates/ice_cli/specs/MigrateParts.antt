@@ -1,6 +1,8 @@
 -- Why `migrate` writes no journal.
 use Rattle.std.specs.Prelude.{◌≡◌, ℕ, List}
 use Rattle.ice_edge.specs.Told.{Told}
+use Rattle.ice_edge.specs.declared.status.Status.{Status}
+use Rattle.ice_edge.specs.declared.status.Status.TheVariants.{No}
 use Rattle.ice_journal_laws.specs.Checks.{Failure}
 use Rattle.ice_journal_laws.specs.Answers.{OfJournal}
 use Rattle.ice_migrate.specs.Migrating.{IsFailing}
@@ -11,7 +13,12 @@ use Rattle.ice_cli.specs.declared.migrate.Unwritten.TheVariants.{Fails, Refused}
 use Rattle.ice_cli.specs.Call.{journal_limit}
 use Rattle.ice_cli.specs.MigrateServed.{IsUnfitFault, IsMigrateFault}
 use Rattle.ice_cli.specs.Parts.{AreFetched}
-use Rattle.ice_cli.specs.Refusals.{IsFaultOf, Refuses}
+use Rattle.ice_cli.specs.Refusals.{refusal_status, IsFaultOf, Refuses}
+
+-- the status that goes with it
+abbrev pub unwritten_status : Unwritten → Status
+unwritten_status (Fails line rule) = No
+unwritten_status (Refused refusal) = refusal_status refusal
 
 -- what is unfit, in the words of `Unwritten`
 abbrev pub TellsUnfit : Unfit → Unwritten → Type 0

@@ -1,11 +1,13 @@
 //! `best`: the best set of each bidder at prices.
-ghost use Rattle.std.specs.Prelude.{◌≡◌, ◌<◌, [], length, slice_index_or, IfOk, IfErr};
+ghost use Rattle.std.specs.Prelude.{◌≡◌, ◌<◌, [], length, slice_index_or, IfOk, IfErr, OnOk};
 ghost use Rattle.ice_defs.specs.Exchange.{names_of, opening_bounds};
 ghost use Rattle.ice_defs.specs.Weighing.{weighted_weights};
 ghost use Rattle.ice_cli.specs.BestServed.{IsBestNet, BestAnswers};
 ghost use Rattle.ice_cli.specs.Bests.{AreBestSets};
 ghost use Rattle.ice_cli.specs.BestFound.{AreBestOf, BestRefuses};
+ghost use Rattle.ice_cli.specs.Keeping.{KeepsTold};
 ghost use Rattle.ice_cli.specs.Parts.{Serves};
+ghost use Rattle.ice_cli.specs.Refusals.{refusal_status};
 
 use crate::best_lines::put_best;
 use crate::best_set::BestSet;
@@ -74,6 +76,9 @@ fn best_of_files<H: Shelf>(
         AreBestOf (H.told shelf.old) exchange.now prices.now sets.items) }
     ensures refusal { IfErr result
         (BestRefuses exchange.now prices.now (H.told shelf.old) (H.told shelf.new)) }
+    ensures kept { OnOk result (H.told shelf.new ≡ H.told shelf.old) }
+    ensures kept_at_refusal { IfErr result (λ refusal.
+        KeepsTold (H.told shelf.old) (H.told shelf.new) (refusal_status refusal)) }
 {
     let exchange = read_exchange(alloc, 1, exchange, shelf)?;
     let prices = read_prices(alloc, 2, prices, exchange.goods(), shelf)?;
@@ -91,9 +96,10 @@ pub fn best<H: Shelf, K: Sink>(
     shelf: &mut H,
     out: &mut K,
 ) -> Status
-    ensures { Serves (λ call. BestAnswers call exchange.now prices.now)
+    ensures served { Serves (λ call. BestAnswers call exchange.now prices.now)
         (H.told shelf.old) (H.told shelf.new)
         (K.written out.old) (K.written out.new) (K.faults out.old) (K.faults out.new) result }
+    ensures kept { KeepsTold (H.told shelf.old) (H.told shelf.new) result }
 {
     match best_of_files(alloc, exchange, prices, shelf) {
         Ok(sets) => ended(put_best(&sets, out), Status::Done),

@@ -1,9 +1,10 @@
 //! `check`: the checker's answer on a journal.
-ghost use Rattle.std.specs.Prelude.{ℕ, List, IfOk, IfErr, Ok};
+ghost use Rattle.std.specs.Prelude.{◌≡◌, ℕ, List, IfOk, IfErr, OnOk, Ok};
 ghost use Rattle.ice_journal_laws.specs.Answers.{AnswersBytes};
 ghost use Rattle.ice_cli.specs.CheckServed.{IsEndFault, IsCheckFault, CheckAnswers};
+ghost use Rattle.ice_cli.specs.Keeping.{KeepsTold};
 ghost use Rattle.ice_cli.specs.Parts.{AreFetched, Serves};
-ghost use Rattle.ice_cli.specs.Refusals.{IsFaultOf, Refuses};
+ghost use Rattle.ice_cli.specs.Refusals.{refusal_status, IsFaultOf, Refuses};
 
 use crate::answer::say_answer;
 use crate::files::fetch;
@@ -45,6 +46,9 @@ fn answer_of<H: Shelf>(alloc: Global, name: &str, shelf: &mut H) -> Result<Answe
         × AnswersBytes bytes (Ok answer) × AreFetched (H.told shelf.old) name.now JOURNAL_LIMIT bytes) }
     ensures refusal { IfErr result
         (Refuses 1 name.now JOURNAL_LIMIT IsCheckFault (H.told shelf.old) (H.told shelf.new)) }
+    ensures kept { OnOk result (H.told shelf.new ≡ H.told shelf.old) }
+    ensures kept_at_refusal { IfErr result (λ refusal.
+        KeepsTold (H.told shelf.old) (H.told shelf.new) (refusal_status refusal)) }
 {
     let bytes = fetch(alloc, 1, name, JOURNAL_LIMIT, shelf)?;
     answer_to(alloc, &bytes)
@@ -52,9 +56,10 @@ fn answer_of<H: Shelf>(alloc: Global, name: &str, shelf: &mut H) -> Result<Answe
 
 /// Writes the checker's answer on the journal of this name.
 pub fn check<H: Shelf, K: Sink>(alloc: Global, journal: &str, shelf: &mut H, out: &mut K) -> Status
-    ensures { Serves (λ call. CheckAnswers call journal.now)
+    ensures served { Serves (λ call. CheckAnswers call journal.now)
         (H.told shelf.old) (H.told shelf.new)
         (K.written out.old) (K.written out.new) (K.faults out.old) (K.faults out.new) result }
+    ensures kept { KeepsTold (H.told shelf.old) (H.told shelf.new) result }
 {
     match answer_of(alloc, journal, shelf) {
         Ok(answer) => say_answer(&answer, out),

@@ -1,11 +1,12 @@
 //! The files that a command's words name, fetched and read.
-ghost use Rattle.std.specs.Prelude.{◌≡◌, IfOk, IfErr, Ok as Found};
+ghost use Rattle.std.specs.Prelude.{◌≡◌, IfOk, IfErr, OnOk, Ok as Found};
 ghost use Rattle.ice_section.specs.LineFile.{IsPricesOfLines};
 ghost use Rattle.ice_edge.specs.Told.{IsLater};
 ghost use Rattle.ice_read.specs.RoundFile.{bids_of as read_bids};
 ghost use Rattle.ice_cli.specs.Files.{is_line_form, IsExchangeOf, IsExchangeFault, IsPricesFault, IsRoundFault, HoldsExchange, HoldsPrices, HoldsBids, IsLineRefusal, IsPlaceRefusal};
+ghost use Rattle.ice_cli.specs.Keeping.{KeepsTold};
 ghost use Rattle.ice_cli.specs.Parts.{AreFetched};
-ghost use Rattle.ice_cli.specs.Refusals.{NoFault, IsFaultOf, Refuses};
+ghost use Rattle.ice_cli.specs.Refusals.{refusal_status, NoFault, IsFaultOf, Refuses};
 
 use crate::refusal::{FileFault, Refusal};
 use ice_bid::Bid;
@@ -19,7 +20,8 @@ use std::alloc::Global;
 /// The most bytes of a file that is no journal.
 pub const FILE_LIMIT: usize = 16_777_216;
 
-/// The bytes of the file with this number and name, of which there are at most `limit`, or why they are not had.
+/// The bytes of the file with this number and name, of which there are at most `limit`, or why they are not had. Only
+/// where the file is the reason may a count of the shelf change.
 pub fn fetch<H: Shelf>(
     alloc: Global,
     file: u8,
@@ -31,6 +33,9 @@ pub fn fetch<H: Shelf>(
         (λ bytes. AreFetched (H.told shelf.old) name.now limit bytes.items) }
     ensures refusal { IfErr result
         (Refuses file name.now limit NoFault (H.told shelf.old) (H.told shelf.new)) }
+    ensures kept { OnOk result (H.told shelf.new ≡ H.told shelf.old) }
+    ensures kept_at_refusal { IfErr result (λ refusal.
+        KeepsTold (H.told shelf.old) (H.told shelf.new) (refusal_status refusal)) }
     ensures later { IsLater (H.told shelf.old) (H.told shelf.new) }
 {
     match shelf.fetch(alloc, name, limit) {
@@ -134,6 +139,9 @@ pub fn read_exchange<H: Shelf>(
     ensures exchange { IfOk result (HoldsExchange (H.told shelf.old) name.now) }
     ensures refusal { IfErr result
         (Refuses file name.now FILE_LIMIT IsExchangeFault (H.told shelf.old) (H.told shelf.new)) }
+    ensures kept { OnOk result (H.told shelf.new ≡ H.told shelf.old) }
+    ensures kept_at_refusal { IfErr result (λ refusal.
+        KeepsTold (H.told shelf.old) (H.told shelf.new) (refusal_status refusal)) }
     ensures later { IsLater (H.told shelf.old) (H.told shelf.new) }
 {
     let bytes = fetch(alloc, file, name, FILE_LIMIT, shelf)?;
@@ -151,6 +159,9 @@ pub fn read_prices<H: Shelf>(
     ensures prices { IfOk result (HoldsPrices (H.told shelf.old) name.now goods) }
     ensures refusal { IfErr result
         (Refuses file name.now FILE_LIMIT (IsPricesFault goods) (H.told shelf.old) (H.told shelf.new)) }
+    ensures kept { OnOk result (H.told shelf.new ≡ H.told shelf.old) }
+    ensures kept_at_refusal { IfErr result (λ refusal.
+        KeepsTold (H.told shelf.old) (H.told shelf.new) (refusal_status refusal)) }
     ensures later { IsLater (H.told shelf.old) (H.told shelf.new) }
 {
     let bytes = fetch(alloc, file, name, FILE_LIMIT, shelf)?;
@@ -167,6 +178,9 @@ pub fn read_round<H: Shelf>(
     ensures bids { IfOk result (λ bids. HoldsBids (H.told shelf.old) name.now bids.items) }
     ensures refusal { IfErr result
         (Refuses file name.now FILE_LIMIT IsRoundFault (H.told shelf.old) (H.told shelf.new)) }
+    ensures kept { OnOk result (H.told shelf.new ≡ H.told shelf.old) }
+    ensures kept_at_refusal { IfErr result (λ refusal.
+        KeepsTold (H.told shelf.old) (H.told shelf.new) (refusal_status refusal)) }
     ensures later { IsLater (H.told shelf.old) (H.told shelf.new) }
 {
     let bytes = fetch(alloc, file, name, FILE_LIMIT, shelf)?;

@@ -1,9 +1,10 @@
 //! `migrate`: a journal of version 1, written in version 2.
-ghost use Rattle.std.specs.Prelude.{IfOk, IfErr};
+ghost use Rattle.std.specs.Prelude.{◌≡◌, IfOk, IfErr, OnOk};
 ghost use Rattle.ice_journal_laws.specs.Answers.{OfJournal};
 ghost use Rattle.ice_migrate.specs.Migrating.{IsMigrated};
 ghost use Rattle.ice_cli.specs.MigrateServed.{MigrateAnswers};
-ghost use Rattle.ice_cli.specs.MigrateParts.{TellsUnfit, IsUnwrittenOf, IsUnwritten};
+ghost use Rattle.ice_cli.specs.MigrateParts.{unwritten_status, TellsUnfit, IsUnwrittenOf, IsUnwritten};
+ghost use Rattle.ice_cli.specs.Keeping.{KeepsTold};
 ghost use Rattle.ice_cli.specs.Parts.{AreFetched, Serves};
 
 use crate::answer::say_answer;
@@ -55,6 +56,9 @@ fn journal_of<H: Shelf>(alloc: Global, name: &str, shelf: &mut H) -> Result<Vec<
     ensures journal { IfOk result (λ bytes. OfJournal bytes.items IsMigrated
         × AreFetched (H.told shelf.old) name.now JOURNAL_LIMIT bytes.items) }
     ensures unwritten { IfErr result (IsUnwritten name.now (H.told shelf.old) (H.told shelf.new)) }
+    ensures kept { OnOk result (H.told shelf.new ≡ H.told shelf.old) }
+    ensures kept_unwritten { IfErr result (λ unwritten.
+        KeepsTold (H.told shelf.old) (H.told shelf.new) (unwritten_status unwritten)) }
 {
     let bytes = match fetch(alloc, 1, name, JOURNAL_LIMIT, shelf) {
         Ok(bytes) => bytes,
@@ -72,9 +76,10 @@ pub fn migrate<H: Shelf, K: Sink>(
     shelf: &mut H,
     out: &mut K,
 ) -> Status
-    ensures { Serves (λ call. MigrateAnswers call journal.now)
+    ensures served { Serves (λ call. MigrateAnswers call journal.now)
         (H.told shelf.old) (H.told shelf.new)
         (K.written out.old) (K.written out.new) (K.faults out.old) (K.faults out.new) result }
+    ensures kept { KeepsTold (H.told shelf.old) (H.told shelf.new) result }
 {
     match journal_of(alloc, journal, shelf) {
         Ok(bytes) => ended(put_packed(&bytes, out), Status::Done),

@@ -1,4 +1,5 @@
 //! `regret`: the regret of the best assignment at lower values, as a journal.
+ghost use Rattle.ice_cli.specs.Keeping.{KeepsTold};
 ghost use Rattle.ice_cli.specs.Parts.{Serves};
 ghost use Rattle.ice_cli.specs.RegretServed.{RegretAnswers};
 
@@ -14,9 +15,10 @@ pub fn regret<H: Shelf, K: Sink>(
     shelf: &mut H,
     out: &mut K,
 ) -> Status
-    ensures { Serves (λ call. RegretAnswers call exchange.now)
+    ensures served { Serves (λ call. RegretAnswers call exchange.now)
         (H.told shelf.old) (H.told shelf.new)
         (K.written out.old) (K.written out.new) (K.faults out.old) (K.faults out.new) result }
+    ensures kept { KeepsTold (H.told shelf.old) (H.told shelf.new) result }
 {
     match read_exchange(alloc, 1, exchange, shelf) {
         Ok(exchange) => write_regret(alloc, &exchange, out),

@@ -1,7 +1,8 @@
 //! `replay`: what a session says of one settlement.
-ghost use Rattle.std.specs.Prelude.{ℕ, List, IfOk, IfErr};
+ghost use Rattle.std.specs.Prelude.{◌≡◌, ℕ, List, IfOk, IfErr, OnOk};
+ghost use Rattle.ice_cli.specs.Keeping.{KeepsTold};
 ghost use Rattle.ice_cli.specs.Parts.{AreFetched, IsSaid, Serves};
-ghost use Rattle.ice_cli.specs.Refusals.{IsFaultOf, Refuses};
+ghost use Rattle.ice_cli.specs.Refusals.{refusal_status, IsFaultOf, Refuses};
 ghost use Rattle.ice_cli.specs.ReplayServed.{IsReplayFault, ReplayAnswers};
 ghost use Rattle.ice_cli.specs.Replaying.{IsFoundIn, IsWithout, found_text, found_status};
 
@@ -61,6 +62,9 @@ fn found_of<H: Shelf>(
         × AreFetched (H.told shelf.old) name.now JOURNAL_LIMIT bytes) }
     ensures refusal { IfErr result (Refuses 1 name.now JOURNAL_LIMIT (IsReplayFault number)
         (H.told shelf.old) (H.told shelf.new)) }
+    ensures kept { OnOk result (H.told shelf.new ≡ H.told shelf.old) }
+    ensures kept_at_refusal { IfErr result (λ refusal.
+        KeepsTold (H.told shelf.old) (H.told shelf.new) (refusal_status refusal)) }
 {
     let bytes = fetch(alloc, 1, name, JOURNAL_LIMIT, shelf)?;
     found_in(alloc, &bytes, number)
@@ -91,9 +95,10 @@ pub fn replay<H: Shelf, K: Sink>(
     shelf: &mut H,
     out: &mut K,
 ) -> Status
-    ensures { Serves (λ call. ReplayAnswers call journal.now number)
+    ensures served { Serves (λ call. ReplayAnswers call journal.now number)
         (H.told shelf.old) (H.told shelf.new)
         (K.written out.old) (K.written out.new) (K.faults out.old) (K.faults out.new) result }
+    ensures kept { KeepsTold (H.told shelf.old) (H.told shelf.new) result }
 {
     match found_of(alloc, journal, number, shelf) {
         Ok(found) => say_found(&found, out),

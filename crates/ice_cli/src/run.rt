@@ -1,5 +1,5 @@
 //! The session of an exchange.
-ghost use Rattle.std.specs.Prelude.{◌≤◌, [], List, length, map, string_bytes, IfOk, IfErr};
+ghost use Rattle.std.specs.Prelude.{◌≡◌, ◌≤◌, [], List, length, map, string_bytes, IfOk, IfErr, OnOk};
 ghost use Rattle.ice_defs.specs.Session.{Going};
 ghost use Rattle.ice_edge.specs.Told.{IsLater};
 ghost use Rattle.ice_round_laws.specs.Running.{IsRunning};
@@ -7,6 +7,7 @@ ghost use Rattle.ice_cli.specs.Journals.{WritesBehind};
 ghost use Rattle.ice_journal.specs.Records as line;
 ghost use Rattle.ice_journal.specs.Records.{open_end};
 ghost use Rattle.ice_journal.specs.Spelling.{line_of};
+ghost use Rattle.ice_cli.specs.Keeping.{KeepsTold};
 ghost use Rattle.ice_cli.specs.Parts.{IsSaid, Serves};
 ghost use Rattle.ice_cli.specs.RunServed.{RunAnswers};
 ghost use Rattle.ice_cli.specs.RunJournal.{RunsTo};
@@ -36,6 +37,8 @@ fn write_round<H: Shelf, K: Sink>(
         (K.written out.old) (K.written out.new) (K.faults out.old) (K.faults out.new)) }
     ensures ended { IfErr result (λ status. EndsInRound round name.now (H.told shelf.old) (H.told shelf.new)
         (K.written out.old) (K.written out.new) (K.faults out.old) (K.faults out.new) status) }
+    ensures kept { OnOk result (H.told shelf.new ≡ H.told shelf.old) }
+    ensures kept_at_end { IfErr result (KeepsTold (H.told shelf.old) (H.told shelf.new)) }
     ensures later { IsLater (H.told shelf.old) (H.told shelf.new) }
 {
     let mut round = round;
@@ -69,6 +72,7 @@ fn write_rounds<H: Shelf, K: Sink>(
     requires { (going : List Going) × IsRunning going ready }
     ensures plays { Plays ready (map string_bytes rounds.now) (H.told shelf.old) (H.told shelf.new)
         (K.written out.old) (K.written out.new) (K.faults out.old) (K.faults out.new) result }
+    ensures kept { KeepsTold (H.told shelf.old) (H.told shelf.new) result }
     ensures later { IsLater (H.told shelf.old) (H.told shelf.new) }
 {
     let round = match settled_round(ready, out) {
@@ -96,6 +100,7 @@ fn write_run<H: Shelf, K: Sink>(
     ensures journal { WritesBehind []
         (RunsTo exchange (map string_bytes rounds.now) (H.told shelf.old) (H.told shelf.new))
         (K.written out.old) (K.written out.new) (K.faults out.old) (K.faults out.new) result }
+    ensures kept { KeepsTold (H.told shelf.old) (H.told shelf.new) result }
     ensures later { IsLater (H.told shelf.old) (H.told shelf.new) }
 {
     let _bidders = exchange.bidders();
@@ -108,7 +113,8 @@ fn write_run<H: Shelf, K: Sink>(
     }
 }
 /// Writes the journal of the session of the exchange of this name, whose rounds have the bids of the files of these names,
-/// at most 20. Each line is put as soon as it is known, and a round file is fetched only as its round begins.
+/// at most 20. Each line is put as soon as it is known, and a round file is fetched only as its round begins: where
+/// the session closes, stays open or is stopped, no fetch has failed.
 #[tactic(none)]
 pub fn run<H: Shelf, K: Sink>(
     alloc: Global,
@@ -118,9 +124,10 @@ pub fn run<H: Shelf, K: Sink>(
     out: &mut K,
 ) -> Status
     requires { length rounds.now ≤ 20 }
-    ensures { Serves (λ call. RunAnswers call exchange.now (map string_bytes rounds.now))
+    ensures served { Serves (λ call. RunAnswers call exchange.now (map string_bytes rounds.now))
         (H.told shelf.old) (H.told shelf.new)
         (K.written out.old) (K.written out.new) (K.faults out.old) (K.faults out.new) result }
+    ensures kept { KeepsTold (H.told shelf.old) (H.told shelf.new) result }
 {
     match read_exchange(alloc, 1, exchange, shelf) {
         Ok(exchange) => write_run(alloc, exchange, rounds, shelf, out),

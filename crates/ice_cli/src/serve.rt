@@ -2,6 +2,7 @@
 ghost use Rattle.std.specs.Prelude.{◌≡◌, ℕ, List, map, string_bytes};
 ghost use Rattle.ice_edge.specs.Edge.{Appends};
 ghost use Rattle.ice_cli.specs.Output.{words_line};
+ghost use Rattle.ice_cli.specs.Keeping.{KeepsTold};
 ghost use Rattle.ice_cli.specs.Parts.{IsSaid};
 ghost use Rattle.ice_cli.specs.Served.{IsServed};
 
@@ -34,16 +35,17 @@ fn refuse_words<K: Sink>(out: &mut K) -> Status
 /// session of a generated exchange, and `migrate JOURNAL` writes a journal of version 1 in version 2.
 ///
 /// Files come from `shelf`, output goes to `out`, and each line with its newline is one put. The status says how the
-/// call ended, and the clause ties it to the words, to what the shelf told, to the counts of faults that rose in this
+/// call ended, and the first clause ties it to the words, to what the shelf told, to the counts of faults that rose in this
 /// call, and to the text that was appended. Want of memory alone (`Status::NoMemory`) has no cause; nothing is written then,
-/// or whole lines of a journal that is no answer yet.
+/// or whole lines of a journal that is no answer yet. At each status but those of a file that is refused or unread, and of a
+/// sink that failed, the shelf tells the same after the call as before it: no fetch has failed.
 pub fn serve<H: Shelf, K: Sink>(
     alloc: Global,
     words: &[String],
     shelf: &mut H,
     out: &mut K,
 ) -> Status
-    ensures { (text : List ℕ) × Appends (K.written out.old) text (K.written out.new)
+    ensures served { (text : List ℕ) × Appends (K.written out.old) text (K.written out.new)
         × IsServed (record {
           words = map string_bytes words.now;
           before = H.told shelf.old;
@@ -53,6 +55,7 @@ pub fn serve<H: Shelf, K: Sink>(
           text = text;
           status = result;
         }) }
+    ensures kept { KeepsTold (H.told shelf.old) (H.told shelf.new) result }
 {
     match command_in(words) {
         Some(Command::Check { journal }) => check(alloc, journal, shelf, out),

@@ -1,11 +1,12 @@
 //! `xor`: the exchange that flat bids say.
-ghost use Rattle.std.specs.Prelude.{◌≡◌, ◌++◌, ◌∷◌, [], ℕ, List, IfOk, IfErr, Ok as Read};
+ghost use Rattle.std.specs.Prelude.{◌≡◌, ◌++◌, ◌∷◌, [], ℕ, List, IfOk, IfErr, OnOk, Ok as Read};
 ghost use Rattle.ice_read.specs.Written.{exchange_text};
 ghost use Rattle.ice_xor.specs.FlatFile.{flat_of};
 ghost use Rattle.ice_xor.specs.Faults.{maker_fault_number};
 ghost use Rattle.ice_xor.specs.Translating.{translate_refusal};
+ghost use Rattle.ice_cli.specs.Keeping.{KeepsTold};
 ghost use Rattle.ice_cli.specs.Parts.{AreFetched, Serves};
-ghost use Rattle.ice_cli.specs.Refusals.{IsFaultOf, Refuses};
+ghost use Rattle.ice_cli.specs.Refusals.{refusal_status, IsFaultOf, Refuses};
 ghost use Rattle.ice_cli.specs.XorServed.{bidder_fault, IsFlatFault, IsTranslation, IsTranslationOf, XorAnswers};
 ghost use Rattle.ice_cli.specs.XorParts.{IsBidderFault, IsMakerFault};
 
@@ -79,6 +80,9 @@ fn translation_of<H: Shelf>(alloc: Global, name: &str, shelf: &mut H) -> Result<
         × IsTranslationOf bytes line.items × AreFetched (H.told shelf.old) name.now FILE_LIMIT bytes) }
     ensures refusal { IfErr result
         (Refuses 1 name.now FILE_LIMIT IsFlatFault (H.told shelf.old) (H.told shelf.new)) }
+    ensures kept { OnOk result (H.told shelf.new ≡ H.told shelf.old) }
+    ensures kept_at_refusal { IfErr result (λ refusal.
+        KeepsTold (H.told shelf.old) (H.told shelf.new) (refusal_status refusal)) }
 {
     let bytes = fetch(alloc, 1, name, FILE_LIMIT, shelf)?;
     line_to(alloc, &bytes)
@@ -86,9 +90,10 @@ fn translation_of<H: Shelf>(alloc: Global, name: &str, shelf: &mut H) -> Result<
 
 /// Writes the exchange that the flat bids of the file of this name say, as one line.
 pub fn xor<H: Shelf, K: Sink>(alloc: Global, file: &str, shelf: &mut H, out: &mut K) -> Status
-    ensures { Serves (λ call. XorAnswers call file.now)
+    ensures served { Serves (λ call. XorAnswers call file.now)
         (H.told shelf.old) (H.told shelf.new)
         (K.written out.old) (K.written out.new) (K.faults out.old) (K.faults out.new) result }
+    ensures kept { KeepsTold (H.told shelf.old) (H.told shelf.new) result }
 {
     match translation_of(alloc, file, shelf) {
         Ok(line) => ended(out.put(&line), Status::Done),

@@ -8,8 +8,8 @@ use Rattle.ice_cli.proofs.Parts.{said}
 use Rattle.ice_cli.proofs.Besting.{sets_answer, refusal_answers}
 use Rattle.ice_cli.proofs.best.best.Goals as goal
 
-pub returns-in-Ok : goal.returns-in-Ok
-returns-in-Ok g c =
+pub returns-in-Ok-clause-served : goal.returns-in-Ok-clause-served
+returns-in-Ok-clause-served g c =
     let before = g.H.Shelf.told c.args.shelf.now in
     let after = g.H.Shelf.told c.best_of_files.new.shelf in
     let exchange = c.args.exchange.now in
@@ -24,8 +24,8 @@ returns-in-Ok g c =
           (g.K.Sink.faults c.args.out.now) (g.K.Sink.faults c.put_best.new.out) c.put_best.ensures.ok c.put_best.ensures.err c.put_best.ensures.failed c.ended.ensures,
     )
 
-pub returns-in-Err : goal.returns-in-Err
-returns-in-Err g c =
+pub returns-in-Err-clause-served : goal.returns-in-Err-clause-served
+returns-in-Err-clause-served g c =
     let before = g.H.Shelf.told c.args.shelf.now in
     let after = g.H.Shelf.told c.best_of_files.new.shelf in
     let refusal = c.in-Err.refusal in

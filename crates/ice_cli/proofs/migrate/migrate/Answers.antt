@@ -9,8 +9,8 @@ use Rattle.ice_cli.specs.Refusals.{refusal_text, refusal_status}
 use Rattle.ice_cli.proofs.Migrating.{journal_serves, failure_answers, refusal_answers}
 use Rattle.ice_cli.proofs.migrate.migrate.Goals as goal
 
-pub returns-in-Ok : goal.returns-in-Ok
-returns-in-Ok g c =
+pub returns-in-Ok-clause-served : goal.returns-in-Ok-clause-served
+returns-in-Ok-clause-served g c =
     let before = g.H.Shelf.told c.args.shelf.now in
     let after = g.H.Shelf.told c.journal_of.new.shelf in
     let file = c.args.journal.now in
@@ -20,16 +20,16 @@ returns-in-Ok g c =
     journal_serves before after file read c.put_packed.result c.ended.result (g.K.Sink.written c.args.out.now) (g.K.Sink.written c.put_packed.new.out)
     (g.K.Sink.faults c.args.out.now) (g.K.Sink.faults c.put_packed.new.out) told c.put_packed.ensures c.ended.ensures
 
-pub returns-in-Err-Fails : goal.returns-in-Err-Fails
-returns-in-Err-Fails g c =
+pub returns-in-Err-Fails-clause-served : goal.returns-in-Err-Fails-clause-served
+returns-in-Err-Fails-clause-served g c =
     let before = g.H.Shelf.told c.args.shelf.now in
     let after = g.H.Shelf.told c.journal_of.new.shelf in
     let file = c.args.journal.now in
     let failure : Failure = record { line = c.in-Err-Fails.line; rule = c.in-Err-Fails.rule } in
     (no_line failure, No, failure_answers before after file failure (subst (IsUnwritten file before after) c.in-Err-Fails.field-0-is c.in-Err-Fails.ensures.unwritten), c.say_answer.ensures)
 
-pub returns-in-Err-Refused : goal.returns-in-Err-Refused
-returns-in-Err-Refused g c =
+pub returns-in-Err-Refused-clause-served : goal.returns-in-Err-Refused-clause-served
+returns-in-Err-Refused-clause-served g c =
     let before = g.H.Shelf.told c.args.shelf.now in
     let after = g.H.Shelf.told c.journal_of.new.shelf in
     let file = c.args.journal.now in

@@ -3,15 +3,15 @@ use Rattle.ice_cli.specs.Replaying.{found_text, found_status}
 use Rattle.ice_cli.proofs.Replayed.{found_answers, refusal_answers}
 use Rattle.ice_cli.proofs.replay.replay.Goals as goal
 
-pub returns-in-Ok : goal.returns-in-Ok
-returns-in-Ok g c =
+pub returns-in-Ok-clause-served : goal.returns-in-Ok-clause-served
+returns-in-Ok-clause-served g c =
     let before = g.H.Shelf.told c.args.shelf.now in
     let after = g.H.Shelf.told c.found_of.new.shelf in
     let found = c.in-Ok.found in
     (found_text found, found_status found, found_answers before after c.args.journal.now c.args.number found c.in-Ok.ensures.found, c.say_found.ensures)
 
-pub returns-in-Err : goal.returns-in-Err
-returns-in-Err g c =
+pub returns-in-Err-clause-served : goal.returns-in-Err-clause-served
+returns-in-Err-clause-served g c =
     let before = g.H.Shelf.told c.args.shelf.now in
     let after = g.H.Shelf.told c.found_of.new.shelf in
     let refusal = c.in-Err.refusal in

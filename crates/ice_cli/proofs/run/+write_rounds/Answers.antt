@@ -4,6 +4,7 @@ use Rattle.std.proofs.lemmas.List.{nil_from_length}
 use Rattle.ice_round.proofs.GoingOn.{more_rounds}
 use Rattle.ice_cli.proofs.Parts.{later_refl, later_trans}
 use Rattle.ice_cli.proofs.RunPlaying.{plays_ends, plays_open, plays_in_round, plays_on}
+use Rattle.ice_cli.proofs.Keeping.{kept_behind}
 use Rattle.ice_cli.proofs.run.+write_rounds.Goals as goal
 
 pub settled_round-requires : goal.settled_round-requires
@@ -73,3 +74,17 @@ returns-in-Err-write_round-clause-plays g t c =
 
 pub returns-in-Err-write_round-clause-later : goal.returns-in-Err-write_round-clause-later
 returns-in-Err-write_round-clause-later g t c = c.write_round.ensures.later
+
+pub returns-in-Err-clause-kept : goal.returns-in-Err-clause-kept
+returns-in-Err-clause-kept g t c = λ no_file. refl
+
+pub returns-in-None-clause-kept : goal.returns-in-None-clause-kept
+returns-in-None-clause-kept g t c = λ no_file. refl
+
+pub returns-in-Ok-write_round-clause-kept : goal.returns-in-Ok-write_round-clause-kept
+returns-in-Ok-write_round-clause-kept g t c =
+    kept_behind (g.H.Shelf.told c.args.shelf.now) (g.H.Shelf.told c.write_round.new.shelf) (g.H.Shelf.told c.write_rounds.new.shelf) c.write_rounds.result
+    c.in-Ok-write_round.ensures.kept c.write_rounds.ensures.kept
+
+pub returns-in-Err-write_round-clause-kept : goal.returns-in-Err-write_round-clause-kept
+returns-in-Err-write_round-clause-kept g t c = c.in-Err-write_round.ensures.kept_at_end

@@ -5,6 +5,7 @@ use Rattle.ice_cli.specs.Files.{IsRoundFault, HoldsBids}
 use Rattle.ice_cli.specs.Refusals.{Refuses}
 use Rattle.ice_cli.specs.RunSteps.{EndsRound}
 use Rattle.ice_cli.proofs.RunPlaying.{round_done, round_fails, refusal_ends}
+use Rattle.ice_cli.proofs.Keeping.{refusal_keeps}
 use Rattle.ice_cli.proofs.run.write_round.Goals as goal
 
 pub overflow_add-number : goal.overflow_add-number
@@ -47,3 +48,15 @@ returns-in-Err-clause-ended g c =
 
 pub returns-in-Err-clause-later : goal.returns-in-Err-clause-later
 returns-in-Err-clause-later g c = c.read_round.ensures.later
+
+pub returns-in-Ok-judge-clause-kept : goal.returns-in-Ok-judge-clause-kept
+returns-in-Ok-judge-clause-kept g c = c.in-Ok.ensures.kept
+
+pub returns-in-Err-Failed-clause-kept_at_end : goal.returns-in-Err-Failed-clause-kept_at_end
+returns-in-Err-Failed-clause-kept_at_end g c = λ no_file. absurd no_file
+
+pub returns-in-Err-clause-kept_at_end : goal.returns-in-Err-clause-kept_at_end
+returns-in-Err-clause-kept_at_end g c =
+    refusal_keeps (g.H.Shelf.told c.args.shelf.now) (g.H.Shelf.told c.read_round.new.shelf) c.in-Err.refusal
+    (g.K.Sink.written c.args.out.now) (g.K.Sink.written c.say.new.out) (g.K.Sink.faults c.args.out.now) (g.K.Sink.faults c.say.new.out) c.say.result
+    c.in-Err.ensures.kept_at_refusal c.say.ensures

@@ -38,3 +38,12 @@ returns-in-Err-Failed-clause-journal g c =
 
 pub returns-in-Err-Failed-clause-later : goal.returns-in-Err-Failed-clause-later
 returns-in-Err-Failed-clause-later g c = later_refl (g.H.Shelf.told c.args.shelf.now)
+
+pub returns-in-Ok-start-clause-kept : goal.returns-in-Ok-start-clause-kept
+returns-in-Ok-start-clause-kept g c = c.write_rounds.ensures.kept
+
+pub returns-in-Err-clause-kept : goal.returns-in-Err-clause-kept
+returns-in-Err-clause-kept g c = λ no_file. refl
+
+pub returns-in-Err-Failed-clause-kept : goal.returns-in-Err-Failed-clause-kept
+returns-in-Err-Failed-clause-kept g c = λ no_file. refl

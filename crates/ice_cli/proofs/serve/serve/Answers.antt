@@ -13,8 +13,8 @@ use Rattle.ice_cli.proofs.Parts.{served, refused_words}
 use Rattle.ice_cli.proofs.Trials.{serves_said}
 use Rattle.ice_cli.proofs.serve.serve.Goals as goal
 
-pub returns-in-Some-Check : goal.returns-in-Some-Check
-returns-in-Some-Check g c =
+pub returns-in-Some-Check-clause-served : goal.returns-in-Some-Check-clause-served
+returns-in-Some-Check-clause-served g c =
     let journal = c.in-Some-Check.journal.now in
     let call : Call = record {
       words = map string_bytes c.args.words.now;
@@ -26,10 +26,10 @@ returns-in-Some-Check g c =
       status = c.check.result;
     } in
     served call (check journal) (λ one. CheckAnswers one journal) (g.K.Sink.written c.args.out.now) (g.K.Sink.written c.check.new.out)
-    (rw c.in-Some-Check.field-0-is at c.in-Some-Check.ensures) (λ text status h. h) c.check.ensures
+    (rw c.in-Some-Check.field-0-is at c.in-Some-Check.ensures) (λ text status h. h) c.check.ensures.served
 
-pub returns-in-Some-Best : goal.returns-in-Some-Best
-returns-in-Some-Best g c =
+pub returns-in-Some-Best-clause-served : goal.returns-in-Some-Best-clause-served
+returns-in-Some-Best-clause-served g c =
     let exchange = c.in-Some-Best.exchange.now in
     let prices = c.in-Some-Best.prices.now in
     let call : Call = record {
@@ -42,10 +42,10 @@ returns-in-Some-Best g c =
       status = c.best.result;
     } in
     served call (best exchange prices) (λ one. BestAnswers one exchange prices) (g.K.Sink.written c.args.out.now) (g.K.Sink.written c.best.new.out)
-    (rw c.in-Some-Best.field-0-is at c.in-Some-Best.ensures) (λ text status h. h) c.best.ensures
+    (rw c.in-Some-Best.field-0-is at c.in-Some-Best.ensures) (λ text status h. h) c.best.ensures.served
 
-pub returns-in-Some-Regret : goal.returns-in-Some-Regret
-returns-in-Some-Regret g c =
+pub returns-in-Some-Regret-clause-served : goal.returns-in-Some-Regret-clause-served
+returns-in-Some-Regret-clause-served g c =
     let exchange = c.in-Some-Regret.exchange.now in
     let call : Call = record {
       words = map string_bytes c.args.words.now;
@@ -57,10 +57,10 @@ returns-in-Some-Regret g c =
       status = c.regret.result;
     } in
     served call (regret exchange) (λ one. RegretAnswers one exchange) (g.K.Sink.written c.args.out.now) (g.K.Sink.written c.regret.new.out)
-    (rw c.in-Some-Regret.field-0-is at c.in-Some-Regret.ensures) (λ text status h. h) c.regret.ensures
+    (rw c.in-Some-Regret.field-0-is at c.in-Some-Regret.ensures) (λ text status h. h) c.regret.ensures.served
 
-pub returns-in-Some-Xor : goal.returns-in-Some-Xor
-returns-in-Some-Xor g c =
+pub returns-in-Some-Xor-clause-served : goal.returns-in-Some-Xor-clause-served
+returns-in-Some-Xor-clause-served g c =
     let file = c.in-Some-Xor.file.now in
     let call : Call = record {
       words = map string_bytes c.args.words.now;
@@ -72,10 +72,10 @@ returns-in-Some-Xor g c =
       status = c.xor.result;
     } in
     served call (xor file) (λ one. XorAnswers one file) (g.K.Sink.written c.args.out.now) (g.K.Sink.written c.xor.new.out)
-    (rw c.in-Some-Xor.field-0-is at c.in-Some-Xor.ensures) (λ text status h. h) c.xor.ensures
+    (rw c.in-Some-Xor.field-0-is at c.in-Some-Xor.ensures) (λ text status h. h) c.xor.ensures.served
 
-pub returns-in-Some-Replay : goal.returns-in-Some-Replay
-returns-in-Some-Replay g c =
+pub returns-in-Some-Replay-clause-served : goal.returns-in-Some-Replay-clause-served
+returns-in-Some-Replay-clause-served g c =
     let journal = c.in-Some-Replay.journal.now in
     let number = c.in-Some-Replay.number in
     let call : Call = record {
@@ -88,10 +88,10 @@ returns-in-Some-Replay g c =
       status = c.replay.result;
     } in
     served call (replay journal number) (λ one. ReplayAnswers one journal number) (g.K.Sink.written c.args.out.now) (g.K.Sink.written c.replay.new.out)
-    (rw c.in-Some-Replay.field-0-is at c.in-Some-Replay.ensures) (λ text status h. h) c.replay.ensures
+    (rw c.in-Some-Replay.field-0-is at c.in-Some-Replay.ensures) (λ text status h. h) c.replay.ensures.served
 
-pub returns-in-Some-Run : goal.returns-in-Some-Run
-returns-in-Some-Run g c =
+pub returns-in-Some-Run-clause-served : goal.returns-in-Some-Run-clause-served
+returns-in-Some-Run-clause-served g c =
     let exchange = c.in-Some-Run.exchange.now in
     let rounds = map string_bytes c.in-Some-Run.rounds.now in
     let call : Call = record {
@@ -104,10 +104,10 @@ returns-in-Some-Run g c =
       status = c.run.result;
     } in
     served call (run exchange rounds) (λ one. RunAnswers one exchange rounds) (g.K.Sink.written c.args.out.now) (g.K.Sink.written c.run.new.out)
-    (rw c.in-Some-Run.field-0-is at c.in-Some-Run.ensures) (λ text status h. h) c.run.ensures
+    (rw c.in-Some-Run.field-0-is at c.in-Some-Run.ensures) (λ text status h. h) c.run.ensures.served
 
-pub returns-in-Some-Gen : goal.returns-in-Some-Gen
-returns-in-Some-Gen g c =
+pub returns-in-Some-Gen-clause-served : goal.returns-in-Some-Gen-clause-served
+returns-in-Some-Gen-clause-served g c =
     let number = c.in-Some-Gen.number in
     let shelf = g.H.Shelf.told c.args.shelf.now in
     let call : Call = record {
@@ -124,8 +124,8 @@ returns-in-Some-Gen g c =
     (serves_said (λ text. GenAnswers text number) shelf shelf (g.K.Sink.written c.args.out.now) (g.K.Sink.written c.generated.new.out) (g.K.Sink.faults c.args.out.now) (g.K.Sink.faults c.generated.new.out)
     c.generated.result c.generated.ensures)
 
-pub returns-in-Some-Migrate : goal.returns-in-Some-Migrate
-returns-in-Some-Migrate g c =
+pub returns-in-Some-Migrate-clause-served : goal.returns-in-Some-Migrate-clause-served
+returns-in-Some-Migrate-clause-served g c =
     let journal = c.in-Some-Migrate.journal.now in
     let call : Call = record {
       words = map string_bytes c.args.words.now;
@@ -137,10 +137,10 @@ returns-in-Some-Migrate g c =
       status = c.migrate.result;
     } in
     served call (migrate journal) (λ one. MigrateAnswers one journal) (g.K.Sink.written c.args.out.now) (g.K.Sink.written c.migrate.new.out)
-    (rw c.in-Some-Migrate.field-0-is at c.in-Some-Migrate.ensures) (λ text status h. h) c.migrate.ensures
+    (rw c.in-Some-Migrate.field-0-is at c.in-Some-Migrate.ensures) (λ text status h. h) c.migrate.ensures.served
 
-pub returns-in-None : goal.returns-in-None
-returns-in-None g c =
+pub returns-in-None-clause-served : goal.returns-in-None-clause-served
+returns-in-None-clause-served g c =
     let shelf = g.H.Shelf.told c.args.shelf.now in
     let call : Call = record {
       words = map string_bytes c.args.words.now;

@@ -7,8 +7,8 @@ use Rattle.ice_cli.proofs.Parts.{said}
 use Rattle.ice_cli.proofs.Translating.{line_answers}
 use Rattle.ice_cli.proofs.xor.xor.Goals as goal
 
-pub returns-in-Ok : goal.returns-in-Ok
-returns-in-Ok g c =
+pub returns-in-Ok-clause-served : goal.returns-in-Ok-clause-served
+returns-in-Ok-clause-served g c =
     let before = g.H.Shelf.told c.args.shelf.now in
     let after = g.H.Shelf.told c.translation_of.new.shelf in
     let file = c.args.file.now in
