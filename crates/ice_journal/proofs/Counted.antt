@@ -1,7 +1,8 @@
 -- Lists behind their count.
-use Rattle.std.proofs.Common.{◌≡◌, ℕ, ◌<◌, ◌≤◌, List, [], ◌∷◌, ◌++◌, length, map, decimal, ℤ, refl, sym, ap, ◌∙◌, arith, append-nil, length-append}
+use Rattle.std.proofs.Common.{◌≡◌, ℕ, ◌<◌, ◌≤◌, List, [], ◌∷◌, ◌++◌, length, map, decimal, ℤ, sym, ap, ◌∙◌, arith, append-nil, length-append}
 use Rattle.std.specs.List.{AllByRecursion}
 use Rattle.std.specs.Fmt.{signed_decimal}
+use Rattle.std.proofs.lemmas.List.{nil_from_length}
 use Rattle.ice_journal.specs.Ranges.{IsValue}
 use Rattle.ice_journal.specs.Spelling.{counted}
 use Rattle.ice_journal.proofs.Listed.{Tail, front}
@@ -41,16 +42,12 @@ bad_value entry count items fields after field read short cut none ys rest lawfu
     let found = rest_of entry count items fields read ys rest lawful e in
     no_value found.1.tail field after fields rest found.1.lawful (omega (arith, found.0, ap length found.1.whole, length-append items found.1.tail)) cut found.1.spelled none
 
-nil_of : {A : Type 0} (xs : List A) → length xs ≡ 0 → xs ≡ []
-nil_of [] e = refl
-nil_of (x ∷ xs) e = absurd (omega arith)
-
 -- all of them are read
 pub all_values : (entry : List (List ℕ)) (count : ℕ) (items : List ℤ) (fields : List (List ℕ)) → PartRead entry count items fields → count ≤ length items
     → (ys : List ℤ) (rest : List (List ℕ)) → AreValues ys → entry ≡ counted ys ++ rest → (ys ≡ items) × (rest ≡ fields)
 all_values entry count items fields read done ys rest lawful e =
     let found = rest_of entry count items fields read ys rest lawful e in
-    let none : found.1.tail ≡ [] = nil_of found.1.tail (omega (arith, found.0, read.fits, ap length found.1.whole, length-append items found.1.tail)) in (
+    let none : found.1.tail ≡ [] = nil_from_length found.1.tail (omega (arith, found.0, read.fits, ap length found.1.whole, length-append items found.1.tail)) in (
       found.1.whole ∙ ap (λ (t : List ℤ). items ++ t) none ∙ append-nil items,
       sym (found.1.spelled ∙ ap (λ (t : List ℤ). map signed_decimal t ++ rest) none),
     )

@@ -5,6 +5,7 @@ use Rattle.std.proofs.lemmas.Bool.{ltb-true, and_parts}
 use Rattle.std.proofs.lemmas.List.{append-nil}
 use Rattle.std.proofs.lemmas.List.Concat.{flat_map-cons}
 use Rattle.std.proofs.lemmas.List.Elements.{Contains-append_right}
+use Rattle.ice_defs.proofs.Lists.{all-append}
 use Rattle.ice_journal.specs.Records.{Record}
 use Rattle.ice_journal.specs.Ranges.{IsRecord}
 use Rattle.ice_journal.specs.Spelling.{fields_of, text_of, line_of}
@@ -27,20 +28,16 @@ clear_line (b ∷ bs) p =
     let above : 32 < b = ltb-true 32 b h.0 in
     (λ e. absurd (omega arith), clear_line bs h.1)
 
-one_line-append : (a b : List ℕ) → IsOneLine a → IsOneLine b → IsOneLine (a ++ b)
-one_line-append [] b p q = q
-one_line-append (x ∷ xs) b p q = (p.0, one_line-append xs b p.1 q)
-
 joined_line : (all : List (List ℕ)) → AreClear all → IsOneLine (join_with_byte 32 all)
 joined_line [] p = tt
 joined_line (f ∷ []) p = clear_line f p.0
-joined_line (f ∷ g ∷ fs) p = one_line-append f (32 ∷ join_with_byte 32 (g ∷ fs)) (clear_line f p.0) (λ e. absurd (omega arith), joined_line (g ∷ fs) p.1)
+joined_line (f ∷ g ∷ fs) p = all-append (λ b. b ≡ 10 → ⊥) f (32 ∷ join_with_byte 32 (g ∷ fs)) (clear_line f p.0) (λ e. absurd (omega arith), joined_line (g ∷ fs) p.1)
 
-record_line : (r : Record) → IsRecord r → IsOneLine (text_of r)
+pub record_line : (r : Record) → IsRecord r → IsOneLine (text_of r)
 record_line r h = joined_line (fields_of r) (clear_record r h)
 
 -- the first newline ends the first line
-first_line : (a b x y : List ℕ) → IsOneLine a → IsOneLine b → a ++ 10 ∷ x ≡ b ++ 10 ∷ y → (a ≡ b) × (x ≡ y)
+pub first_line : (a b x y : List ℕ) → IsOneLine a → IsOneLine b → a ++ 10 ∷ x ≡ b ++ 10 ∷ y → (a ≡ b) × (x ≡ y)
 first_line [] [] x y p q e = (refl, cc)
 first_line [] (b ∷ bs) x y p q e = absurd (q.0 (cc))
 first_line (a ∷ more) [] x y p q e = absurd (p.0 (cc))
@@ -56,7 +53,7 @@ no_newline [] (b ∷ bs) x p e = absurd cc
 no_newline (a ∷ more) [] x p e = p.0 (cc)
 no_newline (a ∷ more) (b ∷ bs) x p e = no_newline more bs x p.1 (cc)
 
-some_line : (text after : List ℕ) → [] ≡ text ++ 10 ∷ after → ⊥
+pub some_line : (text after : List ℕ) → [] ≡ text ++ 10 ∷ after → ⊥
 some_line [] after e = absurd cc
 some_line (b ∷ bs) after e = absurd cc
 

@@ -9,5 +9,6 @@ pub mod Numbers
 pub mod Journals
 pub mod Counted
 pub mod Numerators
+pub mod Tested
 pub mod Joined
 pub mod Packed

@@ -4,6 +4,7 @@ use Rattle.std.specs.List.{join_with_byte, AllByRecursion, flat_map}
 use Rattle.std.specs.Fmt.{signed_decimal}
 use Rattle.std.specs.Int.{IsInRange}
 use Rattle.std.specs.Str.{bytes_eq}
+use Rattle.std.proofs.lemmas.List.{nil_from_length}
 use Rattle.std.proofs.lemmas.List.Concat.{flat_map-cons}
 use Rattle.std.proofs.lemmas.List.Splits.{join_with_byte-slice_split}
 use Rattle.ice_defs.specs.declared.Verdict.{Verdict}
@@ -28,10 +29,6 @@ use Rattle.ice_journal.proofs.RecordParts as row
 
 some_same : {A : Type 0} {x y : A} → Some x ≡ Some y → x ≡ y
 some_same e = cc
-
-nil_of : {A : Type 0} (xs : List A) → length xs ≡ 0 → xs ≡ []
-nil_of [] e = refl
-nil_of (x ∷ xs) e = absurd (omega arith)
 
 digit_or_minus : (n k : ℕ) → n < 10 ^ 60 → decimal n ≡ 45 ∷ decimal k → ⊥
 digit_or_minus n k small e =
@@ -276,7 +273,7 @@ counted_same xs ys a b hx hy px py e =
     let more : map signed_decimal xs ++ a ≡ map signed_decimal ys ++ b = cc in
     let count = decimal_same (length xs) (length ys) (omega arith) (omega arith) counts in
     let found = front IsValue signed_decimal value_same xs ys a b px py (omega arith) more in
-    let none : found.tail ≡ [] = nil_of (found.tail) (omega (arith, ap length found.whole, length-append xs found.tail)) in
+    let none : found.tail ≡ [] = nil_from_length found.tail (omega (arith, ap length found.whole, length-append xs found.tail)) in
     (sym (found.whole ∙ ap (λ (t : List ℤ). xs ++ t) none ∙ append-nil xs), found.spelled ∙ ap (λ (t : List ℤ). map signed_decimal t ++ b) none)
 
 submission_same : (s t : Submission) → IsRecord (line.submit s) → IsRecord (line.submit t) → part_fields row.submit_row s ≡ part_fields row.submit_row t → s ≡ t
