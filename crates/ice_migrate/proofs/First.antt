@@ -1,9 +1,7 @@
 -- The first line of the bytes of a journal is the text of its first record.
-use Rattle.std.proofs.Common.{◌≡◌, ℕ, ◌<◌, ltb, List, [], ◌∷◌, ◌++◌, Contains, length, take, ◌+◌, refl, sym, ap, subst, ◌∙◌, append_assoc, arith}
+use Rattle.std.proofs.Common.{◌≡◌, ℕ, List, [], ◌∷◌, ◌++◌, Contains, length, take, ◌+◌, refl, sym, ap, subst, ◌∙◌, append_assoc, arith}
 use Rattle.std.specs.Prelude.{Option, Some, None, IfSome, option_map}
 use Rattle.std.specs.Borrow.{Bor}
-use Rattle.std.specs.List.{join_with_byte}
-use Rattle.std.proofs.lemmas.Bool.{ltb-true, and_parts}
 use Rattle.std.proofs.Math.Seq.{take-append-add}
 use Rattle.std.proofs.lemmas.List.Concat.{flat_map-cons}
 use Rattle.std.proofs.lemmas.List.Elements.{Contains-append_right}
@@ -11,46 +9,11 @@ use Rattle.ice_line.specs.Reading.{Reads}
 use Rattle.ice_journal.specs.declared.line.Line.{Line}
 use Rattle.ice_journal.specs.Records.{Record}
 use Rattle.ice_journal.specs.Ranges.{IsRecord}
-use Rattle.ice_journal.specs.Spelling.{fields_of, text_of, line_of}
+use Rattle.ice_journal.specs.Spelling.{text_of, line_of}
 use Rattle.ice_journal.specs.Journal.{bytes_of, IsJournal}
 use Rattle.ice_journal.specs.Lines.{record_of}
-use Rattle.ice_journal.proofs.Clear.{IsClear, AreClear, is_clear, clear_record}
-use Rattle.ice_journal.proofs.Journals.{IsOneLine, one_line}
+use Rattle.ice_journal.proofs.Journals.{one_line, record_line, first_line, some_line}
 use Rattle.ice_migrate.specs.Reading.{Starts, HasLine}
-
-clear_field : (field : List ℕ) → IsClear field → IsOneLine field
-clear_field [] p = tt
-clear_field (b ∷ bs) p =
-    let h = and_parts (ltb 32 b) (is_clear bs) p in
-    let above : 32 < b = ltb-true 32 b h.0 in
-    (λ e. absurd (omega arith), clear_field bs h.1)
-
-append_fields : (a b : List ℕ) → IsOneLine a → IsOneLine b → IsOneLine (a ++ b)
-append_fields [] b p q = q
-append_fields (x ∷ xs) b p q = (p.0, append_fields xs b p.1 q)
-
-joined_fields : (all : List (List ℕ)) → AreClear all → IsOneLine (join_with_byte 32 all)
-joined_fields [] p = tt
-joined_fields (f ∷ []) p = clear_field f p.0
-joined_fields (f ∷ g ∷ fs) p = append_fields f (32 ∷ join_with_byte 32 (g ∷ fs)) (clear_field f p.0) (λ e. absurd (omega arith), joined_fields (g ∷ fs) p.1)
-
-text_is_line : (r : Record) → IsRecord r → IsOneLine (text_of r)
-text_is_line r h = joined_fields (fields_of r) (clear_record r h)
-
--- the first newline ends the first line
-pub same_line : (a b x y : List ℕ) → IsOneLine a → IsOneLine b → a ++ 10 ∷ x ≡ b ++ 10 ∷ y → (a ≡ b) × (x ≡ y)
-same_line [] [] x y p q e = (refl, cc)
-same_line [] (b ∷ bs) x y p q e = absurd (q.0 (cc))
-same_line (a ∷ more) [] x y p q e = absurd (p.0 (cc))
-same_line (a ∷ more) (b ∷ bs) x y p q e =
-    let rest : more ++ 10 ∷ x ≡ bs ++ 10 ∷ y = cc in
-    let h = same_line more bs x y p.1 q.1 rest in
-    let heads : a ≡ b = cc in
-    (λ i. heads i ∷ h.0 i, h.1)
-
-no_line : (text after : List ℕ) → [] ≡ text ++ 10 ∷ after → ⊥
-no_line [] after e = absurd cc
-no_line (b ∷ bs) after e = absurd cc
 
 opened : (bytes : List ℕ) (r : Record) (rest : List Record) → IsJournal bytes (r ∷ rest) → bytes ≡ text_of r ++ 10 ∷ bytes_of rest
 opened bytes r rest is = is.spelled ∙ flat_map-cons line_of r rest ∙ append_assoc (text_of r) (10 ∷ []) (bytes_of rest)
@@ -62,9 +25,9 @@ spelled r text (Some found) lawful is reads after rest journal = (sym (reads.2 r
 -- a line is there, and it is read
 pub starts : (bytes text after : List ℕ) (found : Option Line) → bytes ≡ text ++ 10 ∷ after → ¬ Contains text 10 → Reads (option_map record_of found) IsRecord text_of text
     → (left : List Record) → IsJournal bytes left → Starts left found after
-starts bytes text after found parts one reads [] is = absurd (no_line text after (sym is.spelled ∙ parts))
+starts bytes text after found parts one reads [] is = absurd (some_line text after (sym is.spelled ∙ parts))
 starts bytes text after found parts one reads (r ∷ rest) is =
-    let both = same_line text (text_of r) after (bytes_of rest) (one_line text one) (text_is_line r is.lawful.0) (sym parts ∙ opened bytes r rest is) in
+    let both = first_line text (text_of r) after (bytes_of rest) (one_line text one) (record_line r is.lawful.0) (sym parts ∙ opened bytes r rest is) in
     spelled r text found is.lawful.0 both.0 reads after rest (record { lawful = is.lawful.1; spelled = both.1 })
 
 -- no line is there
@@ -75,9 +38,9 @@ starts_none bytes none (r ∷ rest) is = none (subst (λ (l : List ℕ). Contain
 -- a line is there, with its newline
 pub has_line : (bytes text after : List ℕ) (found : Bor (List ℕ)) → bytes ≡ text ++ 10 ∷ after → ¬ Contains text 10 → found.now ≡ text ++ 10 ∷ []
     → (left : List Record) → IsJournal bytes left → HasLine left (Some found) after
-has_line bytes text after found parts one whole [] is = absurd (no_line text after (sym is.spelled ∙ parts))
+has_line bytes text after found parts one whole [] is = absurd (some_line text after (sym is.spelled ∙ parts))
 has_line bytes text after found parts one whole (r ∷ rest) is =
-    let both = same_line text (text_of r) after (bytes_of rest) (one_line text one) (text_is_line r is.lawful.0) (sym parts ∙ opened bytes r rest is) in
+    let both = first_line text (text_of r) after (bytes_of rest) (one_line text one) (record_line r is.lawful.0) (sym parts ∙ opened bytes r rest is) in
     (is.lawful.0, whole ∙ ap (λ (l : List ℕ). l ++ 10 ∷ []) both.0, record { lawful = is.lawful.1; spelled = both.1 })
 
 -- the bytes up to the first newline, with it
