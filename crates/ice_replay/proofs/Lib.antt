@@ -10,5 +10,3 @@ pub mod Answering
 pub mod Played
 -- the names and the bounds of the bidders, one more at a time
 pub mod Listed
--- prices are in the ranges of their record
-pub mod Priced

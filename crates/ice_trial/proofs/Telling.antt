@@ -12,11 +12,11 @@ use Rattle.ice_defs.specs.Exchange.{Exchange, Bidder, exact_of, trees_of, names_
 use Rattle.ice_defs.specs.Session.{standings}
 use Rattle.ice_terms.specs.Terms.{ArePriceTerms}
 use Rattle.ice_round.specs.SessionAt.{SessionAt, RoundAt, session_after}
+use Rattle.ice_journal.proofs.Tested.{prices_are}
 use Rattle.ice_round.specs.Shown.{going_of, IsOpening}
 use Rattle.ice_round.specs.declared.settled.Opening.{Opening}
 use Rattle.ice_write_session.specs.Writable.{IsWritableOpening}
 use Rattle.ice_write_session.proofs.Lawful.{opening_are_records}
-use Rattle.ice_write_session.proofs.Ranges.{prices_are}
 use Rattle.ice_round_laws.specs.Running.{IsRunning, IsInRound}
 use Rattle.ice_round_laws.proofs.Rounds.{round_begins, round_ends}
 use Rattle.ice_round_laws.proofs.Ends.{opening_may_be_written}

@@ -1,6 +1,6 @@
 use Rattle.std.proofs.Common.{sym, subst}
 use Rattle.ice_journal.specs.Ranges.{ArePricesRecord}
-use Rattle.ice_replay.proofs.Priced.{prices_are}
+use Rattle.ice_journal.proofs.Tested.{prices_are}
 use Rattle.ice_replay.proofs.putting.put_prices.Goals as goal
 
 pub put_record-requires : goal.put_record-requires

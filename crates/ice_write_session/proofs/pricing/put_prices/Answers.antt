@@ -1,6 +1,6 @@
 use Rattle.std.proofs.Common.{sym, subst}
 use Rattle.ice_journal.specs.Ranges.{ArePricesRecord}
-use Rattle.ice_write_session.proofs.Ranges.{prices_are}
+use Rattle.ice_journal.proofs.Tested.{prices_are}
 use Rattle.ice_write_session.proofs.pricing.put_prices.Goals as goal
 
 pub put_line-requires : goal.put_line-requires
