@@ -183,7 +183,7 @@ pub end_answers : EndIsAnswer
 end_answers = end_is_answer section_is_lawful section_records_are
 
 -- bytes are one journal, or have one least line at fault
-ok_same : (j k : List Record) → (let a : Result (List Record) LinesFault = Ok j in a) ≡ Ok k → j ≡ k
+pub ok_same : (j k : List Record) → (let a : Result (List Record) LinesFault = Ok j in a) ≡ Ok k → j ≡ k
 ok_same j k e = cc
 
 ok_err : (j : List Record) (fault : LinesFault) → (let a : Result (List Record) LinesFault = Ok j in a) ≡ Err fault → ⊥

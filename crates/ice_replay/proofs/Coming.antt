@@ -98,10 +98,10 @@ pub record IsLast (number : ℕ) (s : State) (records : List Record) (r : Record
   pub place : state.place ≡ at_regret
   pub number_is : state.number ≡ number
 
-head_is : (a b : Record) (xs ys : List Record) → a ∷ xs ≡ b ∷ ys → a ≡ b
+pub head_is : (a b : Record) (xs ys : List Record) → a ∷ xs ≡ b ∷ ys → a ≡ b
 head_is a b xs ys e = cc
 
-rest_is : (a b : Record) (xs ys : List Record) → a ∷ xs ≡ b ∷ ys → xs ≡ ys
+pub rest_is : (a b : Record) (xs ys : List Record) → a ∷ xs ≡ b ∷ ys → xs ≡ ys
 rest_is a b xs ys e = cc
 
 nothing_stands : (r : Record) (before rest : List Record) → [] ≡ before ++ r ∷ rest → ⊥

@@ -19,7 +19,7 @@ use Rattle.ice_journal_laws.specs.Fields.{head_value, set_in, is_assign, settlem
 use Rattle.ice_journal_laws.specs.State.{Stated, Place, at_section, at_group, at_sets, at_log, at_regret, at_prices, at_accuracy, at_accuracy_rows, at_balance_rows, at_round, at_verdict, at_threshold, at_payment, at_spent_sets, at_spent_log, at_pool, at_end, done, State, exchange_at, settings_at, goods_at}
 use Rattle.ice_journal_laws.specs.Next.{next, next_at, go_to, to_line, bidder_count, if_true, or_stop, may_have_row, with_row, from_head, after_sets, with_set, after_log, after_step, after_regret, to_balance, settled, to_settlement, from_round, open_after, from_end, after_section, section_ended, from_section, after_all}
 use Rattle.ice_replay.specs.Settlements.{Settles}
-use Rattle.ice_replay.proofs.Coming.{some_is}
+use Rattle.ice_replay.proofs.Coming.{some_is, head_is, rest_is}
 
 -- behind the regret of its settlement
 abbrev is_late_group : Group → Bool
@@ -275,12 +275,6 @@ pub data Placed (xs ys : List Record) (x y : Record) (after later : List Record)
   same : xs ≡ ys → x ≡ y → after ≡ later → Placed xs ys x y after later
   first : (mid : List Record) → ys ≡ xs ++ x ∷ mid → Placed xs ys x y after later
   second : (mid : List Record) → xs ≡ ys ++ y ∷ mid → Placed xs ys x y after later
-
-head_is : (a b : Record) (xs ys : List Record) → a ∷ xs ≡ b ∷ ys → a ≡ b
-head_is a b xs ys e = cc
-
-rest_is : (a b : Record) (xs ys : List Record) → a ∷ xs ≡ b ∷ ys → xs ≡ ys
-rest_is a b xs ys e = cc
 
 placed : (xs ys : List Record) (x y : Record) (after later : List Record) → xs ++ x ∷ after ≡ ys ++ y ∷ later → Placed xs ys x y after later
 placed [] [] x y after later e = same refl (head_is x y after later e) (rest_is x y after later e)

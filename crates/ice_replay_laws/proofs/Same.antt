@@ -1,11 +1,11 @@
 -- Bytes have one replay of a settlement.
 use Rattle.std.proofs.Common.{◌≡◌, ℕ, List, ◌∷◌, ℤ, sym, ◌∙◌, ap, subst}
-use Rattle.std.specs.Prelude.{Result, Ok}
+use Rattle.std.specs.Prelude.{Ok}
 use Rattle.ice_defs.specs.Exchange.{names_of}
 use Rattle.ice_journal.specs.Records.{Record, session_kind}
 use Rattle.ice_journal.specs.Records as line
-use Rattle.ice_journal.specs.Journal.{LinesFault}
 use Rattle.ice_journal.proofs.Journals.{one_answer as bytes_tell}
+use Rattle.ice_journal_laws.proofs.Answered.{ok_same}
 use Rattle.ice_journal_laws.specs.State.{State, begun, exchange_at}
 use Rattle.ice_replay.specs.declared.settlement.Replay.{Replay}
 use Rattle.ice_replay.specs.Settlements.{OfSession, Settles, prices_from, prices_of}
@@ -35,9 +35,6 @@ of_session : (number : ℕ) (one other : Replay) (journal : List Record) → OfS
 of_session number one other (line.head v session_kind ∷ rest) h k = say_same number one other (begun v session_kind) rest h k
 of_session number one other others h k = absurd h
 
-one_journal : (j k : List Record) → (let a : Result (List Record) LinesFault = Ok j in a) ≡ Ok k → j ≡ k
-one_journal j k e = cc
-
 pub one_replay : OneReplay
 one_replay bytes number one other (j, is, (replayable, h)) (k, is', (replayable', h')) =
-    of_session number one other k (subst (OfSession (IsReplay number one)) (one_journal j k (bytes_tell bytes (Ok j) (Ok k) is is')) h) h'
+    of_session number one other k (subst (OfSession (IsReplay number one)) (ok_same j k (bytes_tell bytes (Ok j) (Ok k) is is')) h) h'
