@@ -12,6 +12,8 @@ use Rattle.ice_pricing_laws.proofs.Scans.{stage_is_unlimited}
 use Rattle.ice_pricing.specs.Provisional.{ProvisionalTrade, IsProvisional}
 use Rattle.ice_pricing.specs.Priced.{HasViolation, PassesTests, AreBalanced}
 use Rattle.ice_pricing.proofs.Violations.{violation-same}
+use Rattle.ice_pricing.specs.declared.certificate.Pricing.{Pricing}
+use Rattle.ice_price.specs.Ends.{IsPriced, IsRunPriced}
 use Rattle.ice_price.specs.Runs.{IsState, IsStageEnd}
 use Rattle.ice_price.proofs.Turning.{market-of}
 
@@ -67,3 +69,9 @@ module _ (t : ProvisionalTrade) (is : IsProvisional t) where
         balanced = balanced;
       } in
       subst (λ r. P r accuracy balance) (sym same_later) (subst (λ a. P later_prices a balance) (sym end.certificate_is) (subst (λ d. P later_prices c d) (sym last.certificate_is) made))
+
+  -- so do the prices that the run ends with
+  pub priced : (p : Pricing) → IsRunPriced t p → IsPriced t p
+  priced p run =
+      let are = found run.pool run.later run.prices p.prices run.violation p.delta p.accuracy p.balance run.state run.accurate run.later_state run.balanced in
+      record { passes = are.passes; balanced = are.balanced; accuracy_limited = run.accurate.limited; balance_limited = run.balanced.limited }

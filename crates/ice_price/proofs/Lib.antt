@@ -6,3 +6,4 @@ pub mod Turning
 pub mod TurnEnds
 pub mod Deltas
 pub mod Finishing
+pub mod Works

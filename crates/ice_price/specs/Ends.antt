@@ -1,9 +1,12 @@
 -- How a pricing run ends.
-use Rattle.std.specs.Prelude.{List}
-use Rattle.ice_defs.specs.PricingRun.{Member, StageAt, IsAtLimit, EndsAtLimit}
+use Rattle.std.specs.Prelude.{List, ℤ}
+use Rattle.ice_defs.specs.Prices.{Prices}
+use Rattle.ice_defs.specs.PricingRun.{Member, StageAt, first_stage, IsAtLimit, EndsAtLimit}
+use Rattle.ice_pricing_laws.specs.Laws.{balance_at}
 use Rattle.ice_pricing.specs.Provisional.{ProvisionalTrade}
 use Rattle.ice_pricing.specs.Priced.{IsLimited, PassesTests, AreBalanced}
 use Rattle.ice_pricing.specs.declared.certificate.Pricing.{Pricing}
+use Rattle.ice_price.specs.Runs.{IsState, IsStageEnd}
 use Rattle.ice_price.specs.Stages.{stage_of, limit_of}
 use Rattle.ice_price.specs.declared.ends.PriceLimit.{PriceLimit}
 use Rattle.ice_price.specs.declared.ends.PriceEnd.{PriceEnd}
@@ -37,3 +40,14 @@ module _ (t : ProvisionalTrade) where
     pub balanced : AreBalanced t p.prices
     pub accuracy_limited : IsLimited p.accuracy
     pub balance_limited : IsLimited p.balance
+
+  -- the run ends with these prices: no set is to be added to a pool in the accuracy stage, nor to a later one in the balance stage that follows
+  pub record IsRunPriced (p : Pricing) : Type 0 where
+    pub pool : List Member
+    pub prices : Prices
+    pub violation : ℤ
+    pub state : IsState t first_stage pool
+    pub accurate : IsStageEnd t first_stage pool prices violation p.accuracy
+    pub later : List Member
+    pub later_state : IsState t (balance_at violation prices.den) later
+    pub balanced : IsStageEnd t (balance_at violation prices.den) later p.prices p.delta p.balance

@@ -5,5 +5,6 @@ pub mod Ends
 pub mod Large
 pub use Rattle.ice_pricing.specs.Bounding
 pub mod Scans
+pub mod Works
 pub use Rattle.ice_pricing.specs.Provisional
 pub use Rattle.ice_pricing.specs.Priced

@@ -4,7 +4,8 @@ ghost use Rattle.ice_defs.specs.Exchange.{trees_of};
 ghost use Rattle.ice_defs.specs.Weighing.{weighted_weights};
 ghost use Rattle.ice_rows.specs.Laws.{AreSatisfied};
 ghost use Rattle.ice_pricing.specs.Provisional.{provisional_of};
-ghost use Rattle.ice_price.specs.Ends.{IsPriceEnd, IsPriced, IsRunStopped};
+ghost use Rattle.ice_price.specs.Ends.{IsPriceEnd, IsPriced, IsRunPriced, IsRunStopped};
+ghost use Rattle.ice_price.specs.Works.{IsMoreWork, HasTurns};
 ghost use Rattle.ice_pricing.specs.Bounding.{AreBoundsOf};
 
 use crate::ends::{PoolMember, PriceEnd, Stop};
@@ -45,15 +46,18 @@ fn cut(alloc: Global, trade: &Provisional<'_>) -> Option<Pricing>
     Some(pricing)
 }
 
-/// The prices of a provisional trade as `price` gives them, but by the stated run of pricing alone. Turns and pivots are
-/// added to `work`.
+/// The prices of a provisional trade as `price` gives them, but by the stated run of pricing alone: they are those that it
+/// ends with. What it takes is added to `work`: neither count falls, and prices come with at least one turn a stage.
 pub fn run_prices(
     alloc: Global,
     trade: &Provisional<'_>,
     work: &mut RunWork,
 ) -> Result<Pricing, PriceEnd>
     ensures priced { IfOk result (IsPriced trade.now) }
+    ensures run { IfOk result (IsRunPriced trade.now) }
     ensures ended { IfErr result (IsPriceEnd trade.now) }
+    ensures work { IsMoreWork work.old work.new }
+    ensures turns { IfOk result (λ _. HasTurns 2 work.old work.new) }
 {
     let _goods = trade.goods();
     let mut pool = Vec::new(alloc);

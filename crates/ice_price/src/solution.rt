@@ -2,6 +2,7 @@
 ghost use Rattle.std.specs.Prelude.{◌≡◌, IfOk, IfErr};
 ghost use Rattle.ice_price.specs.Ends.{IsStopped};
 ghost use Rattle.ice_price.specs.Runs.{IsState, IsSolved};
+ghost use Rattle.ice_price.specs.Works.{IsMoreWork, HasTurns};
 
 use crate::ends::{LimitKind, PoolMember, Stop};
 use crate::program::stage_program;
@@ -44,6 +45,8 @@ pub(crate) fn solve_stage(
     ensures solved { IfOk result (λ s.
         IsSolved trade.now at.now pool.now s.point.items s.duals.items) }
     ensures stopped { IfErr result (IsStopped trade.now at.now pool.now) }
+    ensures work { IsMoreWork work.old work.new }
+    ensures turn { IfOk result (λ _. HasTurns 1 work.old work.new) }
 {
     let _goods = trade.goods();
     let program = stage_program(alloc, trade, at, pool)?;

@@ -8,6 +8,7 @@ ghost use Rattle.ice_defs.specs.Rows.{HasCommonDivisor};
 ghost use Rattle.ice_price.specs.Ends.{IsStopped, IsRunStopped};
 ghost use Rattle.ice_price.specs.Large.{AreLarge, IsStoppedBy};
 ghost use Rattle.ice_price.specs.Runs.{IsState, IsTurn, IsEndWith, IsStageEnd};
+ghost use Rattle.ice_price.specs.Works.{IsMoreWork, HasTurns};
 
 use crate::ends::{LimitKind, PoolMember, Stop};
 use crate::fractions::{common_den, prices_over};
@@ -95,6 +96,8 @@ fn take_turn(
     requires { IsState trade.now at.now pool.now }
     ensures turn { IfOk result (IsTurn trade.now at.now pool.now) }
     ensures stopped { IfErr result (IsStopped trade.now at.now pool.now) }
+    ensures work { IsMoreWork work.old work.new }
+    ensures counted { IfOk result (λ _. HasTurns 1 work.old work.new) }
 {
     let goods = usize::from(trade.goods());
     let solution = solve_stage(alloc, trade, at, pool, work)?;
@@ -129,6 +132,8 @@ pub(crate) fn run_stage(
     ensures ended { IfOk result (λ end. IsStageEnd trade.now at.now pool.new.items end.prices
         end.violation end.certificate) }
     ensures stopped { IfErr result (IsRunStopped trade.now at.now pool.new.items) }
+    ensures work { IsMoreWork work.old work.new }
+    ensures counted { IfOk result (λ _. HasTurns 1 work.old work.new) }
 {
     let mut scratch = Scratch::new();
     'turns: loop {

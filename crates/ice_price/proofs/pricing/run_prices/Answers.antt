@@ -5,11 +5,11 @@ use Rattle.std.specs.Prelude.{unsigned_abs}
 use Rattle.std.proofs.lemmas.Int.{ints, to_z-of_z}
 use Rattle.ice_defs.specs.PricingRun.{Member, StageAt, first_stage, starts}
 use Rattle.ice_pricing_laws.specs.Laws.{balance_at}
-use Rattle.ice_pricing.specs.Priced.{PassesTests}
 use Rattle.ice_price.specs.Runs.{IsState, IsStageEnd}
 use Rattle.ice_price.specs.Stages.{IsSizedStage}
 use Rattle.ice_price.proofs.Deltas.{violation-sized}
-use Rattle.ice_price.proofs.Finishing.{turned, found}
+use Rattle.ice_price.proofs.Works.{more-trans, two-turns}
+use Rattle.ice_price.proofs.Finishing.{turned, priced}
 use Rattle.ice_price.proofs.pricing.run_prices.Goals as goal
 
 pub run_stage-requires : goal.run_stage-requires
@@ -42,8 +42,8 @@ run_stage-requires-2 c =
     c.balance-second.ensures ∙ ap (λ (z : ℤ). balance_at z (unsigned_abs (to_z w64 (of_z w64 c.den.result)))) v ∙ ap (λ (d : ℕ). balance_at c.in-Ok.end.violation d) (ap unsigned_abs same) in
     subst (λ (s : StageAt). IsState c.args.trade.now s c.run_stage.new.pool.items) (sym at) later
 
-pub returns-clause-priced : goal.returns-clause-priced
-returns-clause-priced c =
+pub returns-clause-run : goal.returns-clause-run
+returns-clause-run c =
     let fits : SFits w128 c.in-Ok.end.violation = search rules in
     let v : to_z w128 (of_z w128 c.in-Ok.end.violation) ≡ c.in-Ok.end.violation = to_z-of_z w128 c.in-Ok.end.violation fits in
     let later_fits : SFits w128 c.in-Ok-run_stage.end.violation = search rules in
@@ -58,11 +58,22 @@ returns-clause-priced c =
     subst (λ (s : StageAt). IsState c.args.trade.now s c.run_stage-2.new.pool.items) at c.in-Ok-run_stage.ensures.state in
     let last : IsStageEnd c.args.trade.now (balance_at c.in-Ok.end.violation c.in-Ok.end.prices.den) c.run_stage-2.new.pool.items c.in-Ok-run_stage.end.prices c.in-Ok-run_stage.end.violation c.in-Ok-run_stage.end.certificate =
     subst (λ (s : StageAt). IsStageEnd c.args.trade.now s c.run_stage-2.new.pool.items c.in-Ok-run_stage.end.prices c.in-Ok-run_stage.end.violation c.in-Ok-run_stage.end.certificate) at c.in-Ok-run_stage.ensures.ended in
-    let are = found c.args.trade.now c.goods-goods.ensures.proper c.run_stage.new.pool.items c.run_stage-2.new.pool.items c.in-Ok.end.prices c.in-Ok-run_stage.end.prices c.in-Ok.end.violation c.in-Ok-run_stage.end.violation
-    c.in-Ok.end.certificate c.in-Ok-run_stage.end.certificate first end later last in
     record {
-      passes = subst (λ (z : ℤ). PassesTests c.args.trade.now c.in-Ok-run_stage.end.prices z c.in-Ok.end.certificate c.in-Ok-run_stage.end.certificate) (sym w) are.passes;
-      balanced = are.balanced;
-      accuracy_limited = end.limited;
-      balance_limited = last.limited;
+      pool = c.run_stage.new.pool.items;
+      prices = c.in-Ok.end.prices;
+      violation = c.in-Ok.end.violation;
+      state = first;
+      accurate = end;
+      later = c.run_stage-2.new.pool.items;
+      later_state = later;
+      balanced = subst (λ (z : ℤ). IsStageEnd c.args.trade.now (balance_at c.in-Ok.end.violation c.in-Ok.end.prices.den) c.run_stage-2.new.pool.items c.in-Ok-run_stage.end.prices z c.in-Ok-run_stage.end.certificate) (sym w) last;
     }
+
+pub returns-clause-priced : goal.returns-clause-priced
+returns-clause-priced c = priced c.args.trade.now c.goods-goods.ensures.proper _ (returns-clause-run c)
+
+pub returns-clause-work : goal.returns-clause-work
+returns-clause-work c = more-trans _ _ _ c.run_stage.ensures.work c.run_stage-2.ensures.work
+
+pub returns-clause-turns : goal.returns-clause-turns
+returns-clause-turns c = two-turns c.args.work.now c.run_stage.new.work c.run_stage-2.new.work c.in-Ok.ensures.counted c.in-Ok-run_stage.ensures.counted
