@@ -40,30 +40,24 @@ pub(crate) struct Operation {
     pub(crate) offered: u8,
     /// Where its operands or leaves end.
     pub(crate) end: u8,
-    /// A bit for each good that leaves at the node or below it buy or sell.
-    goods: u32,
 }
 
 /// What a leaf buys, or sells.
 #[derive(Clone, Copy)]
 struct Leaf {
-    units: i64,
+    units: i32,
     good: u8,
 }
 
-/// An operand that may be taken, with what it adds.
-#[derive(Clone, Copy)]
-struct Offer {
-    value: i64,
-    number: u8,
-}
-
 /// The operations of one tree, each after those of its operands, with what they worked out last. Numbers of operations,
-/// operands, leaves and nodes all fit in a byte, which spares the tests whether they are in range.
-#[derive(Drop)]
+/// operands, leaves and nodes all fit in a byte, which spares the tests whether they are in range. All of it is kept small,
+/// since a search begins with one for each tree.
+#[derive(Clone, Copy)]
 pub(crate) struct Operations {
     list: [Operation; 256],
     count: u8,
+    /// For each operation, a bit for each good that leaves at its node or below it buy or sell.
+    goods: [u32; 256],
     operands: [u8; 256],
     operand_count: u8,
     leaves: [Leaf; 256],
@@ -78,9 +72,10 @@ pub(crate) struct Operations {
     values: [i64; 256],
     /// The operand that each took as the best, or `NONE`.
     bests: [u8; 256],
-    /// Which operands of `Rule::Several` were taken.
-    is_taken: [bool; 256],
-    offers: [Offer; 256],
+    /// The operands once more, where those that a `Rule::Several` may take stand in order, the best first ..
+    ranked: [u8; 256],
+    /// .. and where those of them end that each took.
+    taken_ends: [u8; 256],
     waiting: [u8; 256],
     /// How often the node of each operation was taken.
     pub(crate) counts: [u32; 256],
@@ -113,12 +108,6 @@ fn byte(number: u16) -> u8 {
     number.min(255) as u8
 }
 
-/// Puts so many offers in order, the one that adds least first.
-fn sort_offers(offers: &mut [Offer; 256], count: u8) {
-    let offers = &mut offers[..usize::from(count)];
-    offers.sort_unstable_by_key(|offer| offer.value);
-}
-
 impl Operations {
     /// Those of no tree yet.
     pub(crate) fn new() -> Operations {
@@ -131,11 +120,11 @@ impl Operations {
             first: 0,
             offered: 0,
             end: 0,
-            goods: 0,
         };
         Operations {
             list: [blank; 256],
             count: 0,
+            goods: [0; 256],
             operands: [0; 256],
             operand_count: 0,
             leaves: [Leaf { units: 0, good: 0 }; 256],
@@ -146,11 +135,8 @@ impl Operations {
             marked: 0,
             values: [0; 256],
             bests: [NONE; 256],
-            is_taken: [false; 256],
-            offers: [Offer {
-                value: 0,
-                number: 0,
-            }; 256],
+            ranked: [0; 256],
+            taken_ends: [0; 256],
             waiting: [0; 256],
             counts: [0; 256],
         }
@@ -188,6 +174,7 @@ impl Operations {
                 self.add(tree, openness, node);
             }
         }
+        self.ranked = self.operands;
     }
 
     /// Adds the operation of a node.
@@ -222,6 +209,7 @@ impl Operations {
                 goods |= self.add_leaf(tree.kind(below));
             }
         }
+        self.goods[usize::from(self.count)] = goods;
         Operation {
             weight: in_64ths(open.worth),
             rule: Rule::Row,
@@ -231,7 +219,6 @@ impl Operations {
             first,
             offered: self.leaf_count,
             end: self.leaf_count,
-            goods,
         }
     }
 
@@ -239,8 +226,8 @@ impl Operations {
     fn add_leaf(&mut self, kind: NodeKind) -> u32 {
         let (good, units) = match kind {
             NodeKind::Choose { .. } => return 0,
-            NodeKind::Buy { good, units } => (good % 32, i64::from(units)),
-            NodeKind::Sell { good, units } => (good % 32, -i64::from(units)),
+            NodeKind::Buy { good, units } => (good % 32, i32::from(units)),
+            NodeKind::Sell { good, units } => (good % 32, -i32::from(units)),
         };
         self.leaves[usize::from(self.leaf_count)] = Leaf { units, good };
         self.leaf_count = self.leaf_count.saturating_add(1);
@@ -258,6 +245,7 @@ impl Operations {
         let offered = self.operand_count;
         self.add_operands(tree, openness, node, false);
         let end = self.operand_count;
+        self.goods[usize::from(self.count)] = self.goods_of(first, end);
         Operation {
             weight: in_64ths(open.worth),
             rule: rule_of(&open, end.saturating_sub(offered)),
@@ -267,7 +255,6 @@ impl Operations {
             first,
             offered,
             end,
-            goods: self.goods_of(first, end),
         }
     }
 
@@ -276,7 +263,7 @@ impl Operations {
         let mut goods = 0;
         for place in first..end {
             let number = self.operands[usize::from(place)];
-            goods |= self.list[usize::from(number)].goods;
+            goods |= self.goods[usize::from(number)];
         }
         goods
     }
@@ -318,8 +305,8 @@ impl Operations {
 
     /// Whether units of the good may be bought or sold.
     pub(crate) fn has_good(&self, good: u8) -> bool {
-        let root = self.list[usize::from(self.count.saturating_sub(1))];
-        self.count > 0 && root.goods & bit_of(good) != 0
+        let root = self.count.saturating_sub(1);
+        self.count > 0 && self.goods[usize::from(root)] & bit_of(good) != 0
     }
 
     /// The greatest net at the multipliers, in 64ths.
@@ -335,7 +322,7 @@ impl Operations {
     pub(crate) fn evaluate_good(&mut self, m: &[i64; 32], good: u8) -> i64 {
         let bit = bit_of(good);
         for number in 0..self.count {
-            if self.list[usize::from(number)].goods & bit != 0 {
+            if self.goods[usize::from(number)] & bit != 0 {
                 let value = self.value_of(number, m);
                 self.values[usize::from(number)] = value;
             }
@@ -366,19 +353,15 @@ impl Operations {
     /// stay below 2^60, and what units cost below 2^54.
     fn value_of(&mut self, number: u8, m: &[i64; 32]) -> i64 {
         let operation = self.list[usize::from(number)];
-        match operation.rule {
-            Rule::Row => return self.row_value(operation, m),
-            Rule::Several => {
-                let value = self.bound_value(operation);
-                return value.wrapping_add(self.take_several(operation));
-            }
-            _ => {}
+        if operation.rule == Rule::Row {
+            return self.row_value(operation, m);
         }
         let value = self.bound_value(operation);
         let added = match operation.rule {
             Rule::Each => self.each_value(operation),
             Rule::BestGain => self.best_value(number, operation, 0),
             Rule::Best => self.best_value(number, operation, i64::MIN),
+            Rule::Several => self.take_several(number, operation),
             _ => 0,
         };
         value.wrapping_add(added)
@@ -389,7 +372,7 @@ impl Operations {
         let mut value = operation.weight;
         for place in operation.first..operation.end {
             let leaf = self.leaves[usize::from(place)];
-            let cost = m[usize::from(leaf.good % 32)].wrapping_mul(leaf.units);
+            let cost = m[usize::from(leaf.good % 32)].wrapping_mul(i64::from(leaf.units));
             value = value.wrapping_sub(cost);
         }
         value
@@ -432,38 +415,44 @@ impl Operations {
     }
 
     /// Takes the other operands that are needed and those that add value, as long as there is room, and says what they add.
-    fn take_several(&mut self, operation: Operation) -> i64 {
-        let count = operation.end.saturating_sub(operation.offered);
-        for offset in 0..count {
-            let number = self.operands[usize::from(operation.offered.saturating_add(offset))];
-            self.is_taken[usize::from(number)] = false;
-            self.offers[usize::from(offset)] = Offer {
-                value: self.values[usize::from(number)],
-                number,
-            };
+    fn take_several(&mut self, number: u8, operation: Operation) -> i64 {
+        for place in operation.offered..operation.end {
+            self.rank(operation.offered, place);
         }
-        sort_offers(&mut self.offers, count);
-        self.take_best(operation, count)
-    }
-
-    /// Takes an operand of `Rule::Several`.
-    fn take_operand(&mut self, number: u8) {
-        self.is_taken[usize::from(number)] = true;
-    }
-
-    /// Takes the best of so many offers, which are in order, and says what they add.
-    fn take_best(&mut self, operation: Operation, count: u8) -> i64 {
         let mut value: i64 = 0;
-        for taken in 0..count.min(operation.room) {
-            let place = count.saturating_sub(taken).saturating_sub(1);
-            let offer = self.offers[usize::from(place)];
-            if taken >= operation.need && offer.value <= 0 {
+        let mut end = operation.offered;
+        for place in operation.offered..operation.end {
+            let taken = place.saturating_sub(operation.offered);
+            let more = self.ranked_value(place);
+            if taken >= operation.room || taken >= operation.need && more <= 0 {
                 break;
             }
-            self.take_operand(offer.number);
-            value = value.wrapping_add(offer.value);
+            value = value.wrapping_add(more);
+            end = end.saturating_add(1);
         }
+        self.taken_ends[usize::from(number)] = end;
         value
+    }
+
+    /// What the ranked operand at this place adds.
+    fn ranked_value(&self, place: u8) -> i64 {
+        let number = self.ranked[usize::from(place)];
+        self.values[usize::from(number)]
+    }
+
+    /// Moves the ranked operand at a place to the front, as far as it adds more than those before it. From one time to the
+    /// next few change places.
+    fn rank(&mut self, first: u8, place: u8) {
+        let number = self.ranked[usize::from(place)];
+        let value = self.values[usize::from(number)];
+        for before in (first..place).rev() {
+            let other = self.ranked[usize::from(before)];
+            if self.values[usize::from(other)] >= value {
+                break;
+            }
+            self.ranked[usize::from(before.saturating_add(1))] = other;
+            self.ranked[usize::from(before)] = number;
+        }
     }
 
     /// Adds the units of the set that was found to the excess, and the weight to the count of each of its operations.
@@ -492,11 +481,7 @@ impl Operations {
             self.add_units(operation, excess);
             return height;
         }
-        let mut height = height;
-        for place in operation.first..operation.offered {
-            let operand = self.operands[usize::from(place)];
-            height = self.wait(operand, height);
-        }
+        let height = self.wait_for(operation.first, operation.offered, height);
         match operation.rule {
             Rule::BestGain | Rule::Best => {
                 let best = self.bests[usize::from(number)];
@@ -506,21 +491,38 @@ impl Operations {
                     self.wait(best, height)
                 }
             }
-            Rule::Each | Rule::Several => self.take_offered(operation, height),
+            Rule::Each => self.wait_for_gains(operation, height),
+            Rule::Several => self.wait_for_ranked(number, operation, height),
             _ => height,
         }
     }
 
-    /// Lets those of the other operands wait that were taken.
-    fn take_offered(&mut self, operation: Operation, height: u8) -> u8 {
+    /// Lets the operands at these places wait.
+    fn wait_for(&mut self, first: u8, end: u8, height: u8) -> u8 {
+        let mut height = height;
+        for place in first..end {
+            let operand = self.operands[usize::from(place)];
+            height = self.wait(operand, height);
+        }
+        height
+    }
+
+    /// Lets those of the ranked operands wait that were taken.
+    fn wait_for_ranked(&mut self, number: u8, operation: Operation, height: u8) -> u8 {
+        let mut height = height;
+        for place in operation.offered..self.taken_ends[usize::from(number)] {
+            let operand = self.ranked[usize::from(place)];
+            height = self.wait(operand, height);
+        }
+        height
+    }
+
+    /// Lets those of the other operands wait that add value.
+    fn wait_for_gains(&mut self, operation: Operation, height: u8) -> u8 {
         let mut height = height;
         for place in operation.offered..operation.end {
             let operand = self.operands[usize::from(place)];
-            let is_taken = match operation.rule {
-                Rule::Each => self.values[usize::from(operand)] > 0,
-                _ => self.is_taken[usize::from(operand)],
-            };
-            if is_taken {
+            if self.values[usize::from(operand)] > 0 {
                 height = self.wait(operand, height);
             }
         }
@@ -538,7 +540,7 @@ impl Operations {
         for place in operation.first..operation.end {
             let leaf = self.leaves[usize::from(place)];
             let sum = &mut excess[usize::from(leaf.good % 32)];
-            *sum = sum.wrapping_add(leaf.units);
+            *sum = sum.wrapping_add(i64::from(leaf.units));
         }
     }
 

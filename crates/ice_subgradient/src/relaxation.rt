@@ -42,7 +42,7 @@ impl Relaxation {
     pub fn new(alloc: Global, trees: &[Tree]) -> Result<Relaxation, AllocError>
         ensures { IfOk result (λ relaxation. relaxation ≡ length trees.now) }
     {
-        let trees = trees.iter().map(|_tree| Operations::new()).collect(alloc)?;
+        let trees = vec![in alloc; Operations::new(); trees.len()]?;
         Ok(Relaxation {
             trees,
             openness: Openness::new(),
