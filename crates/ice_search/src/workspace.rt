@@ -12,13 +12,14 @@ use ice_subgradient::Relaxation;
 use std::alloc::{AllocError, Global};
 use std::marker::Model;
 
-/// The workspace of a search. It is seen as what is asked and the side that is looked at. Only `new` takes memory.
+/// The workspace of a search. It is seen as what is asked and the side that is looked at. Only `new` takes memory. What is
+/// large stands in boxes, since a search is handed on several times as it begins.
 #[derive(Drop)]
 pub(crate) struct Workspace<'a> {
     pub(crate) problem: Problem<'a>,
     pub(crate) kept: Kept<'a>,
-    pub(crate) desk: Desk,
-    pub(crate) relaxation: Relaxation,
+    pub(crate) desk: Box<Desk>,
+    pub(crate) relaxation: Box<Relaxation>,
 }
 
 impl<'a> Model for Workspace<'a> {
@@ -28,7 +29,7 @@ impl<'a> Model for Workspace<'a> {
 
     ghost view = { λ w. record { instance = w.problem; side = w.kept.marks } };
 
-    ghost invariant = { λ w. IsWorkspace w.problem w.kept w.desk.marks w.desk.room w.relaxation };
+    ghost invariant = { λ w. IsWorkspace w.problem w.kept w.desk.value.marks w.desk.value.room w.relaxation.value };
 }
 
 impl<'a> Workspace<'a> {
@@ -42,8 +43,8 @@ impl<'a> Workspace<'a> {
         let mut kept = Kept::new(alloc, trees, problem.weights(), exact)?;
         let zeros = Multipliers::zero(problem.goods());
         kept.put_side(problem.start, &zeros);
-        let desk = Desk::new(alloc, trees, exact)?;
-        let mut relaxation = Relaxation::new(alloc, trees)?;
+        let desk = Box::new(alloc, Desk::new(alloc, trees, exact)?)?;
+        let mut relaxation = Box::new(alloc, Relaxation::new(alloc, trees)?)?;
         relaxation.look_at(trees, problem.weights(), problem.start);
         Ok(Workspace {
             problem,

@@ -1,4 +1,4 @@
-use Rattle.std.proofs.Common.{get_or, sym, ◌∙◌, subst}
+use Rattle.std.proofs.Common.{get_or, ap, sym, ◌∙◌, subst}
 use Rattle.ice_bound.specs.Conditions.{AreFixingsOf, AreMultipliersOf}
 use Rattle.ice_assembly.specs.Code.{parts_of}
 use Rattle.ice_search.specs.Instance.{IsSearchOf}
@@ -9,8 +9,9 @@ pub put_side-requires-2-clause-marks : goal.put_side-requires-2-clause-marks
 put_side-requires-2-clause-marks c =
     let x = c.self.inside.problem in
     let is = subst (λ l. IsSearchOf l.instance (parts_of c.args.parts.now)) (sym c.self.view_is) c.requires.search in
-    subst (λ ts. AreFixingsOf ts c.put_side.new.marks) (sym c.self.invariant.trees)
-    (subst (AreFixingsOf x.trees) (sym c.put_side.ensures) (fixings_at x c.args.parts.now c.args.number c.self.invariant.instance is c.requires.there))
+    subst (λ ts. AreFixingsOf ts c.deref.result.now.marks) (sym c.self.invariant.trees)
+    (subst (λ desk. AreFixingsOf x.trees desk.marks) (sym c.deref.ensures)
+    (subst (AreFixingsOf x.trees) (sym c.put_side.ensures) (fixings_at x c.args.parts.now c.args.number c.self.invariant.instance is c.requires.there)))
 
 pub put_side-requires-2-clause-multipliers : goal.put_side-requires-2-clause-multipliers
 put_side-requires-2-clause-multipliers c =
@@ -29,6 +30,6 @@ invariant_of-self c =
       weights = c.put_side-2.ensures.weights ∙ c.self.invariant.weights;
       exact = c.put_side-2.ensures.exact ∙ c.self.invariant.exact;
       desk = subst (AreFixingsOf x.trees) (sym c.put_side.ensures) (fixings_at x c.args.parts.now c.args.number c.self.invariant.instance is c.requires.there);
-      room = c.self.invariant.room;
-      relaxation = c.look_at.ensures ∙ c.self.invariant.relaxation;
+      room = ap (λ desk. desk.room) c.deref_mut.ensures.value ∙ c.self.invariant.room;
+      relaxation = c.look_at.ensures ∙ c.deref_mut-2.ensures.value ∙ c.self.invariant.relaxation;
     }
