@@ -4,6 +4,8 @@ pub mod Threshold
 pub mod Greedy
 -- where as many children are possible as must be taken, all of them are taken
 pub mod Whole
+-- where all that add value may be taken, taking them is a best choice
+pub mod Gains
 -- picks among the children of a node, as sums over all nodes
 pub mod Children
 -- the root's entry of a table bounds every satisfied set that meets the fixing
@@ -14,6 +16,8 @@ pub mod Taken
 pub mod Partial
 -- the offers of the children of one node: listed, put in order, and taken from the last one on
 pub mod Offers
+-- the best child that is left, found in one pass
+pub mod BestLeft
 -- writes to the flags of children
 pub mod Flags
 -- an entry stays what it is while those of its children stay

@@ -14,8 +14,8 @@ use Rattle.std.proofs.lemmas.List.Sorted.{All-permutation, sum_by-IsPermutation,
 use Rattle.std.proofs.lemmas.Cmp.{int_cmp_total, int_ranked}
 use Rattle.std.proofs.lemmas.List.Sums.{sum_by-cons, sum_by-append, sum_by_more}
 use Rattle.ice_best.specs.declared.choice.Offer.{Offer}
-use Rattle.ice_best.specs.Choice.{IsIncreasing}
-use Rattle.ice_best.proofs.Partial.{IsBestLeft, NoneLeft, NoGain}
+use Rattle.ice_best.specs.Choice.{IsIncreasing, IsBestLeft, NoneLeft}
+use Rattle.ice_best.proofs.Partial.{NoGain}
 use Rattle.ice_best.specs.Offers.{times_offered, IsOffer, AreOffers, IsRising}
 use Rattle.ice_best.proofs.Flags.{apart}
 
@@ -92,7 +92,7 @@ module _ (gain : ℕ → ℤ) (possible taken : ℕ → Bool) (children : List �
       number-true _ (omega (arith, are.once j l, count, here))
 
   -- its child is best among those that are left
-  pub last_best : (j : ℕ) → j < length children → get_or children j 0 ≡ (get_or offers k d).child → IsBestLeft gain possible taken children j
+  pub last_best : (j : ℕ) → j < length children → get_or children j 0 ≡ (get_or offers k d).child → IsBestLeft gain possible taken children (length children) j
   last_best j l e =
       let both = and_parts _ _ (is_left j l e) in
       record {
@@ -145,7 +145,7 @@ module _ (gain : ℕ → ℤ) (possible taken : ℕ → Bool) (children : List �
 
 -- with no offer nothing is left
 pub none_left : (gain : ℕ → ℤ) (possible taken : ℕ → Bool) (children : List ℕ) (offers : List Offer) → AreOffers gain possible taken children (take 0 offers)
-    → NoneLeft possible taken children
+    → NoneLeft possible taken children (length children)
 none_left gain possible taken children offers are j h can = by (taken (get_or children j 0)) refl
   where
     by : (b : Bool) → taken (get_or children j 0) ≡ b → b ≡ true

@@ -1,7 +1,8 @@
 -- The children that may be taken next.
-use Rattle.std.specs.Prelude.{ℕ, ◌<◌, ◌≤◌, ◌≡◌, Bool, ◌&&◌, ◌==◌, not, if◌then◌else◌, List, length, slice_index, slice_index_or, sum_by, ℤ, ◌≤ℤ◌}
+use Rattle.std.specs.Prelude.{ℕ, ◌<◌, ◌≤◌, ◌≡◌, Bool, ◌&&◌, ◌==◌, not, if◌then◌else◌, List, length, slice_index, slice_index_or, sum_by, ℤ, ◌≤ℤ◌, Option, MatchOption}
 use Rattle.std.specs.List.{All, Contains}
 use Rattle.ice_best.specs.declared.choice.Offer.{Offer}
+use Rattle.ice_best.specs.Choice.{IsBestLeft, NoneLeft}
 
 -- how many of the offers are of the child
 abbrev pub times_offered : ℕ → List Offer → ℕ
@@ -20,3 +21,14 @@ pub record AreOffers (gain : ℕ → ℤ) (possible taken : ℕ → Bool) (child
 -- no offer adds less than one before it
 abbrev pub IsRising : List Offer → Type 0
 IsRising offers = (i j : ℕ) (d : Offer) → i ≤ j → j < length offers → (slice_index_or offers i d).gain ≤ℤ (slice_index_or offers j d).gain
+
+-- the offer of a child that is left, where no other of the first n that is left is worth more
+pub record IsBestOffer (gain : ℕ → ℤ) (possible taken : ℕ → Bool) (children : List ℕ) (n : ℕ) (o : Offer) : Type 0 where
+  pub place : ℕ
+  pub is_best : IsBestLeft gain possible taken children n place
+  pub child_is : o.child ≡ slice_index children place
+  pub gain_is : o.gain ≡ gain (slice_index children place)
+
+-- the best offer of the first n children, or None where none of them is left
+abbrev pub IsBestOf : (ℕ → ℤ) → (ℕ → Bool) → (ℕ → Bool) → List ℕ → ℕ → Option Offer → Type 0
+IsBestOf gain possible taken children n best = MatchOption best (NoneLeft possible taken children n) (IsBestOffer gain possible taken children n)
