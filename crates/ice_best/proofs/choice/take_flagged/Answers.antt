@@ -1,7 +1,7 @@
 use Rattle.std.proofs.Common.{arith, get_or, length, ◌<◌, refl}
 use Rattle.ice_defs.specs.Set.{has}
 use Rattle.ice_best.proofs.Flags.{taken_more, ChangesOnly-put}
-use Rattle.ice_best.proofs.choice.take_possible.Goals as goal
+use Rattle.ice_best.proofs.choice.take_flagged.Goals as goal
 
 pub loop-child-preserved : goal.loop-child-preserved
 loop-child-preserved c =
@@ -10,6 +10,6 @@ loop-child-preserved c =
     let inside = c.loop-child-test.true in
     let there : get_or cs i 0 < length c.loop-child.taken = omega (arith, c.requires.taken i inside) in
     record {
-      taken_is = taken_more cs c.loop-child.taken (has c.args.possible.now) i _ c.requires.increasing inside there c.loop-child.invariant.taken_is refl;
+      taken_is = taken_more cs c.loop-child.taken (has c.args.flags.now) i _ c.requires.increasing inside there c.loop-child.invariant.taken_is refl;
       same = ChangesOnly-put c.args.taken.now c.loop-child.taken cs i _ inside c.loop-child.invariant.same;
     }
