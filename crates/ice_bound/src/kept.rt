@@ -49,7 +49,7 @@ impl<'a> Model for Kept<'a> {
       weights = k.weights.items;
       marks = k.marks;
       multipliers = k.m;
-      exact = k.found.room;
+      exact = k.found.exact;
       sets = k.found.sets;
     } };
 
@@ -58,7 +58,7 @@ impl<'a> Model for Kept<'a> {
       weights = k.weights.items;
       marks = k.marks;
       multipliers = k.m;
-      exact = k.found.room;
+      exact = k.found.exact;
       sets = k.found.sets;
     }) k.found.nets.items k.goods.items };
 }
@@ -182,7 +182,7 @@ impl<'a> Kept<'a> {
         requires { good < length self.now.exact }
         ensures { result ≡ is_exact self.now.exact good }
     {
-        self.found.room.is_exact(good)
+        self.found.exact.is_exact(good)
     }
 
     /// The marks, one fixing for each bidder.

@@ -6,6 +6,7 @@ mod beside;
 mod bounds;
 mod copy;
 mod desk;
+mod exact;
 mod found;
 mod goods;
 mod kept;

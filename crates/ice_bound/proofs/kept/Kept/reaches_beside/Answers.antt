@@ -11,7 +11,7 @@ use Rattle.ice_bound.proofs.kept.Kept.reaches_beside.Goals as goal
 pub invariant_of-beside : goal.invariant_of-beside
 invariant_of-beside c =
     let i = c.self.invariant in
-    let there : c.args.good < length c.self.inside.found.room = subst (λ st. c.args.good < length st.exact) (sym c.self.view_is) c.requires.good in
+    let there : c.args.good < length c.self.inside.found.exact = subst (λ st. c.args.good < length st.exact) (sym c.self.view_is) c.requires.good in
     let moved : c.put.new.self ≡ with_beside c.self.inside.m c.args.good c.args.rises = search rules in
     rw (c.deref.ensures.value, c.deref-2.ensures.value, c.deref-3.ensures.value) (record {
       few = i.few;
