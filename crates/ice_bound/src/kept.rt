@@ -318,7 +318,7 @@ impl<'a> Kept<'a> {
             good,
             rises,
         };
-        beside.reaches(least, &mut found.spaces, &mut found.scratch)
+        beside.reaches(least, &mut found.spaces, &mut *found.scratch)
     }
 
     /// Gives all goods these multipliers. Time: one recursion over each tree, unless they are those that are kept.
