@@ -12,7 +12,7 @@ use crate::multipliers::Multipliers;
 use crate::net::NetWeights;
 use crate::room::relax;
 use ice_best::{Fixings, Scratch};
-use ice_tree::{Assignment, NodeKind, NodeSet, Tree, Weights};
+use ice_tree::{AllWeights, Assignment, NodeKind, NodeSet, Tree};
 use std::marker::Model;
 
 /// The nets and sets that are found at multipliers, and the multipliers `moved`, where that of one good is one more, or
@@ -20,7 +20,7 @@ use std::marker::Model;
 #[derive(Drop)]
 pub(crate) struct Beside<'a> {
     pub(crate) trees: &'a [Tree],
-    pub(crate) weights: &'a [Weights],
+    pub(crate) weights: &'a AllWeights,
     pub(crate) marks: &'a Fixings,
     pub(crate) m: &'a Multipliers,
     pub(crate) moved: &'a Multipliers,
@@ -187,7 +187,7 @@ impl<'a> Beside<'a> {
         let mut other = NodeSet::empty(tree.nodes());
         relax(
             tree,
-            &self.weights[place],
+            self.weights.of(bidder),
             self.moved,
             self.marks.of(bidder),
             nets,

@@ -21,7 +21,7 @@ use crate::goods::all_goods;
 use crate::multipliers::Multipliers;
 use crate::total_units::TotalUnits;
 use ice_best::{Fixings, Mark};
-use ice_tree::{AllWeights, Assignment, Tree, Weights};
+use ice_tree::{AllWeights, Assignment, Tree};
 use std::alloc::{AllocError, Global};
 use std::marker::Model;
 
@@ -32,7 +32,7 @@ use std::marker::Model;
 #[derive(Drop)]
 pub struct Kept<'a> {
     trees: &'a [Tree],
-    weights: Vec<Weights>,
+    weights: &'a AllWeights,
     goods: Vec<[bool; 32]>,
     marks: Fixings,
     m: Multipliers,
@@ -46,7 +46,7 @@ impl<'a> Model for Kept<'a> {
 
     ghost view = { λ k. record {
       trees = k.trees.now;
-      weights = k.weights.items;
+      weights = k.weights.now;
       marks = k.marks;
       multipliers = k.m;
       exact = k.found.exact;
@@ -55,38 +55,12 @@ impl<'a> Model for Kept<'a> {
 
     ghost invariant = { λ k. IsKept (record {
       trees = k.trees.now;
-      weights = k.weights.items;
+      weights = k.weights.now;
       marks = k.marks;
       multipliers = k.m;
       exact = k.found.exact;
       sets = k.found.sets;
     }) k.found.nets.items k.goods.items };
-}
-
-/// The same weights once more.
-fn copy_weights(tree: &Tree, weights: &Weights) -> Weights
-    requires { length weights.now ≡ length tree.now }
-    ensures { result ≡ weights.now }
-{
-    let mut copy = Weights::zero(tree.nodes());
-    for node in 0..tree.nodes() {
-        copy.put(node, weights.get(node));
-    }
-    copy
-}
-
-/// The weights of all trees once more.
-fn copy_all(alloc: Global, trees: &[Tree], weights: &AllWeights) -> Result<Vec<Weights>, AllocError>
-    requires few { length trees.now ≤ 40 }
-    requires weights { AreWeightsOf trees.now weights.now }
-    ensures { IfOk result (λ copies. copies.items ≡ weights.now) }
-{
-    let mut copies = Vec::new(alloc);
-    for bidder in 0..trees.len() as u8 {
-        let copy = copy_weights(&trees[bidder as usize], weights.of(bidder));
-        copies.push(copy)?;
-    }
-    Ok(copies)
 }
 
 /// The sum of the nets, or the first place without one.
@@ -106,7 +80,7 @@ fn sum_of(nets: &[Option<i128>]) -> NetSum
 }
 
 /// What the sets are worth together at the weights.
-fn value_of(trees: &[Tree], sets: &Assignment, weights: &[Weights]) -> i128
+fn value_of(trees: &[Tree], sets: &Assignment, weights: &AllWeights) -> i128
     requires few { length trees.now ≤ 40 }
     requires sets { length sets.now ≡ length trees.now }
     requires nodes { (b : ℕ) → b < length trees.now → length (set_of sets.now b) ≡ length
@@ -116,9 +90,8 @@ fn value_of(trees: &[Tree], sets: &Assignment, weights: &[Weights]) -> i128
 {
     let mut total: i128 = 0;
     for bidder in 0..trees.len() as u8 {
-        let place = bidder as usize;
-        let tree = &trees[place];
-        total += tree.value(sets.of(bidder), &weights[place]);
+        let tree = &trees[bidder as usize];
+        total += tree.value(sets.of(bidder), weights.of(bidder));
     }
     total
 }
@@ -132,14 +105,14 @@ fn step_beside(number: i64, rises: bool) -> i64
 }
 
 impl<'a> Kept<'a> {
-    /// Keeps these trees and a copy of the weights, with all nodes free and all multipliers 0. There is one truth value
-    /// for each good: whether it is exact. Takes all the memory that is needed.
+    /// Keeps these trees and weights, with all nodes free and all multipliers 0. There is one truth value for each good:
+    /// whether it is exact. Takes all the memory that is needed.
     ///
     /// There are at most 40 trees and at most 32 goods, and each weight is at most 100,000,000,000 in size.
     pub fn new(
         alloc: Global,
         trees: &'a [Tree],
-        weights: &AllWeights,
+        weights: &'a AllWeights,
         exact: &[bool],
     ) -> Result<Kept<'a>, AllocError>
         requires few { length trees.now ≤ 40 }
@@ -153,12 +126,11 @@ impl<'a> Kept<'a> {
             (pos 0)) }
         ensures exact { IfOk result (λ k. k.exact ≡ exact.now) }
     {
-        let weights = copy_all(alloc, trees, weights)?;
         let goods = all_goods(alloc, trees)?;
         let marks = Fixings::free(alloc, trees)?;
         let m = Multipliers::zero(exact.len() as u8);
         let mut found = Found::new(alloc, trees, exact)?;
-        found.renew_all(trees, &weights, &m, &marks);
+        found.renew_all(trees, weights, &m, &marks);
         Ok(Kept {
             trees,
             weights,
@@ -221,7 +193,7 @@ impl<'a> Kept<'a> {
     pub fn sets_value(&self) -> i128
         ensures { result ≡ total_value self.now.sets self.now.weights }
     {
-        value_of(self.trees, &self.found.sets, &self.weights)
+        value_of(self.trees, &self.found.sets, self.weights)
     }
 
     /// The sum of the bidders' greatest nets, in 64ths, which is the sum of the relaxed sets' nets; or the first bidder
@@ -258,12 +230,11 @@ impl<'a> Kept<'a> {
         ensures exact { self.new.exact ≡ self.old.exact }
     {
         let trees = self.trees;
-        let place = bidder as usize;
         self.marks.mark(bidder, node, mark);
         self.found.renew(
             bidder,
-            &trees[place],
-            &self.weights[place],
+            &trees[bidder as usize],
+            self.weights.of(bidder),
             &self.m,
             self.marks.of(bidder),
         );
@@ -282,7 +253,7 @@ impl<'a> Kept<'a> {
     {
         self.found.renew_good(
             self.trees,
-            &self.weights,
+            self.weights,
             &mut self.m,
             &self.marks,
             &self.goods,
@@ -308,7 +279,7 @@ impl<'a> Kept<'a> {
         let found = &mut self.found;
         let beside = Beside {
             trees: self.trees,
-            weights: &self.weights,
+            weights: self.weights,
             marks: &self.marks,
             m: &self.m,
             moved: &moved,
@@ -335,7 +306,7 @@ impl<'a> Kept<'a> {
         }
         self.m = m.copy();
         self.found
-            .renew_all(self.trees, &self.weights, &self.m, &self.marks);
+            .renew_all(self.trees, self.weights, &self.m, &self.marks);
     }
 
     /// Takes these marks and multipliers in the place of all others. Time: one recursion over each tree.
@@ -351,6 +322,6 @@ impl<'a> Kept<'a> {
         copy_fixings(&mut self.marks, marks);
         self.m = m.copy();
         self.found
-            .renew_all(self.trees, &self.weights, &self.m, &self.marks);
+            .renew_all(self.trees, self.weights, &self.m, &self.marks);
     }
 }

@@ -1,4 +1,4 @@
-use Rattle.std.proofs.Common.{arith, refl, ◌<◌, ◌≡◌, ◌∙◌, sym, subst, length, []}
+use Rattle.std.proofs.Common.{refl, ◌<◌, ◌≡◌, ◌∙◌, sym, subst, length, []}
 use Rattle.std.proofs.lemmas.List.{get_or_default}
 use Rattle.ice_defs.specs.Set.{NodeSet}
 use Rattle.ice_defs.specs.Trade.{tree_of, set_of, weights_of, fixing_of}
@@ -27,10 +27,9 @@ returns-clause-found c =
     let ts = c.self.inside.trees.now in
     let ws = c.self.inside.weights.now in
     let there : b < length ts = subst (λ st. b < length st.trees) (sym c.self.view_is) c.requires in
-    let weights_there : b < length ws = omega (arith, there, c.self.invariant.weights.same_length) in
     let s = c.relax.new.out in
     subst (λ st. (s : NodeSet) × IsFound (tree_of st.trees b) (weights_of st.weights b) st.moved (fixing_of st.marks b) c.relax.result s) c.self.view_is (
       s,
       found_at _ (tree_of ts b) _ (weights_of ws b) c.self.inside.moved.now _ (fixing_of c.self.inside.marks.now b) _ s s (sym (get_or_default ts b c.index-self-place.result [] there))
-          (sym (get_or_default ws b c.index-self-place-2.result [] weights_there)) (sym c.of.ensures) refl c.relax.ensures.found,
+          (sym c.of.ensures) (sym c.of-2.ensures) refl c.relax.ensures.found,
     )
