@@ -196,7 +196,11 @@ fn a_dead_side(rt: HostRuntime) -> Result<(), Fail> {
 }
 
 /// Kept bounds of two trees and one good that isn't exact.
-fn kept<'a>(alloc: Global, trees: &'a [Tree], weights: &AllWeights) -> Result<Kept<'a>, AllocError>
+fn kept<'a>(
+    alloc: Global,
+    trees: &'a [Tree],
+    weights: &'a AllWeights,
+) -> Result<Kept<'a>, AllocError>
     requires few { length trees.now ≡ 2 }
     requires weights { AreWeightsOf trees.now weights.now }
     ensures trees { IfOk result (λ k. k.trees ≡ trees.now) }
