@@ -8,7 +8,7 @@ use Rattle.ice_best.proofs.Partial.{picked_count-same}
 use Rattle.std.proofs.lemmas.Int.{ints}
 use Rattle.std.proofs.lemmas.Bool.{cases_eq, both_ways}
 use Rattle.ice_best.specs.Choice.{picked_count, IsIncreasing, IsChoice, IsBestChoice, TakesNeeded, TakesGains}
-use Rattle.ice_best.proofs.Greedy.{IsGreedy, greedy_is_greatest}
+use Rattle.ice_best.proofs.Greedy.{IsGreedy, picked_count-le, greedy_is_greatest}
 
 module _ (gain : ℕ → ℤ) (possible taken : ℕ → Bool) (children : List ℕ) where
   pub TakesGains-none : TakesGains gain possible taken children 0 taken
@@ -65,7 +65,7 @@ picked_count-put cs taken n count b up inside there e =
     omega (arith, e, before, here, picked_count_more (has (set taken (get_or cs n 0) b)) cs n inside)
 
 module _ (gain : ℕ → ℤ) (needed possible taken : ℕ → Bool) (least most count : ℕ) (children : List ℕ) (new : ℕ → Bool)
-    (started : TakesNeeded needed possible taken children count) (enough : least ≤ picked_count new children) (few : picked_count new children ≤ most)
+    (started : TakesNeeded needed possible taken children count) (enough : least ≤ picked_count new children) (few : picked_count possible children ≤ most)
     (is : TakesGains gain possible taken children (length children) new) where
   takes_needed : (k : ℕ) → k < length children → needed (get_or children k 0) ≡ true → new (get_or children k 0) ≡ true
   takes_needed k h e = is.keeps k h (started.taken_is k h ∙ e)
@@ -80,7 +80,7 @@ module _ (gain : ℕ → ℤ) (needed possible taken : ℕ → Bool) (least most
   choice : IsChoice needed possible least most children new
   choice = record {
     enough = enough;
-    few = few;
+    few = omega (arith, few, picked_count-le new possible children takes_possible);
     takes_needed = takes_needed;
     takes_possible = takes_possible;
   }
