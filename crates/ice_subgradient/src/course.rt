@@ -26,7 +26,7 @@ pub(crate) struct Goods {
 
 impl Goods {
     /// How many there are: no more than 32.
-    fn len(&self) -> usize
+    pub(crate) fn len(&self) -> usize
         ensures { result < 33 }
     {
         usize::from(self.count).min(32)

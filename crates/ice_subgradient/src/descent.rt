@@ -111,7 +111,7 @@ impl Descent {
     /// Whether an assignment above the value came up at the last step.
     fn look(&mut self) -> bool {
         let mut worth = self.here.total;
-        for good in 0..32 {
+        for good in 0..self.goods.len() {
             let excess = self.here.excess[good];
             if excess > 0 || self.goods.exact[good] && excess != 0 {
                 return false;
