@@ -145,20 +145,76 @@ struct Scratch {
     offers: [Offer; 200],
 }
 
-fn choose(children: &[u16], least: u16, most: u16, s: &mut Scratch) -> bool {
-    let mut count = 0u16;
+// Takes the needed children, and counts them and the possible ones; none, where a needed one is not possible.
+fn take_needed(children: &[u16], s: &mut Scratch) -> Option<(u16, u16)> {
+    let (mut needed, mut possible) = (0, 0);
     for &child in children {
         let c = child as usize;
         if s.needed[c] && !s.possible[c] {
-            return false;
+            return None;
         }
-        if s.needed[c] {
-            count += 1;
-        }
+        needed += s.needed[c] as u16;
+        possible += s.possible[c] as u16;
         s.taken[c] = s.needed[c];
     }
-    if count > most {
+    Some((needed, possible))
+}
+
+// Takes the child that adds most, where at most one more may be taken than the `count` that are.
+fn take_one(children: &[u16], least: u16, most: u16, count: u16, s: &mut Scratch) -> bool {
+    let mut best: Option<Offer> = None;
+    if count < most {
+        for &child in children {
+            let c = child as usize;
+            let gain = s.gain[c];
+            if s.possible[c] && !s.taken[c] && best.is_none_or(|best| best.gain < gain) {
+                best = Some(Offer { gain, child });
+            }
+        }
+    }
+    match best {
+        Some(offer) if count < least || offer.gain > 0 => {
+            s.taken[offer.child as usize] = true;
+            count + 1 >= least
+        }
+        _ => count >= least,
+    }
+}
+
+// Takes each possible child that adds value too, and counts all that are taken.
+fn take_gains(children: &[u16], s: &mut Scratch) -> u16 {
+    let mut count = 0;
+    for &child in children {
+        let c = child as usize;
+        s.taken[c] |= s.possible[c] & (s.gain[c] > 0);
+        count += s.taken[c] as u16;
+    }
+    count
+}
+
+fn choose(children: &[u16], least: u16, most: u16, s: &mut Scratch) -> bool {
+    let Some((mut count, possible)) = take_needed(children, s) else {
         return false;
+    };
+    if count > most || possible < least {
+        return false;
+    }
+    if least <= most && possible == least {
+        for &child in children {
+            s.taken[child as usize] = s.possible[child as usize];
+        }
+        return true;
+    }
+    if most - count <= 1 {
+        return take_one(children, least, most, count, s);
+    }
+    if possible <= most {
+        if take_gains(children, s) >= least {
+            return true;
+        }
+        for &child in children {
+            s.taken[child as usize] = s.needed[child as usize];
+        }
     }
     let mut offered = 0;
     for &child in children {
