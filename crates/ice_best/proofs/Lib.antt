@@ -9,7 +9,7 @@ pub mod Gains
 -- picks among the children of a node, as sums over all nodes
 pub mod Children
 -- the root's entry of a table bounds every satisfied set that meets the fixing
-pub mod Table
+pub mod Bounding
 -- what the table's choices take is a satisfied set that meets the fixing, and has the root's gain
 pub mod Taken
 -- a choice that is made child by child, best first
@@ -34,3 +34,7 @@ pub mod Deciding
 pub mod Sales
 -- the net of a set at rates is its value at the net weights
 pub mod NetValues
+-- what a table's choices take from the root down is some set
+pub mod Existence
+-- a table that is filled anew from a node up to the root
+pub mod Renewing

@@ -1,5 +1,5 @@
 -- One more entry of a half-filled table.
-use Rattle.std.proofs.Common.{ℕ, ◌+◌, ◌^◌, ◌<◌, ◌≤◌, ◌≡◌, ◌≢◌, ◌↔◌, Bool, true, false, List, length, get_or, set, Option, Some, None, ℤ, pos, ◌+ℤ◌, ◌≤ℤ◌, refl, arith, ap, sym, ◌∙◌, ◌⊎◌, inl, inr, subst, ⊎_elim, get_or-set_same, get_or-set_other}
+use Rattle.std.proofs.Common.{ℕ, ◌+◌, ◌-◌, ◌^◌, ◌<◌, ◌≤◌, ◌≡◌, ◌≢◌, ◌↔◌, Bool, true, false, List, length, get_or, set, Option, Some, None, ℤ, pos, ◌+ℤ◌, ◌≤ℤ◌, refl, arith, ap, sym, ◌∙◌, ◌⊎◌, inl, inr, subst, ⊎_elim, get_or-set_same, get_or-set_other}
 use Rattle.std.proofs.lemmas.Int.{ints}
 use Rattle.std.proofs.lemmas.Bool.{cases_order, both_ways}
 use Rattle.ice_defs.specs.declared.Mark.{Mark}
@@ -9,13 +9,15 @@ use Rattle.ice_defs.specs.Set.{has, Weights, weight_of, IsSmall}
 use Rattle.ice_defs.specs.Fixing.{Fixing, mark_of}
 use Rattle.ice_best.specs.Choice.{picked_sum, IsGainSmall, ChangesOnly}
 use Rattle.ice_best.specs.Table.{least_of, most_of, IsChoiceAt, IsOpenEntry, IsEntry, IsPick, IsOpened, IsNeededBy}
-use Rattle.ice_best.specs.Roots.{size_of, IsRoomy}
+use Rattle.ice_best.specs.Roots.{size_of, children_size, IsRoomy}
+use Rattle.ice_best.specs.declared.table.Table.{Table}
+use Rattle.ice_best.specs.Entries.{AreEntries}
 use Rattle.std.specs.Option.{IfSome}
 use Rattle.ice_best.proofs.Children.{filter_at, filter_has}
 use Rattle.ice_best.proofs.Flags.{has-put_same, has-put_other}
-use Rattle.ice_best.proofs.Frame.{Agree, back, IsBestChoice-same, IsEntry-same, picked_sum-same}
-use Rattle.ice_best.proofs.Table.{child_after}
-use Rattle.ice_best.proofs.Roots.{size_of-gain, size_of-zero, IsRoomy-put, children_size, size_of-bounds}
+use Rattle.ice_best.proofs.Frame.{Agree, back, IsBestChoice-same, IsEntry-same, picked_sum-same, children_size-same}
+use Rattle.ice_best.proofs.Bounding.{child_after}
+use Rattle.ice_best.proofs.Roots.{size_of-gain, size_of-zero, size_of-bounds, IsRoomy-from}
 
 pub weight_of-put_same : (s : List ℤ) (i : ℕ) (v : ℤ) → i < length s → weight_of (set s i v) i ≡ v
 weight_of-put_same s i v h = rw get_or-set_same
@@ -30,7 +32,7 @@ module _ (t : Tree) (w : Weights) (x : Fixing) (gain : List ℤ) (needed possibl
     (picks : IsPick (mark_of x n) (weight_of gain) (has needed) (has possible) (least_of (kind_of t n)) (most_of (kind_of t n)) (children_of t n) (has taken') sum)
     (is_needed : (need ≡ true) ↔ IsNeededBy (mark_of x n) (has needed) (children_of t n))
     (is_opened : IsOpened (weight_of w n) sum may v)
-    (changes : ChangesOnly taken taken' (children_of t n)) where
+    (changes : ChangesOnly taken taken' (children_of t n)) (small : IsSmall (weight_of w n)) (roomy : IsRoomy t (weight_of gain) (n + 1)) where
   -- a child of n has the entry that it had
   same_child : (c : ℕ) → c < length t → is_child t n c ≡ true
       → (weight_of (set gain n v) c ≡ weight_of gain c) × (has (set needed n need) c ≡ has needed c) × (has (set possible n may) c ≡ has possible c)
@@ -64,6 +66,9 @@ module _ (t : Tree) (w : Weights) (x : Fixing) (gain : List ℤ) (needed possibl
         ∙ is_needed.1 (inr (found.0, found.1, ap (has needed) found.2 ∙ sym (same_child c h child).1 ∙ f));
     open_entry = λ f. opens sum picks is_opened (sym (has-put_same possible n may room_p) ∙ f);
     closed_entry = λ f. closes sum picks is_opened (sym (has-put_same possible n may room_p) ∙ f);
+    small_gain =
+        let below = children_size-same t (weight_of gain) (weight_of (set gain n v)) n (λ c h child. (same_child c h child).0) in
+        omega (arith, ints, below, bounded sum picks is_opened);
   }
     where
       opens : (sum : Option ℤ) → IsPick (mark_of x n) (weight_of gain) (has needed) (has possible) (least_of (kind_of t n)) (most_of (kind_of t n)) (children_of t n) (has taken') sum
@@ -89,6 +94,18 @@ module _ (t : Tree) (w : Weights) (x : Fixing) (gain : List ℤ) (needed possibl
           (λ none. inr (λ T choice. none T (back (weight_of gain) (weight_of (set gain n v)) (has needed) (has (set needed n need)) (has possible) (has (set possible n may)) (has taken') (has taken')
           (children_of t n) agree (least_of (kind_of t n)) (most_of (kind_of t n)) T choice)))
           picks.none
+
+      bounded : (sum : Option ℤ) → IsPick (mark_of x n) (weight_of gain) (has needed) (has possible) (least_of (kind_of t n)) (most_of (kind_of t n)) (children_of t n) (has taken') sum
+          → IsOpened (weight_of w n) sum may v → size_of (weight_of (set gain n v) n) ≤ℤ (pos (2 ^ 90) +ℤ children_size t (weight_of gain) n)
+      bounded None picks o =
+          let zero_is = ap size_of (weight_of-put_same gain n v room_g ∙ o.1) in
+          omega (arith, ints, zero_is, size_of-zero t (weight_of gain) n tree l few roomy)
+      bounded (Some y) picks o =
+          let is : weight_of (set gain n v) n ≡ (weight_of w n +ℤ picked_sum (weight_of gain) (has taken') (children_of t n)) =
+          weight_of-put_same gain n v room_g ∙ omega (arith, ints, o.1, picks.some_sum) in
+          let same = ap size_of is in
+          let small_gain = (size_of-gain t (weight_of gain) n tree l few roomy (weight_of w n) (has taken') small).0 in
+          omega (arith, ints, same, small_gain)
 
   pub later_entry : (k : ℕ) → n < k → k < length t → IsEntry t w x (weight_of gain) (has needed) (has possible) (has taken) k
       → IsEntry t w x (weight_of (set gain n v)) (has (set needed n need)) (has (set possible n may)) (has taken') k
@@ -117,22 +134,6 @@ module _ (t : Tree) (w : Weights) (x : Fixing) (gain : List ℤ) (needed possibl
       by (inr (inl m)) = later_entry k m l' (later k (omega arith) l')
       by (inr (inr m)) = absurd (omega arith)
 
-  -- the new gains are roomy
-  pub new_roomy : IsSmall (weight_of w n) → IsRoomy t (weight_of gain) (n + 1) → IsRoomy t (weight_of (set gain n v)) n
-  new_roomy small roomy = IsRoomy-put t (weight_of gain) n tree l few roomy (weight_of (set gain n v)) (λ c ne. weight_of-put_other gain n c v ne) (here sum picks is_opened)
-    where
-      here : (sum : Option ℤ) → IsPick (mark_of x n) (weight_of gain) (has needed) (has possible) (least_of (kind_of t n)) (most_of (kind_of t n)) (children_of t n) (has taken') sum
-          → IsOpened (weight_of w n) sum may v → size_of (weight_of (set gain n v) n) ≤ℤ (pos (2 ^ 90) +ℤ children_size t (weight_of gain) n)
-      here None picks o =
-          let zero_is = ap size_of (weight_of-put_same gain n v room_g ∙ o.1) in
-          omega (arith, ints, zero_is, size_of-zero t (weight_of gain) n tree l few roomy)
-      here (Some y) picks o =
-          let is : weight_of (set gain n v) n ≡ (weight_of w n +ℤ picked_sum (weight_of gain) (has taken') (children_of t n)) =
-          weight_of-put_same gain n v room_g ∙ omega (arith, ints, o.1, picks.some_sum) in
-          let same = ap size_of is in
-          let small_gain = (size_of-gain t (weight_of gain) n tree l few roomy (weight_of w n) (has taken') small).0 in
-          omega (arith, ints, same, small_gain)
-
 -- the gain of n fits
 pub gain_fits : (t : Tree) (g : ℕ → ℤ) (n : ℕ) (tree : IsTree t) (l : n < length t) (few : length t ≤ 200) (roomy : IsRoomy t g (n + 1))
     → (weight : ℤ) → IsSmall weight → (mark : Mark) (needed possible chosen : ℕ → Bool) (least most : ℕ) (sum : Option ℤ)
@@ -143,3 +144,9 @@ gain_fits t g n tree l few roomy weight small mark needed possible chosen least 
     let same = ap (λ z. weight +ℤ z) picks.some_sum in
     let bounds = size_of-bounds _ _ size in
     record { low = omega (arith, ints, same, bounds.0); high = omega (arith, ints, same, bounds.1) }
+
+-- where the later entries are filled, their gains are roomy
+pub later_roomy : (t : Tree) (w : Weights) (x : Fixing) (table : Table) (n : ℕ) → IsTree t → length t ≤ 200 → n < length t
+    → AreEntries t w x table (n + 1) → IsRoomy t (weight_of table.gain) (n + 1)
+later_roomy t w x table n tree few l later =
+    IsRoomy-from t (weight_of table.gain) (length t - (n + 1)) (n + 1) tree few (omega arith) (λ k h l'. (later k h l').small_gain)

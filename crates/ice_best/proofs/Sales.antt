@@ -1,9 +1,8 @@
 -- The greatest sale, over the list of all sets and over the satisfied sets, and sales as weights.
-use Rattle.std.proofs.Common.{ℕ, zero, suc, ◌+◌, ◌*◌, ◌<◌, ◌≤◌, ◌≡◌, Bool, true, false, cond, List, [], ◌∷◌, length, map, get_or, replicate, ℤ, pos, neg_ℤ, ◌+ℤ◌, ◌≤ℤ◌, refl, arith, ap, sym, ◌∙◌, ◌⊎◌, inl, inr, subst, set, below_more}
+use Rattle.std.proofs.Common.{ℕ, zero, suc, ◌+◌, ◌*◌, ◌<◌, ◌≤◌, ◌≡◌, Bool, true, false, cond, List, [], ◌∷◌, length, map, replicate, ℤ, pos, neg_ℤ, ◌+ℤ◌, ◌≤ℤ◌, refl, arith, ap, sym, ◌∙◌, ◌⊎◌, inl, inr, subst, set, below_more}
 use Rattle.std.specs.List.{Contains, filter}
 use Rattle.std.proofs.lemmas.Int.{ints, fold-int_max_bounds, fold-int_max_reached}
-use Rattle.std.proofs.lemmas.Bool.{both_ways}
-use Rattle.std.proofs.lemmas.List.{length-replicate, length-map, get_or-map}
+use Rattle.std.proofs.lemmas.List.{length-map, get_or-map}
 use Rattle.std.proofs.lemmas.List.Elements.{Contains-append_left, Contains-append_right, All-contains, filter_passes}
 use mir.Syntax.{w64}
 use mir.Val.{SFits}
@@ -20,7 +19,7 @@ use Rattle.ice_defs.proofs.Sums.{sum_below-add, sum_below-zero, sum_below-low, s
 use Rattle.ice_best.proofs.NewEntry.{weight_of-put_same, weight_of-put_other}
 use Rattle.ice_best.proofs.Deciding.{is_satisfied-true, is_satisfied-from}
 use Rattle.ice_defs.proofs.NodeSets.{meets_free}
-use Rattle.ice_defs.proofs.EmptySets.{replicate_at, empty_satisfied, units-empty}
+use Rattle.ice_defs.proofs.EmptySets.{empty_satisfied, units-empty}
 
 -- ---- lists
 

@@ -8,10 +8,11 @@ mod fill;
 mod fixing;
 mod nets;
 mod sale;
+mod table;
 
 pub use best_set::best;
-pub use fill::Scratch;
 pub use fixing::{Fixing, Fixings};
 pub use ice_defs::Mark;
 pub use nets::fill_net_weights;
 pub use sale::greatest_sale;
+pub use table::{Scratch, Table};

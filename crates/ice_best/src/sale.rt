@@ -6,8 +6,8 @@ ghost use Rattle.ice_defs.specs.Greatest.{IsGreatest};
 ghost use Rattle.ice_defs.specs.Sale.{greatest_sale};
 
 use crate::best_set::best;
-use crate::fill::Scratch;
 use crate::fixing::Fixing;
+use crate::table::Scratch;
 use ice_defs::NodeKind;
 use ice_tree::{NodeSet, Tree, Weights};
 

@@ -1,7 +1,7 @@
 use Rattle.std.proofs.Common.{◌≡◌, ◌<◌, ◌&&◌, ◌≤◌, ℕ, length, false}
 use Rattle.ice_defs.specs.Set.{has}
 use Rattle.ice_defs.specs.Tree.{parent_of}
-use Rattle.ice_best.proofs.best_set.take_set.Given as goal
+use Rattle.ice_best.proofs.table.take_set.Given as goal
 
 abbrev pub invariant-loop-node : goal.invariant-loop-node
 invariant-loop-node l = record {
