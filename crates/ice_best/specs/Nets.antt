@@ -37,8 +37,12 @@ set_cost t rates s = sum_below (λ g. rate_of rates g *ℤ units t s g) (length 
 abbrev pub net_at_rates : Tree → Weights → ℕ → Rates → ℕ → NodeSet → ℤ
 net_at_rates t w scale rates times s = (pos scale *ℤ value s w) -ℤ (pos times *ℤ set_cost t rates s)
 
--- the weight of each node, scaled, less so many times its cost
+-- the weight of a node, scaled, less so many times its cost
+abbrev pub node_net : Tree → Weights → ℕ → Rates → ℕ → ℕ → ℤ
+node_net t w scale rates times n = (pos scale *ℤ weight_of w n) -ℤ (pos times *ℤ node_cost (kind_of t n) rates)
+
+-- the same of each node
 pub record AreNetWeights (t : Tree) (w : Weights) (scale : ℕ) (rates : Rates) (times : ℕ) (nets : Weights) : Type 0 where
   pub nodes : length nets ≡ length t
-  pub each : (n : ℕ) → n < length t → weight_of nets n ≡ ((pos scale *ℤ weight_of w n) -ℤ (pos times *ℤ node_cost (kind_of t n) rates))
+  pub each : (n : ℕ) → n < length t → weight_of nets n ≡ node_net t w scale rates times n
   pub small : AllSmall nets

@@ -13,6 +13,6 @@ mod table;
 pub use best_set::best;
 pub use fixing::{Fixing, Fixings};
 pub use ice_defs::Mark;
-pub use nets::fill_net_weights;
+pub use nets::{fill_net_weights, put_net_weight};
 pub use sale::greatest_sale;
 pub use table::{Scratch, Table};

@@ -1,8 +1,8 @@
 //! What the nodes of a tree are worth beside what their units cost.
-ghost use Rattle.std.specs.Prelude.{◌≡◌, ◌*◌, ◌^◌, ◌<◌, ◌≤◌, length, pos, neg_ℤ, ◌-ℤ◌, ◌*ℤ◌, ◌≤ℤ◌};
+ghost use Rattle.std.specs.Prelude.{◌≡◌, ◌*◌, ◌^◌, ◌<◌, ◌≤◌, length, slice_set, pos, neg_ℤ, ◌-ℤ◌, ◌*ℤ◌, ◌≤ℤ◌};
 ghost use Rattle.ice_defs.specs.Set.{IsSmall};
 ghost use Rattle.ice_defs.specs.Lawful.{IsLimitedKind};
-ghost use Rattle.ice_best.specs.Nets.{rate_of, AreRates, AreAtMostTrillion, node_cost, AreNetWeights};
+ghost use Rattle.ice_best.specs.Nets.{rate_of, AreRates, AreAtMostTrillion, node_cost, node_net, AreNetWeights};
 
 use ice_tree::{NodeKind, Tree, Weights};
 
@@ -84,6 +84,32 @@ fn net_weight(weight: i128, scale: u64, times: u8, cost: i128) -> i128
     times_scale(weight, scale) - times_cost(times, cost)
 }
 
+/// Makes the weight of one node in `out` what the node nets at rates: `scale` times its weight, less `times` times what its
+/// units cost. The limits are those of `fill_net_weights`.
+pub fn put_net_weight(
+    out: &mut Weights,
+    tree: &Tree,
+    weights: &Weights,
+    scale: u64,
+    rates: &[i64],
+    times: u8,
+    node: u16,
+)
+    requires node { node < length tree.now }
+    requires out { length out.old ≡ length tree.now }
+    requires nodes { length weights.now ≡ length tree.now }
+    requires weights { AreAtMostTrillion weights.now }
+    requires scale { scale ≤ 2 ^ 32 }
+    requires rates { AreRates rates.now }
+    ensures put { out.new ≡ slice_set out.old node (node_net tree.now weights.now scale rates.now times node) }
+    ensures small { IsSmall (node_net tree.now weights.now scale rates.now times node) }
+{
+    // a tree names at most 32 goods
+    let _nodes = tree.nodes();
+    let cost = node_cost(tree.kind(node), rates);
+    out.put(node, net_weight(weights.get(node), scale, times, cost));
+}
+
 /// Makes `out` the weights by which the value of a set is its net at rates: `scale` times its value, less `times` times
 /// what its units cost. A unit of a good costs the good's rate, and nothing where the good has no rate.
 ///
@@ -104,7 +130,6 @@ pub fn fill_net_weights(
     ensures { AreNetWeights tree.now weights.now scale rates.now times out.new }
 {
     for node in 0..tree.nodes() {
-        let cost = node_cost(tree.kind(node), rates);
-        out.put(node, net_weight(weights.get(node), scale, times, cost));
+        put_net_weight(out, tree, weights, scale, rates, times, node);
     }
 }

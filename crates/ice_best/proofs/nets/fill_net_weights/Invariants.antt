@@ -1,12 +1,11 @@
-use Rattle.std.proofs.Common.{◌≡◌, ◌<◌, ℕ, length, pos, ◌-ℤ◌, ◌*ℤ◌}
-use Rattle.ice_defs.specs.Tree.{kind_of}
+use Rattle.std.proofs.Common.{◌≡◌, ◌<◌, ℕ, length}
 use Rattle.ice_defs.specs.Set.{weight_of, IsSmall}
-use Rattle.ice_best.specs.Nets.{node_cost}
+use Rattle.ice_best.specs.Nets.{node_net}
 use Rattle.ice_best.proofs.nets.fill_net_weights.Given as goal
 
 abbrev pub invariant-loop-node : goal.invariant-loop-node
 invariant-loop-node l = record {
   nodes : length l.out ≡ length l.tree;
-  each : (n : ℕ) → n < l.node → weight_of l.out n ≡ ((pos l.scale *ℤ weight_of l.weights n) -ℤ (pos l.times *ℤ node_cost (kind_of l.tree n) l.rates));
+  each : (n : ℕ) → n < l.node → weight_of l.out n ≡ node_net l.tree l.weights l.scale l.rates l.times n;
   small : (n : ℕ) → n < l.node → IsSmall (weight_of l.out n);
 }
