@@ -15,3 +15,4 @@ pub mod Staying
 pub mod Moving
 -- the sum of the greatest nets where a multiplier is one more, or one less
 pub mod Reaching
+pub mod Tables

@@ -19,9 +19,10 @@ use Rattle.ice_defs.proofs.Multiples.{one_time}
 use Rattle.ice_best.proofs.Sales.{greatest_unique}
 use Rattle.ice_bound.specs.Multipliers.{multiplier_of}
 use Rattle.ice_bound.specs.Beside.{beside, less_cost, with_beside, StandingBeside, IsFoundBeside, IsShare, IsGreatestShare}
-use Rattle.ice_bound.specs.Kept.{is_leaf_of, IsWithout, NodeStands, Stands, IsFound, net_of}
+use Rattle.ice_bound.specs.Kept.{is_leaf_of, IsWithout, NodeStands, Stands, IsFound, IsNetOf, net_of}
 use Rattle.ice_bound.proofs.Moving.{cost-moved}
-use Rattle.ice_bound.proofs.Staying.{Moves, stays_best}
+use Rattle.ice_bound.specs.Tables.{Moves}
+use Rattle.ice_bound.proofs.Staying.{stays_best}
 use Rattle.ice_bound.proofs.Totals.{IsGreatestNet, IsPartialSum, no_bidder, one_bidder_more, total_fits}
 
 pub beside_moves : (rises : Bool) (z : ℤ) → Moves rises z (beside rises z)
@@ -74,9 +75,9 @@ pub net_found : (t : Tree) (w : Weights) (m : Multipliers) (x : Fixing) (v : ℤ
 net_found t w m x v s (is, (o, e)) = e
 
 -- a bidder with an open set has a net
-pub not_none : (t : Tree) (w : Weights) (m : Multipliers) (x : Fixing) (o : Option ℤ) (s : NodeSet) → IsFound t w m x o s → (r : NodeSet) × IsOpen t x r → ((v : ℤ) → o ≡ Some v → ⊥) → ⊥
-not_none t w m x None s none (r, open_set) none_is = none r open_set
-not_none t w m x (Some v) s found alive none_is = none_is v refl
+pub not_none : (t : Tree) (w : Weights) (m : Multipliers) (x : Fixing) (o : Option ℤ) → IsNetOf t w m x o → (r : NodeSet) × IsOpen t x r → ((v : ℤ) → o ≡ Some v → ⊥) → ⊥
+not_none t w m x None none (r, open_set) none_is = none r open_set
+not_none t w m x (Some v) is alive none_is = none_is v refl
 
 -- the same of the same things
 pub found_at : (t t2 : Tree) (w w2 : Weights) (m : Multipliers) (x x2 : Fixing) (o : Option ℤ) (s s2 : NodeSet) → t2 ≡ t → w2 ≡ w → x2 ≡ x → s2 ≡ s → IsFound t w m x o s → IsFound t2 w2 m x2 o s2

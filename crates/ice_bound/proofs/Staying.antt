@@ -15,11 +15,7 @@ use Rattle.ice_best.specs.Nets.{node_cost}
 use Rattle.ice_best.proofs.NetValues.{set_cost-nodes}
 use Rattle.ice_bound.specs.Multipliers.{multiplier_of}
 use Rattle.ice_bound.specs.Kept.{NodeStands, Stands, IsFound}
-
--- a number moves up, or down
-abbrev pub Moves : (rises : Bool) → ℤ → ℤ → Type 0
-Moves true before z = before ≤ℤ z
-Moves false before z = z ≤ℤ before
+use Rattle.ice_bound.specs.Tables.{Moves}
 
 pub moves_by : (rises : Bool) (before z : ℤ) → (rises ≡ true → before ≤ℤ z) → (rises ≡ false → z ≤ℤ before) → Moves rises before z
 moves_by true before z up down = up refl

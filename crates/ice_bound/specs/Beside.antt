@@ -9,6 +9,8 @@ use Rattle.ice_defs.specs.Trade.{Assignment, tree_of, set_of, weights_of, fixing
 use Rattle.ice_defs.specs.Bound.{Multipliers, net, IsOpen}
 use Rattle.ice_bound.specs.Multipliers.{multiplier_of}
 use Rattle.ice_bound.specs.Conditions.{AreWeightsOf, AreFixingsOf}
+use Rattle.ice_bound.specs.declared.net_table.NetTable.{NetTable}
+use Rattle.ice_bound.specs.Tables.{IsNetTable, AreTables}
 use Rattle.ice_bound.specs.Kept.{HaveRoom, AreFound, AreGoods}
 
 -- one more, or one less
@@ -51,6 +53,13 @@ pub record IsFoundBeside (st : StandingBeside) : Type 0 where
   pub good : st.good < length st.multipliers
   pub good_fits : st.good < 32
   pub moved : st.moved ≡ with_beside st.multipliers st.good st.rises
+
+-- the table of a bidder at the multipliers before they moved
+abbrev pub IsTableBeside : StandingBeside → ℕ → NetTable → Type 0
+IsTableBeside st b table = IsNetTable (tree_of st.trees b) (weights_of st.weights b) st.multipliers (fixing_of st.marks b) table
+
+abbrev pub AreTablesBeside : StandingBeside → List NetTable → Type 0
+AreTablesBeside st tables = AreTables st.trees st.weights st.multipliers st.marks tables (length st.trees)
 
 -- what the set of a bidder nets at the moved multipliers
 abbrev pub net_beside : StandingBeside → ℕ → ℤ

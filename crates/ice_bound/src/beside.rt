@@ -1,16 +1,15 @@
 //! Whether the sum of the greatest nets reaches a number where the multiplier of one good is one more, or one less.
 ghost use Rattle.std.specs.Prelude.{◌≡◌, ℕ, ◌*◌, ◌^◌, ◌<◌, ◌≤◌, ◌↔◌, length, vec_len, IsTrue, if◌then◌else◌, pos, neg_ℤ, ℤ, ◌≤ℤ◌};
 ghost use Rattle.ice_defs.specs.Bound.{IsNetSum};
-ghost use Rattle.ice_defs.specs.Set.{NodeSet as Nodes, has, leaf_units, units};
+ghost use Rattle.ice_defs.specs.Set.{has, leaf_units, units};
 ghost use Rattle.ice_defs.specs.Sum.{sum_below};
 ghost use Rattle.ice_defs.specs.Trade.{tree_of, weights_of, fixing_of};
-ghost use Rattle.ice_bound.specs.Beside.{less_cost, IsFoundBeside, net_beside, IsShare, share_of, IsGreatestShare};
-ghost use Rattle.ice_bound.specs.Kept.{IsFound, IsSmallNet, AreGoodsOf, Stands};
+ghost use Rattle.ice_bound.specs.Beside.{less_cost, IsFoundBeside, IsTableBeside, AreTablesBeside, net_beside, IsShare, share_of, IsGreatestShare};
+ghost use Rattle.ice_bound.specs.Kept.{IsNetOf, IsSmallNet, AreGoodsOf, Stands};
 
 use crate::found::stands;
 use crate::multipliers::Multipliers;
-use crate::net::NetWeights;
-use crate::room::relax;
+use crate::net_table::NetTable;
 use ice_best::{Fixings, Scratch};
 use ice_tree::{AllWeights, Assignment, NodeKind, NodeSet, Tree};
 use std::marker::Model;
@@ -169,14 +168,15 @@ impl<'a> Beside<'a> {
         after_cost(net, units, self.rises)
     }
 
-    /// The bidder's greatest net at the moved multipliers, None where it is dead.
-    fn greatest_net(&self, bidder: u8, nets: &mut NetWeights, scratch: &mut Scratch) -> Option<i128>
-        requires { bidder < length self.now.trees }
-        ensures found { (s : Nodes) × IsFound (tree_of self.now.trees bidder)
-            (weights_of self.now.weights bidder) self.now.moved (fixing_of self.now.marks bidder)
-            result s }
+    /// The bidder's greatest net at the moved multipliers, None where it is dead. Its table moves there and back.
+    fn greatest_net(&self, bidder: u8, table: &mut NetTable, scratch: &mut Scratch) -> Option<i128>
+        requires bidder { bidder < length self.now.trees }
+        requires table { IsTableBeside self.now bidder table.old }
+        ensures net { IsNetOf (tree_of self.now.trees bidder) (weights_of self.now.weights bidder)
+            self.now.moved (fixing_of self.now.marks bidder) result }
         ensures small { IsSmallNet result }
         ensures known { IsFoundBeside self.now }
+        ensures table { IsTableBeside self.now bidder table.new }
     {
         let place = bidder as usize;
         let tree = &self.trees[place];
@@ -184,24 +184,22 @@ impl<'a> Beside<'a> {
         if stays(tree, set, &self.goods[place], self.good, self.rises) {
             return self.nets[place];
         }
-        let mut other = NodeSet::empty(tree.nodes());
-        relax(
-            tree,
-            self.weights.of(bidder),
-            self.moved,
-            self.marks.of(bidder),
-            nets,
-            scratch,
-            &mut other,
-        )
+        let weights = self.weights.of(bidder);
+        let fixing = self.marks.of(bidder);
+        table.renew_good(tree, weights, self.moved, fixing, self.good, scratch);
+        let net = table.greatest();
+        table.renew_good(tree, weights, self.m, fixing, self.good, scratch);
+        net
     }
 
     /// The same number: no bidder is dead.
-    fn greatest(&self, bidder: u8, nets: &mut NetWeights, scratch: &mut Scratch) -> i128
-        requires { bidder < length self.now.trees }
-        ensures { IsGreatestShare self.now bidder result }
+    fn greatest(&self, bidder: u8, table: &mut NetTable, scratch: &mut Scratch) -> i128
+        requires bidder { bidder < length self.now.trees }
+        requires table { IsTableBeside self.now bidder table.old }
+        ensures greatest { IsGreatestShare self.now bidder result }
+        ensures table { IsTableBeside self.now bidder table.new }
     {
-        let Some(net) = self.greatest_net(bidder, nets, scratch) else {
+        let Some(net) = self.greatest_net(bidder, table, scratch) else {
             unreachable!()
         };
         net
@@ -229,13 +227,15 @@ impl<'a> Beside<'a> {
     pub(crate) fn reaches(
         &self,
         least: i128,
-        spaces: &mut Vec<NetWeights>,
+        tables: &mut Vec<NetTable>,
         scratch: &mut Scratch,
     ) -> bool
-        requires { vec_len spaces.old ≡ length self.now.trees }
+        requires there { vec_len tables.old ≡ length self.now.trees }
+        requires tables { AreTablesBeside self.now tables.old.items }
         ensures answer { (total : ℤ) → IsNetSum self.now.trees self.now.weights self.now.moved
             self.now.marks total → IsTrue result ↔ (least ≤ℤ total) }
-        ensures spaces { vec_len spaces.new ≡ vec_len spaces.old }
+        ensures there { vec_len tables.new ≡ vec_len tables.old }
+        ensures tables { AreTablesBeside self.now tables.new.items }
     {
         let mut shares = [0; 40];
         let mut bound = self.put_shares(&mut shares);
@@ -244,7 +244,7 @@ impl<'a> Beside<'a> {
                 return true;
             }
             let place = bidder as usize;
-            bound += self.greatest(bidder, &mut spaces[place], scratch) - shares[place];
+            bound += self.greatest(bidder, &mut tables[place], scratch) - shares[place];
         }
         bound >= least
     }

@@ -60,7 +60,7 @@ impl<'a> Model for Kept<'a> {
       multipliers = k.m;
       exact = k.found.exact;
       sets = k.found.sets;
-    }) k.found.nets.items k.goods.items };
+    }) k.found.nets.items k.goods.items k.found.tables.items };
 }
 
 /// The sum of the nets, or the first place without one.
@@ -289,7 +289,7 @@ impl<'a> Kept<'a> {
             good,
             rises,
         };
-        beside.reaches(least, &mut found.spaces, &mut *found.scratch)
+        beside.reaches(least, &mut found.tables, &mut *found.scratch)
     }
 
     /// Gives all goods these multipliers. Time: one recursion over each tree, unless they are those that are kept.

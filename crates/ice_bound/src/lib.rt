@@ -13,6 +13,7 @@ mod kept;
 mod laws;
 mod multipliers;
 mod net;
+mod net_table;
 mod room;
 mod total_units;
 

@@ -4,5 +4,4 @@ use Rattle.ice_bound.proofs.beside.Beside.greatest.Goals as goal
 pub unreachable-requires : goal.unreachable-requires
 unreachable-requires c =
     let known = c.greatest_net.ensures.known in
-    let (s, found) = c.greatest_net.ensures.found in
-    not_none _ _ c.args.self.now.moved _ _ s found (known.live c.args.bidder c.requires) c.in_default.not-Some
+    not_none _ _ c.args.self.now.moved _ _ c.greatest_net.ensures.net (known.live c.args.bidder c.requires.bidder) c.in_default.not-Some

@@ -6,6 +6,7 @@ use Rattle.ice_defs.specs.Bound.{IsOpen}
 use Rattle.ice_defs.specs.Trade.{tree_of, set_of, fixing_of}
 use Rattle.ice_bound.specs.Beside.{share_of}
 use Rattle.ice_bound.proofs.Totals.{total_fits}
+use Rattle.ice_bound.proofs.Tables.{table_put, one_table_anew}
 use Rattle.ice_bound.proofs.Reaching.{open_found, share_fits, greatest_fits, gain_fits, sets_alone, raised, is_below, is_whole}
 use Rattle.ice_bound.proofs.beside.Beside.reaches.Goals as goal
 
@@ -19,7 +20,8 @@ loop-bidder-init c =
       partial = sets_alone st.trees st.weights st.moved st.marks st.sets c.put_shares-bound.result c.put_shares-bound.ensures.sum;
       low = omega (arith, ints, low);
       high = omega (arith, ints, high);
-      spaces = c.requires;
+      there = c.requires.there;
+      tables = c.requires.tables;
     })
 
 pub returns-then-bound-least-clause-answer : goal.returns-then-bound-least-clause-answer
@@ -40,7 +42,7 @@ overflow_sub-bound c =
     let v = c.greatest.result in
     let share = share_of c.put_shares-bound.new.shares b in
     let shared = c.put_shares-bound.ensures.each b there in
-    rw (to_z-of_z w128 v (greatest_fits st b v c.greatest.ensures), to_z-of_z w128 share (share_fits st b share shared)) (gain_fits st b v share c.greatest.ensures shared)
+    rw (to_z-of_z w128 v (greatest_fits st b v c.greatest.ensures.greatest), to_z-of_z w128 share (share_fits st b share shared)) (gain_fits st b v share c.greatest.ensures.greatest shared)
 
 pub overflow_add-bound : goal.overflow_add-bound
 overflow_add-bound c =
@@ -51,7 +53,7 @@ overflow_add-bound c =
     let there : b < length st.trees = omega (arith, c.loop-bidder-test.true, c.bidders-bidder-end.ensures.value) in
     let v = c.greatest.result in
     let share = share_of c.put_shares-bound.new.shares b in
-    let greatest = c.greatest.ensures in
+    let greatest = c.greatest.ensures.greatest in
     let shared = c.put_shares-bound.ensures.each b there in
     rw (to_z-of_z w128 v (greatest_fits st b v greatest), to_z-of_z w128 share (share_fits st b share shared), to_z-of_z w128 (v -ℤ share) (gain_fits st b v share greatest shared))
     (total_fits (to_z w128 c.loop-bidder.bound-bits +ℤ (v -ℤ share)) (omega (arith, ints, greatest.low, shared.high, i.low, there, few)) (omega (arith, ints, greatest.high, shared.low, i.high, there, few)))
@@ -63,9 +65,11 @@ loop-bidder-preserved c =
     let i = c.loop-bidder.invariant in
     let few = c.bidders-bidder-end.ensures.known.few in
     let there : b < length st.trees = omega (arith, c.loop-bidder-test.true, c.bidders-bidder-end.ensures.value) in
+    let tables = c.loop-bidder.tables.items in
+    let room : b < length tables = search rules in
     let v = c.greatest.result in
     let share = share_of c.put_shares-bound.new.shares b in
-    let greatest = c.greatest.ensures in
+    let greatest = c.greatest.ensures.greatest in
     let shared = c.put_shares-bound.ensures.each b there in
     let fits : SFits w128 (to_z w128 c.loop-bidder.bound-bits +ℤ (v -ℤ share)) =
     total_fits _ (omega (arith, ints, greatest.low, shared.high, i.low, there, few)) (omega (arith, ints, greatest.high, shared.low, i.high, there, few)) in
@@ -78,7 +82,9 @@ loop-bidder-preserved c =
       partial = raised st.trees st.weights st.moved st.marks st.sets b _ v share i.partial greatest.greatest shared.is;
       low = omega (arith, ints, greatest.low, shared.high, i.low);
       high = omega (arith, ints, greatest.high, shared.low, i.high);
-      spaces = search rules;
+      there = search rules;
+      tables = one_table_anew st.trees st.weights st.multipliers st.marks tables _ b (table_put tables b _ _ st.multipliers _ c.greatest.new.table room c.greatest.ensures.table)
+          (λ k d h ne. i.tables k d h);
     })
 
 pub returns-clause-answer : goal.returns-clause-answer

@@ -4,18 +4,23 @@ use Rattle.std.proofs.lemmas.List.{get_or_default}
 use mir.Syntax.{w128}
 use mir.Val.{SFits}
 use Rattle.ice_defs.specs.Set.{units}
-use Rattle.ice_defs.specs.Trade.{tree_of, set_of}
+use Rattle.ice_defs.specs.Trade.{tree_of, set_of, weights_of, fixing_of}
 use Rattle.ice_bound.specs.Beside.{less_cost, IsShare}
-use Rattle.ice_bound.specs.Kept.{IsSmallNet}
+use Rattle.ice_bound.specs.Kept.{IsSmallNet, net_of}
 use Rattle.ice_bound.proofs.Totals.{total_fits}
 use Rattle.ice_bound.proofs.Reaching.{not_none, share_is}
+use Rattle.ice_bound.proofs.Tables.{found_net}
 use Rattle.ice_bound.proofs.beside.Beside.share.Goals as goal
 
 pub unreachable-requires : goal.unreachable-requires
 unreachable-requires c =
     let b = c.args.bidder in
     let there : b < length c.self.inside.trees.now = subst (λ st. b < length st.trees) (sym c.self.view_is) c.requires in
-    not_none _ _ c.self.inside.m.now _ _ (set_of c.self.inside.sets.now b) (c.self.invariant.found.each b there) (c.self.invariant.live b there) c.in_default.not-Some
+    let t = tree_of c.self.inside.trees.now b in
+    let w = weights_of c.self.inside.weights.now b in
+    let x = fixing_of c.self.inside.marks.now b in
+    let net = net_of c.self.inside.nets.now b in
+    not_none t w c.self.inside.m.now x net (found_net t w c.self.inside.m.now x net (set_of c.self.inside.sets.now b) (c.self.invariant.found.each b there)) (c.self.invariant.live b there) c.in_default.not-Some
 
 pub returns : goal.returns
 returns c =
