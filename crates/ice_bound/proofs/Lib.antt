@@ -16,3 +16,4 @@ pub mod Moving
 -- the sum of the greatest nets where a multiplier is one more, or one less
 pub mod Reaching
 pub mod Tables
+pub mod NextLeaves

@@ -1,25 +1,23 @@
 -- The sum of the greatest nets where the multiplier of one good is one more, or one less.
-use Rattle.std.proofs.Common.{ℕ, zero, suc, ◌<◌, ◌≤◌, ◌≡◌, true, false, cond, Bool, List, length, ◌+◌, ◌*◌, ◌^◌, Option, None, Some, set, ℤ, pos, neg_ℤ, ◌+ℤ◌, ◌-ℤ◌, ◌*ℤ◌, ◌≤ℤ◌, refl, arith, ap, sym, ◌∙◌, subst, ◌⊎◌, inl, inr}
+use Rattle.std.proofs.Common.{ℕ, zero, suc, ◌<◌, ◌≤◌, ◌≡◌, true, false, Bool, List, length, ◌+◌, ◌*◌, ◌^◌, Option, None, Some, set, ℤ, pos, neg_ℤ, ◌+ℤ◌, ◌-ℤ◌, ◌*ℤ◌, ◌≤ℤ◌, refl, arith, ap, sym, ◌∙◌, subst, ◌⊎◌, inl, inr}
 use Rattle.std.proofs.lemmas.Int.{ints}
-use Rattle.std.proofs.lemmas.Bool.{cases_lt, eqb-false}
+use Rattle.std.proofs.lemmas.Bool.{cases_lt}
 use Rattle.std.proofs.lemmas.List.{set-get_or}
 use mir.Syntax.{w128}
 use mir.Val.{SFits}
 use Rattle.ice_defs.specs.Sum.{sum_below}
-use Rattle.ice_defs.specs.declared.NodeKind.{NodeKind}
-use Rattle.ice_defs.specs.declared.NodeKind.TheVariants.{Choose, Buy, Sell}
-use Rattle.ice_defs.specs.Tree.{Tree, kind_of}
-use Rattle.ice_defs.specs.Set.{NodeSet, Weights, has, leaf_units, units}
+use Rattle.ice_defs.specs.Tree.{Tree}
+use Rattle.ice_defs.specs.Set.{NodeSet, Weights, units}
 use Rattle.ice_defs.specs.Fixing.{Fixing}
 use Rattle.ice_defs.specs.Trade.{Assignment, tree_of, set_of, weights_of, fixing_of}
 use Rattle.ice_defs.specs.Bound.{Multipliers, cost, net, IsOpen, IsNetSum}
-use Rattle.ice_defs.proofs.Sums.{sum_below-same, sum_below-zero, sum_below_more}
+use Rattle.ice_defs.proofs.Sums.{sum_below-same, sum_below_more}
 use Rattle.ice_defs.proofs.Integers.{neg_times}
 use Rattle.ice_defs.proofs.Multiples.{one_time}
 use Rattle.ice_best.proofs.Sales.{greatest_unique}
 use Rattle.ice_bound.specs.Multipliers.{multiplier_of}
 use Rattle.ice_bound.specs.Beside.{beside, less_cost, with_beside, StandingBeside, IsFoundBeside, IsShare, IsGreatestShare}
-use Rattle.ice_bound.specs.Kept.{is_leaf_of, IsWithout, NodeStands, Stands, IsFound, IsNetOf, net_of}
+use Rattle.ice_bound.specs.Kept.{Stands, IsFound, IsNetOf, net_of}
 use Rattle.ice_bound.proofs.Moving.{cost-moved}
 use Rattle.ice_bound.specs.Tables.{Moves}
 use Rattle.ice_bound.proofs.Staying.{stays_best}
@@ -45,30 +43,6 @@ net-beside m g there t w s false =
     ap (λ k. k *ℤ units t s g) back ∙ neg_times (pos 1) (units t s g) ∙ ap neg_ℤ (one_time (units t s g)) in
     let same : cost t s (set m g z) ≡ cost t s m = ap (cost t s) (set-get_or m g (pos 0)) in
     omega (arith, ints, cost-moved m g there t s z (z -ℤ pos 1), step, same)
-
--- a tree without a leaf of the good has no units of it
-leaf_units-other : (kind : NodeKind) (g : ℕ) → is_leaf_of kind g ≡ false → leaf_units kind g ≡ pos 0
-leaf_units-other (Choose least most) g other = refl
-leaf_units-other (Buy good units) g other = ap (λ b. cond b (pos units) (pos 0)) other
-leaf_units-other (Sell good units) g other = ap (λ b. cond b (neg_ℤ (pos units)) (pos 0)) other
-
-pub units_without : (t : Tree) (s : NodeSet) (g : ℕ) → IsWithout t (length t) g → units t s g ≡ pos 0
-units_without t s g without =
-    sum_below-zero (λ n. cond (has s n) (leaf_units (kind_of t n) g) (pos 0)) (length t)
-    (λ n h. ap (λ u. cond (has s n) u (pos 0)) (leaf_units-other (kind_of t n) g (without n h)) ∙ none (has s n))
-  where
-    none : (b : Bool) → cond b (pos 0) (pos 0) ≡ pos 0
-    none true = refl
-    none false = refl
-
--- and every set of it stands
-node_without : (kind : NodeKind) (g : ℕ) (inside rises : Bool) → is_leaf_of kind g ≡ false → NodeStands kind g inside rises
-node_without (Choose least most) g inside rises other = tt
-node_without (Buy good units) g inside rises other = λ e. absurd (eqb-false good g other e)
-node_without (Sell good units) g inside rises other = λ e. absurd (eqb-false good g other e)
-
-pub without_stands : (t : Tree) (s : NodeSet) (g : ℕ) (rises : Bool) → IsWithout t (length t) g → Stands t s g rises (length t)
-without_stands t s g rises without k h = node_without (kind_of t k) g (has s k) rises (without k h)
 
 -- what was found is the net of its set, and the greatest
 pub net_found : (t : Tree) (w : Weights) (m : Multipliers) (x : Fixing) (v : ℤ) (s : NodeSet) → IsFound t w m x (Some v) s → net t w m s ≡ v

@@ -1,7 +1,7 @@
 -- The tables of trees at their net weights, made anew one after another.
 use Rattle.std.proofs.Common.{ℕ, ◌+◌, ◌*◌, ◌^◌, ◌<◌, ◌≤◌, ◌≡◌, ◌≢◌, false, List, length, length-set, replicate, get_or, set, get_or-set_same, get_or-set_other, Option, Some, None, ℤ, pos, ◌-ℤ◌, ◌*ℤ◌, neg_ℤ, ◌≤ℤ◌, refl, arith, ap, sym, ◌∙◌, ◌⊎◌, inl, inr, subst, below_more}
 use Rattle.std.specs.Prelude.{IfSome, IfNone}
-use Rattle.std.proofs.lemmas.Bool.{cases_eq, eqb-false}
+use Rattle.std.proofs.lemmas.Bool.{cases_eq, cases_lt, eqb-false}
 use Rattle.std.proofs.lemmas.List.{length-replicate}
 use Rattle.ice_defs.specs.declared.NodeKind.{NodeKind}
 use Rattle.ice_defs.specs.declared.NodeKind.TheVariants.{Choose, Buy, Sell}
@@ -14,7 +14,8 @@ use Rattle.ice_defs.specs.Bound.{Multipliers, net, IsOpen}
 use Rattle.ice_best.specs.Nets.{node_cost, node_net}
 use Rattle.ice_best.specs.Entries.{IsTableOf}
 use Rattle.ice_bound.specs.declared.net_table.NetTable.{NetTable}
-use Rattle.ice_bound.specs.Kept.{is_leaf_of, IsWithout, IsFound, IsNetOf, IsSmallNet}
+use Rattle.ice_bound.specs.Kept.{IsFound, IsNetOf, IsSmallNet}
+use Rattle.ice_bound.specs.Leaves.{is_leaf_of, IsWithout}
 use Rattle.ice_bound.specs.Tables.{IsNetTable, AreTables, IsTableRenewed, DifferOnlyIn}
 use Rattle.ice_bound.proofs.Nets.{value-nets, greatest-net, greatest-small}
 
@@ -89,13 +90,13 @@ pub set_differs_back : (m : Multipliers) (good : ℕ) (z : ℤ) → DifferOnlyIn
 set_differs_back m good z g ne = get_or-set_other m good g z (pos 0) ne
 
 -- a tree without a leaf of the good keeps its table
-pub without_table : (t : Tree) (w : Weights) (good : ℕ) (before m : Multipliers) (x : Fixing) (table : NetTable) → DifferOnlyIn good before m → IsWithout t (length t) good
+pub without_table : (t : Tree) (w : Weights) (good : ℕ) (before m : Multipliers) (x : Fixing) (table : NetTable) → DifferOnlyIn good before m → IsWithout t good 0 (length t)
     → IsNetTable t w before x table → IsNetTable t w m x table
 without_table t w good before m x table differ without is = record {
   few = is.few;
   nets = record {
     nodes = is.nets.nodes;
-    each = λ n h. is.nets.each n h ∙ node_net-other t w good before m n differ (without n h);
+    each = λ n h. is.nets.each n h ∙ node_net-other t w good before m n differ (without n (omega arith) h);
     small = is.nets.small;
   };
   entries = is.entries;
@@ -128,19 +129,22 @@ module _ (t : Tree) (w : Weights) (before m : Multipliers) (x : Fixing) (table :
     entries = is.entries;
   }
 
-  -- a node that is no leaf of the good
-  pub one_stays : (good n : ℕ) → n < length t → DifferOnlyIn good before m → is_leaf_of (kind_of t n) good ≡ false → IsMoving t w before m x table n → IsMoving t w before m x table (n + 1)
-  one_stays good n there differ other is = record {
+  -- the nodes up to the next leaf of the good
+  pub others_stay : (good n k : ℕ) → n ≤ k → k ≤ length t → DifferOnlyIn good before m → IsWithout t good n k → IsMoving t w before m x table n → IsMoving t w before m x table k
+  others_stay good n k le inside differ without is = record {
     few = is.few;
     nodes = is.nodes;
     small = is.small;
-    moved = below_more (λ k. weight_of table.nets.weights k ≡ node_net t w 64 m 1 k) n is.moved
-        (is.waiting n (omega arith) there ∙ node_net-other t w good before m n differ other);
-    waiting = λ k h l. is.waiting k (omega (arith, h)) l;
+    moved = λ j h. by j (cases_lt j n) h;
+    waiting = λ j h l. is.waiting j (omega (arith, h, le)) l;
     entries = is.entries;
   }
+    where
+      by : (j : ℕ) → (j < n) ⊎ (n ≤ j) → j < k → weight_of table.nets.weights j ≡ node_net t w 64 m 1 j
+      by j (inl l) h = is.moved j l
+      by j (inr l) h = is.waiting j l (omega (arith, h, inside)) ∙ node_net-other t w good before m j differ (without j l h)
 
--- and one that is
+-- and the leaf itself
 pub one_moves : (t : Tree) (w : Weights) (before m : Multipliers) (x : Fixing) (table table2 : NetTable) (n : ℕ) → n < length t
     → table2.nets.weights ≡ set table.nets.weights n (node_net t w 64 m 1 n) → IsSmall (node_net t w 64 m 1 n) → IsTableOf t table2.nets.weights x table2.table
     → IsMoving t w before m x table n → IsMoving t w before m x table2 (n + 1)

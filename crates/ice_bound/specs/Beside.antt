@@ -9,9 +9,11 @@ use Rattle.ice_defs.specs.Trade.{Assignment, tree_of, set_of, weights_of, fixing
 use Rattle.ice_defs.specs.Bound.{Multipliers, net, IsOpen}
 use Rattle.ice_bound.specs.Multipliers.{multiplier_of}
 use Rattle.ice_bound.specs.Conditions.{AreWeightsOf, AreFixingsOf}
+use Rattle.ice_bound.specs.Leaves.{AreLeaves}
+use Rattle.ice_bound.specs.declared.leaves.Leaves.{Leaves}
 use Rattle.ice_bound.specs.declared.net_table.NetTable.{NetTable}
 use Rattle.ice_bound.specs.Tables.{IsNetTable, AreTables}
-use Rattle.ice_bound.specs.Kept.{HaveRoom, AreFound, AreGoods}
+use Rattle.ice_bound.specs.Kept.{HaveRoom, AreFound}
 
 -- one more, or one less
 abbrev pub beside : (rises : Bool) → ℤ → ℤ
@@ -27,7 +29,7 @@ less_cost false net units = net +ℤ units
 abbrev pub with_beside : Multipliers → ℕ → (rises : Bool) → Multipliers
 with_beside m g rises = slice_set m g (beside rises (multiplier_of m g))
 
--- trees, weights, marks and multipliers, with a net and a set of each bidder and the goods of each tree; and the multipliers
+-- trees, weights, marks and multipliers, with a net and a set of each bidder and the leaves of each tree; and the multipliers
 -- where that of one good is moved
 pub record StandingBeside : Type 0 where
   pub trees : List Tree
@@ -37,7 +39,7 @@ pub record StandingBeside : Type 0 where
   pub moved : Multipliers
   pub nets : List (Option ℤ)
   pub sets : Assignment
-  pub goods : List (List Bool)
+  pub leaves : List Leaves
   pub good : ℕ
   pub rises : Bool
 
@@ -49,7 +51,7 @@ pub record IsFoundBeside (st : StandingBeside) : Type 0 where
   pub live : IsLive st.trees st.marks
   pub room : HaveRoom st.trees st.nets st.sets
   pub found : AreFound st.trees st.weights st.multipliers st.marks st.nets st.sets (length st.trees)
-  pub goods : AreGoods st.trees st.goods (length st.trees)
+  pub leaved : AreLeaves st.trees st.leaves (length st.trees)
   pub good : st.good < length st.multipliers
   pub good_fits : st.good < 32
   pub moved : st.moved ≡ with_beside st.multipliers st.good st.rises

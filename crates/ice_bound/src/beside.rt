@@ -5,9 +5,11 @@ ghost use Rattle.ice_defs.specs.Set.{has, leaf_units, units};
 ghost use Rattle.ice_defs.specs.Sum.{sum_below};
 ghost use Rattle.ice_defs.specs.Trade.{tree_of, weights_of, fixing_of};
 ghost use Rattle.ice_bound.specs.Beside.{less_cost, IsFoundBeside, IsTableBeside, AreTablesBeside, net_beside, IsShare, share_of, IsGreatestShare};
-ghost use Rattle.ice_bound.specs.Kept.{IsNetOf, IsSmallNet, AreGoodsOf, Stands};
+ghost use Rattle.ice_bound.specs.Kept.{IsNetOf, IsSmallNet};
+ghost use Rattle.ice_bound.specs.Leaves.{AreLeavesOf};
 
 use crate::found::stands;
+use crate::leaves::Leaves;
 use crate::multipliers::Multipliers;
 use crate::net_table::NetTable;
 use ice_best::{Fixings, Scratch};
@@ -25,8 +27,7 @@ pub(crate) struct Beside<'a> {
     pub(crate) moved: &'a Multipliers,
     pub(crate) nets: &'a [Option<i128>],
     pub(crate) sets: &'a Assignment,
-    /// There is one truth value for each bidder and each of 32 goods, which is false only where the tree has no leaf of it.
-    pub(crate) goods: &'a [[bool; 32]],
+    pub(crate) leaves: &'a [Leaves],
     pub(crate) good: u8,
     pub(crate) rises: bool,
 }
@@ -44,7 +45,7 @@ impl<'a> Model for Beside<'a> {
       moved = b.moved.now;
       nets = b.nets.now;
       sets = b.sets.now;
-      goods = b.goods.now;
+      leaves = b.leaves.now;
       good = b.good;
       rises = b.rises;
     } };
@@ -57,7 +58,7 @@ impl<'a> Model for Beside<'a> {
       moved = b.moved.now;
       nets = b.nets.now;
       sets = b.sets.now;
-      goods = b.goods.now;
+      leaves = b.leaves.now;
       good = b.good;
       rises = b.rises;
     }) };
@@ -91,22 +92,21 @@ fn units_inside(kind: NodeKind, set: &NodeSet, node: u16, of: u8) -> i64
     }
 }
 
-/// The units of the good that the set buys, less those that it sells. There is one truth value for each of 32 goods, which
-/// is false only where the tree has no leaf of the good.
-fn units_of_set(tree: &Tree, set: &NodeSet, goods: &[bool; 32], good: u8) -> i64
+/// The units of the good that the set buys, less those that it sells.
+fn units_of_set(tree: &Tree, set: &NodeSet, leaves: &Leaves, good: u8) -> i64
     requires set { length set.now ≡ length tree.now }
-    requires goods { AreGoodsOf tree.now goods.now }
+    requires leaves { AreLeavesOf tree.now leaves.now }
     requires good { good < 32 }
     ensures value { result ≡ units tree.now set.now good }
     ensures low { neg_ℤ (pos 13107000) ≤ℤ result }
     ensures high { result ≤ℤ pos 13107000 }
 {
-    if !goods[good as usize] {
-        return 0;
-    }
+    let nodes = tree.nodes();
     let mut sum: i64 = 0;
-    for node in 0..tree.nodes() {
-        sum += units_inside(tree.kind(node), set, node, good);
+    let mut leaf = leaves.first(good);
+    while leaf < nodes {
+        sum += units_inside(tree.kind(leaf), set, leaf, good);
+        leaf = leaves.next(leaf);
     }
     sum
 }
@@ -126,19 +126,6 @@ fn after_cost(net: i128, units: i64, rises: bool) -> i128
     } else {
         net + i128::from(units)
     }
-}
-
-/// Whether a set that has the greatest net is known to have it still where the good costs more, or less.
-fn stays(tree: &Tree, set: &NodeSet, goods: &[bool; 32], good: u8, rises: bool) -> bool
-    requires set { length set.now ≡ length tree.now }
-    requires goods { AreGoodsOf tree.now goods.now }
-    requires good { good < 32 }
-    ensures { IsTrue result → Stands tree.now set.now good rises (length tree.now) }
-{
-    if !goods[good as usize] {
-        return true;
-    }
-    stands(tree, set, good, rises)
 }
 
 impl<'a> Beside<'a> {
@@ -162,7 +149,7 @@ impl<'a> Beside<'a> {
         let units = units_of_set(
             &self.trees[place],
             self.sets.of(bidder),
-            &self.goods[place],
+            &self.leaves[place],
             self.good,
         );
         after_cost(net, units, self.rises)
@@ -181,14 +168,17 @@ impl<'a> Beside<'a> {
         let place = bidder as usize;
         let tree = &self.trees[place];
         let set = self.sets.of(bidder);
-        if stays(tree, set, &self.goods[place], self.good, self.rises) {
+        let leaves = &self.leaves[place];
+        if stands(tree, set, leaves, self.good, self.rises) {
             return self.nets[place];
         }
         let weights = self.weights.of(bidder);
         let fixing = self.marks.of(bidder);
-        table.renew_good(tree, weights, self.moved, fixing, self.good, scratch);
+        table.renew_good(
+            tree, weights, self.moved, fixing, leaves, self.good, scratch,
+        );
         let net = table.greatest();
-        table.renew_good(tree, weights, self.m, fixing, self.good, scratch);
+        table.renew_good(tree, weights, self.m, fixing, leaves, self.good, scratch);
         net
     }
 

@@ -17,7 +17,7 @@ use crate::beside::Beside;
 use crate::bounds::floor_64th;
 use crate::copy::copy_fixings;
 use crate::found::Found;
-use crate::goods::all_goods;
+use crate::leaves::{Leaves, all_leaves};
 use crate::multipliers::Multipliers;
 use crate::total_units::TotalUnits;
 use ice_best::{Fixings, Mark};
@@ -33,7 +33,7 @@ use std::marker::Model;
 pub struct Kept<'a> {
     trees: &'a [Tree],
     weights: &'a AllWeights,
-    goods: Vec<[bool; 32]>,
+    leaves: Vec<Leaves>,
     marks: Fixings,
     m: Multipliers,
     found: Found,
@@ -60,7 +60,7 @@ impl<'a> Model for Kept<'a> {
       multipliers = k.m;
       exact = k.found.exact;
       sets = k.found.sets;
-    }) k.found.nets.items k.goods.items k.found.tables.items };
+    }) k.found.nets.items k.leaves.items k.found.tables.items };
 }
 
 /// The sum of the nets, or the first place without one.
@@ -126,7 +126,7 @@ impl<'a> Kept<'a> {
             (pos 0)) }
         ensures exact { IfOk result (λ k. k.exact ≡ exact.now) }
     {
-        let goods = all_goods(alloc, trees)?;
+        let leaves = all_leaves(alloc, trees)?;
         let marks = Fixings::free(alloc, trees)?;
         let m = Multipliers::zero(exact.len() as u8);
         let mut found = Found::new(alloc, trees, exact)?;
@@ -134,7 +134,7 @@ impl<'a> Kept<'a> {
         Ok(Kept {
             trees,
             weights,
-            goods,
+            leaves,
             marks,
             m,
             found,
@@ -256,7 +256,7 @@ impl<'a> Kept<'a> {
             self.weights,
             &mut self.m,
             &self.marks,
-            &self.goods,
+            &self.leaves,
             good,
             number,
         );
@@ -285,7 +285,7 @@ impl<'a> Kept<'a> {
             moved: &moved,
             nets: &found.nets,
             sets: &found.sets,
-            goods: &self.goods,
+            leaves: &self.leaves,
             good,
             rises,
         };

@@ -7,13 +7,15 @@ ghost use Rattle.ice_defs.specs.Bound.{Multipliers as Numbers};
 ghost use Rattle.ice_best.specs.Nets.{node_net};
 ghost use Rattle.ice_best.specs.Entries.{IsTableOf};
 ghost use Rattle.ice_bound.specs.Conditions.{AreModest};
-ghost use Rattle.ice_bound.specs.Kept.{is_leaf_of, IsFound, IsNetOf, IsSmallNet};
+ghost use Rattle.ice_bound.specs.Kept.{IsFound, IsNetOf, IsSmallNet};
+ghost use Rattle.ice_bound.specs.Leaves.{AreLeavesOf};
 ghost use Rattle.ice_bound.specs.Tables.{IsNetTable, DifferOnlyIn};
 
+use crate::leaves::Leaves;
 use crate::multipliers::Multipliers;
 use crate::net::NetWeights;
 use ice_best::{Fixing, Scratch, Table};
-use ice_tree::{NodeKind, NodeSet, Tree, Weights};
+use ice_tree::{NodeSet, Tree, Weights};
 
 /// What the nodes of one tree net at multipliers, and its table at these nets and a fixing. They are kept while the
 /// multiplier of one good after another changes.
@@ -21,16 +23,6 @@ use ice_tree::{NodeKind, NodeSet, Tree, Weights};
 pub(crate) struct NetTable {
     nets: NetWeights,
     table: Table,
-}
-
-/// Whether a node buys or sells the good.
-fn is_leaf_of(kind: NodeKind, of: u8) -> bool
-    ensures { result ≡ is_leaf_of kind of }
-{
-    match kind {
-        NodeKind::Choose { .. } => false,
-        NodeKind::Buy { good, .. } | NodeKind::Sell { good, .. } => good == of,
-    }
 }
 
 impl NetTable {
@@ -93,21 +85,24 @@ impl NetTable {
         weights: &Weights,
         m: &Multipliers,
         fixing: &Fixing,
+        leaves: &Leaves,
         good: u8,
         scratch: &mut Scratch,
     )
         requires nodes { length weights.now ≡ length tree.now }
         requires fixing { length fixing.now ≡ length tree.now }
         requires modest { AreModest weights.now }
+        requires leaves { AreLeavesOf tree.now leaves.now }
+        requires good { good < 32 }
         requires before { (before : Numbers) × IsNetTable tree.now weights.now before fixing.now self.old
             × DifferOnlyIn good before m.now }
         ensures { IsNetTable tree.now weights.now m.now fixing.now self.new }
     {
-        for node in 0..tree.nodes() {
-            if !is_leaf_of(tree.kind(node), good) {
-                continue;
-            }
-            self.put(tree, weights, m, fixing, node, scratch);
+        let nodes = tree.nodes();
+        let mut leaf = leaves.first(good);
+        while leaf < nodes {
+            self.put(tree, weights, m, fixing, leaf, scratch);
+            leaf = leaves.next(leaf);
         }
     }
 

@@ -1,36 +1,42 @@
-use Rattle.std.proofs.Common.{rules, arith, ◌<◌, ◌≡◌, false, length}
-use Rattle.ice_defs.specs.Tree.{kind_of}
-use Rattle.ice_bound.specs.Kept.{is_leaf_of}
-use Rattle.ice_bound.proofs.Tables.{all_moved, one_stays, one_moves}
+use Rattle.std.proofs.Common.{arith, ◌<◌, ◌+◌, length}
+use Rattle.ice_bound.proofs.Tables.{none_moved, all_moved, others_stay, one_moves}
 use Rattle.ice_bound.proofs.net_table.NetTable.renew_good.Goals as goal
 
-pub put-requires-clause-entries : goal.put-requires-clause-entries
-put-requires-clause-entries c = (c.loop-node.invariant.moving c.requires.before.0 c.requires.before.1 c.requires.before.2).entries
-
-pub loop-node-preserved-then-not-is_leaf_of : goal.loop-node-preserved-then-not-is_leaf_of
-loop-node-preserved-then-not-is_leaf_of c =
+pub loop-leaf-init : goal.loop-leaf-init
+loop-leaf-init c =
     let t = c.args.tree.now in
-    let n = c.loop-node.node in
-    let there : n < length t = omega (arith, c.loop-node-test.true, c.nodes-node-end.ensures.value) in
-    let other : is_leaf_of (kind_of t n) c.args.good ≡ false = search rules in
+    let w = c.args.weights.now in
+    let m = c.args.m.now in
+    let x = c.args.fixing.now in
+    let is = c.first-leaf.ensures t c.requires.leaves in
     record {
-      moving = λ before is differ.
-          one_stays t c.args.weights.now before c.args.m.now c.args.fixing.now c.loop-node.self c.args.good n there differ other (c.loop-node.invariant.moving before is differ);
+      moving = λ before table differ. others_stay t w before m x c.args.self.now c.args.good 0 c.first-leaf.result (omega arith) is.inside differ is.none_between (none_moved t w before m x c.args.self.now table);
+      inside = is.inside;
+      is_leaf = is.is_leaf;
     }
 
-pub loop-node-preserved : goal.loop-node-preserved
-loop-node-preserved c =
+pub put-requires-clause-entries : goal.put-requires-clause-entries
+put-requires-clause-entries c = (c.loop-leaf.invariant.moving c.requires.before.0 c.requires.before.1 c.requires.before.2).entries
+
+pub loop-leaf-preserved : goal.loop-leaf-preserved
+loop-leaf-preserved c =
     let t = c.args.tree.now in
-    let n = c.loop-node.node in
-    let there : n < length t = omega (arith, c.loop-node-test.true, c.nodes-node-end.ensures.value) in
+    let w = c.args.weights.now in
+    let m = c.args.m.now in
+    let x = c.args.fixing.now in
+    let n = c.loop-leaf.leaf in
+    let there : n < length t = omega (arith, c.loop-leaf-test.true, c.nodes-nodes.ensures.value) in
+    let is = c.next-leaf.ensures t c.args.good c.requires.leaves there (c.loop-leaf.invariant.is_leaf there) in
     record {
-      moving = λ before is differ.
-          one_moves t c.args.weights.now before c.args.m.now c.args.fixing.now c.loop-node.self c.put.new.self n there c.put.ensures.net c.put.ensures.small c.put.ensures.entries
-          (c.loop-node.invariant.moving before is differ);
+      moving = λ before table differ.
+          others_stay t w before m x c.put.new.self c.args.good (n + 1) c.next-leaf.result is.behind is.inside differ is.none_between
+          (one_moves t w before m x c.loop-leaf.self c.put.new.self n there c.put.ensures.net c.put.ensures.small c.put.ensures.entries (c.loop-leaf.invariant.moving before table differ));
+      inside = is.inside;
+      is_leaf = is.is_leaf;
     }
 
 pub returns : goal.returns
 returns c =
     let before = c.requires.before in
-    all_moved c.args.tree.now c.args.weights.now before.0 c.args.m.now c.args.fixing.now c.loop-node.self c.loop-node.node
-    (omega (arith, c.loop-node-test.false, c.nodes-node-end.ensures.value, c.loop-node.auto.node-end)) (c.loop-node.invariant.moving before.0 before.1 before.2)
+    all_moved c.args.tree.now c.args.weights.now before.0 c.args.m.now c.args.fixing.now c.loop-leaf.self c.loop-leaf.leaf
+    (omega (arith, c.loop-leaf-test.false, c.nodes-nodes.ensures.value)) (c.loop-leaf.invariant.moving before.0 before.1 before.2)
