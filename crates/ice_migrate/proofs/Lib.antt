@@ -24,3 +24,5 @@ pub mod Changes
 pub mod Located
 -- the head of an old journal
 pub mod Heads
+-- a text that is gathered piece by piece, and put in long ones
+pub mod Gathering

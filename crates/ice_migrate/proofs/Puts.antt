@@ -2,10 +2,11 @@
 use Rattle.std.proofs.Common.{◌≡◌, ◌∙◌, ℕ, true, List, [], ◌∷◌, ◌++◌, refl, sym, ap, subst}
 use Rattle.std.specs.Prelude.{Option, Some, None, Result, Err}
 use Rattle.std.specs.Borrow.{Bor}
+use Rattle.std.proofs.lemmas.List.{append-nil}
 use Rattle.std.proofs.lemmas.Bool.{false≢true}
 use Rattle.ice_edge.specs.declared.sink.SinkFault.{SinkFault}
 use Rattle.ice_edge.specs.Puts.{Takes, FailsIn, IsPut, TakesAllBut}
-use Rattle.ice_edge.proofs.Puts.{none_left, all_left}
+use Rattle.ice_edge.proofs.Puts.{all_left}
 use Rattle.ice_defs.specs.Bound.{Multipliers}
 use Rattle.ice_defs.specs.Steps.{branch, leaf, dead}
 use Rattle.ice_journal.specs.declared.line.Line.{Line}
@@ -19,18 +20,19 @@ use Rattle.ice_journal.specs.Spelling.{line_of}
 use Rattle.ice_journal.specs.Journal.{IsJournal, bytes_of}
 use Rattle.ice_journal.specs.Lines.{kind_of}
 use Rattle.ice_journal.specs.Plain.{goods_in, all_zero, packed_records, packed}
-use Rattle.ice_write.proofs.Loops.{bytes_cons, next_taken, next_fails, fails_as, put_as, first_fails, then_put}
+use Rattle.ice_write.proofs.Loops.{bytes_cons, fails_as, put_as, first_fails, then_put}
 use Rattle.ice_migrate.specs.Reading.{Starts, HasLine}
 use Rattle.ice_migrate.specs.Packing.{before_of, packed_record, packed_after, PutsPacked}
 use Rattle.ice_migrate.specs.Migrating.{is_old, IsMigrated}
 use Rattle.ice_migrate.specs.declared.packing.Packing.{Packing}
 use Rattle.ice_migrate.proofs.Coming as coming
+use Rattle.ice_migrate.proofs.Gathering.{next_gathered, next_fails, rest_put}
 
--- all but the records of the bytes are put
-pub record IsPutSoFar (goods : ℕ) (p : Packing) (bytes : List ℕ) (all : List Record) (old new : Option (List ℕ)) (faults faults_after : ℕ) : Type 0 where
+-- all is put but what is gathered, and the records of the bytes behind it
+pub record IsPutSoFar (goods : ℕ) (p : Packing) (gathered bytes : List ℕ) (all : List Record) (old new : Option (List ℕ)) (faults faults_after : ℕ) : Type 0 where
   pub rest : List Record
   pub journal : IsJournal bytes rest
-  pub left : TakesAllBut (bytes_of (packed_records goods (before_of p) rest)) (bytes_of (packed_records goods (all_zero goods) all)) old new faults faults_after
+  pub left : TakesAllBut (gathered ++ bytes_of (packed_records goods (before_of p) rest)) (bytes_of (packed_records goods (all_zero goods) all)) old new faults faults_after
 
 -- ---- a record in version 2
 
@@ -43,14 +45,17 @@ packed_cons goods m other rest = refl
 
 -- ---- one after another
 
-pub nothing_put : (goods : ℕ) (p : Packing) (bytes : List ℕ) (all : List Record) (old : Option (List ℕ)) (faults : ℕ) → before_of p ≡ all_zero goods → IsJournal bytes all → IsPutSoFar goods p bytes all old old faults faults
-nothing_put goods p bytes all old faults zero is = record {
-  rest = all;
-  journal = is;
-  left = subst (λ (m : Multipliers). TakesAllBut (bytes_of (packed_records goods m all)) (bytes_of (packed_records goods (all_zero goods) all)) old old faults faults) (sym zero) (all_left (bytes_of (packed_records goods (all_zero goods) all)) old faults);
-}
+pub nothing_put : (goods : ℕ) (p : Packing) (gathered bytes : List ℕ) (all : List Record) (old : Option (List ℕ)) (faults : ℕ) → before_of p ≡ all_zero goods → gathered ≡ [] → IsJournal bytes all → IsPutSoFar goods p gathered bytes all old old faults faults
+nothing_put goods p gathered bytes all old faults zero none is =
+    let whole = bytes_of (packed_records goods (all_zero goods) all) in
+    let same : gathered ++ bytes_of (packed_records goods (before_of p) all) ≡ whole = rw (none, zero) refl in
+    record {
+      rest = all;
+      journal = is;
+      left = subst (λ (t : List ℕ). TakesAllBut t whole old old faults faults) (sym same) (all_left whole old faults);
+    }
 
-module _ (goods : ℕ) (p q : Packing) (bytes after : List ℕ) (text : Bor (List ℕ)) (all : List Record) (old mid new : Option (List ℕ)) (f g h : ℕ) (x : IsPutSoFar goods p bytes all old mid f g)
+module _ (goods : ℕ) (p q : Packing) (gathered bytes after : List ℕ) (text : Bor (List ℕ)) (all : List Record) (old mid new : Option (List ℕ)) (f g h : ℕ) (x : IsPutSoFar goods p gathered bytes all old mid f g)
     (starts : (left : List Record) → IsJournal bytes left → HasLine left (Some text) after) (same : p.goods ≡ goods)
     (moves : (r : Record) → IsRecord r → text.now ≡ line_of r → before_of q ≡ packed_after p.goods (before_of p) r) where
   more : coming.HasNext text.now after x.rest
@@ -69,26 +74,32 @@ module _ (goods : ℕ) (p q : Packing) (bytes after : List ℕ) (text : Bor (Lis
       ∙ bytes_cons (packed_record (before_of p) more.first) (packed_records goods (packed_after goods (before_of p) more.first) more.rest)
       ∙ ap (λ (m : Multipliers). packed_line ++ bytes_of (packed_records goods m more.rest)) (sym before_is)
 
-  -- a record more is put
-  pub one_put : ((r : Record) → IsRecord r → text.now ≡ line_of r → Takes (line_of (packed_record (before_of p) r)) mid new g h) → IsPutSoFar goods q after all old new f h
-  one_put takes = record {
+  abbrev others : List ℕ
+  others = bytes_of (packed_records goods (before_of q) more.rest)
+
+  abbrev whole : List ℕ
+  whole = bytes_of (packed_records goods (all_zero goods) all)
+
+  -- a record more is gathered
+  pub one_gathered : (later : List ℕ) → ((r : Record) → IsRecord r → text.now ≡ line_of r → TakesAllBut later (gathered ++ line_of (packed_record (before_of p) r)) mid new g h) → IsPutSoFar goods q later after all old new f h
+  one_gathered later left = record {
     rest = more.rest;
     journal = more.journal;
-    left = next_taken packed_line (bytes_of (packed_records goods (before_of q) more.rest)) (bytes_of (packed_records goods (before_of p) x.rest)) (bytes_of (packed_records goods (all_zero goods) all)) text_is x.left (takes more.first more.lawful more.text_is);
+    left = next_gathered gathered packed_line others (bytes_of (packed_records goods (before_of p) x.rest)) whole old mid new f g h text_is x.left later (left more.first more.lawful more.text_is);
   }
 
   -- or the sink fails in it
-  pub one_fails : ((r : Record) → IsRecord r → text.now ≡ line_of r → FailsIn (line_of (packed_record (before_of p) r)) mid new g h) → FailsIn (bytes_of (packed_records goods (all_zero goods) all)) old new f h
-  one_fails fails =
-      next_fails packed_line (bytes_of (packed_records goods (before_of q) more.rest)) (bytes_of (packed_records goods (before_of p) x.rest)) (bytes_of (packed_records goods (all_zero goods) all)) text_is x.left (fails more.first more.lawful more.text_is)
+  pub one_fails : ((r : Record) → IsRecord r → text.now ≡ line_of r → FailsIn (gathered ++ line_of (packed_record (before_of p) r)) mid new g h) → FailsIn whole old new f h
+  one_fails fails = next_fails gathered packed_line others (bytes_of (packed_records goods (before_of p) x.rest)) whole old mid new f g h text_is x.left (fails more.first more.lawful more.text_is)
 
--- all of them are put
-pub all_put : (goods : ℕ) (p : Packing) (bytes after : List ℕ) (all : List Record) (old new : Option (List ℕ)) (f g : ℕ) → IsPutSoFar goods p bytes all old new f g → ((left : List Record) → IsJournal bytes left → HasLine left None after)
-    → Takes (bytes_of (packed_records goods (all_zero goods) all)) old new f g
-all_put goods p bytes after all old new f g x starts =
+-- no record is left, and what is gathered is put
+pub all_put : (goods : ℕ) (p : Packing) (gathered bytes after : List ℕ) (all : List Record) (put : Result (Unit {0}) SinkFault) (old mid new : Option (List ℕ)) (f g h : ℕ)
+    → IsPutSoFar goods p gathered bytes all old mid f g → ((left : List Record) → IsJournal bytes left → HasLine left None after) → IsPut gathered put mid new g h → IsPut (bytes_of (packed_records goods (all_zero goods) all)) put old new f h
+all_put goods p gathered bytes after all put old mid new f g h x starts is =
+    let whole = bytes_of (packed_records goods (all_zero goods) all) in
     let none : x.rest ≡ [] = coming.no_next after x.rest (starts x.rest x.journal) in
-    none_left (bytes_of (packed_records goods (all_zero goods) all)) old new f g
-    (subst (λ (l : List Record). TakesAllBut (bytes_of (packed_records goods (before_of p) l)) (bytes_of (packed_records goods (all_zero goods) all)) old new f g) none x.left)
+    let left : TakesAllBut (gathered ++ []) whole old mid f g = subst (λ (l : List Record). TakesAllBut (gathered ++ bytes_of (packed_records goods (before_of p) l)) whole old mid f g) none x.left in
+    rest_put gathered whole put old mid new f g h (subst (λ (t : List ℕ). TakesAllBut t whole old mid f g) (append-nil gathered) left) is
 
 -- ---- the head
 

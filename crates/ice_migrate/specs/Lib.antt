@@ -5,3 +5,4 @@ pub mod Sorts
 pub mod Stopped
 pub mod Found
 pub mod Packing
+pub mod Gathering

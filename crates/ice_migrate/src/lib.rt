@@ -3,6 +3,7 @@
 
 mod behind;
 mod counts;
+mod gathered;
 mod judging;
 mod packing;
 mod place;

@@ -1,5 +1,5 @@
 //! The records of a version 1 journal, written in version 2.
-ghost use Rattle.std.specs.Prelude.{◌≡◌, ◌≤◌, ◌<◌, List, length, map, slice_index_or, pos, IfSome, MatchOption};
+ghost use Rattle.std.specs.Prelude.{◌≡◌, ◌≤◌, ◌<◌, List, ◌++◌, length, map, slice_index_or, pos, IfSome, MatchOption};
 ghost use Rattle.ice_edge.specs.Puts.{IsPut};
 ghost use Rattle.ice_defs.specs.Steps.{leaf};
 ghost use Rattle.ice_journal.specs.Records.{Record, step, near};
@@ -12,8 +12,10 @@ ghost use Rattle.ice_journal_laws.specs.Answers.{OfJournal};
 ghost use Rattle.ice_migrate.specs.Migrating.{IsMigrated};
 ghost use Rattle.ice_migrate.specs.Sorts as shown;
 ghost use Rattle.ice_migrate.specs.Packing.{before_of, packed_record, packed_after, PutsPacked};
+ghost use Rattle.ice_migrate.specs.Gathering.{IsGathered};
 
 use crate::counts::Counts;
+use crate::gathered::Gathered;
 use crate::records::Records;
 use crate::sort::{Sort, sort_of};
 use arrayvec::ArrayVec;
@@ -78,34 +80,37 @@ impl Packing {
         changes
     }
 
-    /// Puts a leaf as what it changes.
+    /// Gathers a leaf as what it changes.
     fn put_leaf<K: Sink>(
         &mut self,
         multipliers: ArrayVec<i64, 32>,
         writer: &mut LineWriter,
+        gathered: &mut Gathered,
         out: &mut K,
     ) -> Result<(), SinkFault>
         requires { IsRecord (step (leaf multipliers.items)) }
-        ensures put { IsPut (line_of (near (changes_from 0 (before_of self.old) multipliers.items))) result
+        ensures put { IsGathered gathered.new
+            (gathered.old ++ line_of (near (changes_from 0 (before_of self.old) multipliers.items))) result
             (K.written out.old) (K.written out.new) (K.faults out.old) (K.faults out.new) }
         ensures after { before_of self.new ≡ multipliers.items }
         ensures goods { self.new.goods ≡ self.old.goods }
     {
         let changes = self.changes(&multipliers);
         self.leaf = Some(multipliers);
-        put_changes(changes, writer, out)
+        put_changes(changes, writer, gathered, out)
     }
 
-    /// Puts the next record behind the head, which has this line, in version 2: but for a leaf the line is the same.
+    /// Gathers the next record behind the head, which has this line, in version 2: but for a leaf the line is the same.
     fn put_line<K: Sink>(
         &mut self,
         line: &[u8],
         writer: &mut LineWriter,
+        gathered: &mut Gathered,
         out: &mut K,
     ) -> Result<(), SinkFault>
         requires { 0 < length line.now }
         ensures put { (r : Record) → IsRecord r → line.now ≡ line_of r
-            → IsPut (line_of (packed_record (before_of self.old) r)) result
+            → IsGathered gathered.new (gathered.old ++ line_of (packed_record (before_of self.old) r)) result
             (K.written out.old) (K.written out.new) (K.faults out.old) (K.faults out.new) }
         ensures after { (r : Record) → IsRecord r → line.now ≡ line_of r
             → before_of self.new ≡ packed_after self.old.goods (before_of self.old) r }
@@ -116,12 +121,12 @@ impl Packing {
                 let Some(multipliers) = leaf_of(line) else {
                     return Ok(());
                 };
-                self.put_leaf(multipliers, writer, out)
+                self.put_leaf(multipliers, writer, gathered, out)
             }
-            Sort::Step => out.put(line),
+            Sort::Step => gathered.put(line, out),
             _ => {
                 self.leaf = None;
-                out.put(line)
+                gathered.put(line, out)
             }
         }
     }
@@ -140,19 +145,20 @@ fn leaf_of(line: &[u8]) -> Option<ArrayVec<i64, 32>>
     }
 }
 
-/// Puts the line of these changes, which may stand in a record.
+/// Gathers the line of these changes, which may stand in a record.
 fn put_changes<K: Sink>(
     changes: ArrayVec<Change, 32>,
     writer: &mut LineWriter,
+    gathered: &mut Gathered,
     out: &mut K,
 ) -> Result<(), SinkFault>
     requires { IsRecord (near (map change_of changes.items)) }
-    ensures { IsPut (line_of (near (map change_of changes.items))) result
+    ensures { IsGathered gathered.new (gathered.old ++ line_of (near (map change_of changes.items))) result
         (K.written out.old) (K.written out.new) (K.faults out.old) (K.faults out.new) }
 {
     writer.clear();
     write_record(&Line::Near(changes), writer);
-    out.put(writer.end())
+    gathered.put(writer.end(), out)
 }
 
 /// Puts the records behind a journal's head.
@@ -167,10 +173,11 @@ fn put_behind_head<K: Sink>(
 {
     let mut packing = Packing::new(goods);
     let mut writer = LineWriter::new();
+    let mut gathered = Gathered::new();
     while let Some(line) = records.next_line() {
-        packing.put_line(line, &mut writer, out)?;
+        packing.put_line(line, &mut writer, &mut gathered, out)?;
     }
-    Ok(())
+    gathered.flush(out)
 }
 
 /// Puts a version 1 journal that was judged, in version 2, line for line: each leaf as what it changes of the leaf before it in

@@ -281,7 +281,7 @@ fn journals_are_brought_to_version_2(rt: HostRuntime) -> Result<(), Fail> {
 fn a_failing_sink_ends_it(rt: HostRuntime) -> Result<(), Fail> {
     let before = journal(rt.alloc(), &CLOSED, &[])?;
     let mut out = MemSink::new(rt.alloc(), 1024)?;
-    out.fail_at(3, 2);
+    out.fail_at(2, 28);
     let found = migrate(rt.alloc(), before.as_bytes(), &mut out);
     assert_eq!(rt; found, Ok(Err(SinkFault::Failed)));
     assert_eq!(rt;
