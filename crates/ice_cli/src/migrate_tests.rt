@@ -175,7 +175,7 @@ fn other_words_and_an_absent_journal_are_refused(rt: HostRuntime) -> Result<(), 
 #[test]
 fn a_failing_sink_ends_the_migration(rt: HostRuntime) -> Result<(), Fail> {
     let mut out = MemSink::new(rt.alloc(), 1024)?;
-    out.fail_at(3, 2);
+    out.fail_at(2, 28);
     let status = call(rt.alloc(), &["migrate", "j"], SESSION, &mut out)?;
     assert_eq!(rt; status, Status::WriteFault);
     assert_eq!(rt;
