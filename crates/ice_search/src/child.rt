@@ -11,7 +11,9 @@ use crate::sweep::Bounded;
 use crate::workspace::Workspace;
 use ice_best::Mark;
 use ice_bound::{Multipliers, floor_64th};
-use ice_subgradient::{Candidate, Candidates, Evaluated, Incumbent, most_promising, pick, polish};
+use ice_subgradient::{
+    Candidate, Candidates, Evaluated, Incumbent, most_promising, pick, polish, repeat,
+};
 
 /// So many steps are taken at a child.
 pub(crate) const CHILD_STEPS: u16 = 60;
@@ -53,6 +55,7 @@ impl<'a> Workspace<'a> {
             &self.kept,
             value,
             CHILD_STEPS,
+            &mut self.trial,
         )
     }
 
@@ -96,6 +99,50 @@ impl<'a> Workspace<'a> {
         self.polish(incumbent, steps)
     }
 
+    /// Looks where the trial looked at the child of this mark, which is the side now.
+    fn repeat(&mut self, mark: Mark, incumbent: &mut Incumbent) -> Polished
+        requires live { IsLive self.old.instance.trees self.old.side }
+        requires sets { length incumbent.old.sets ≡ length self.old.instance.trees }
+        ensures instance { self.new.instance ≡ self.old.instance }
+        ensures side { self.new.side ≡ self.old.side }
+        ensures multipliers { AreMultipliersOf self.old.instance.exact result.bounded.m }
+        ensures bound { IsBoundAt self.old.instance result.bounded.m self.old.side result.bounded.key }
+        ensures sets { length incumbent.new.sets ≡ length self.old.instance.trees }
+        ensures offered { IsOfferedAt self.old.instance self.old.side incumbent.old incumbent.new }
+    {
+        let trace = self.trial.trace(mark);
+        let candidates = trace.candidates();
+        let evaluated = repeat(&mut self.kept, incumbent, trace);
+        Polished {
+            bounded: bounded(evaluated),
+            candidates,
+        }
+    }
+
+    /// Steps at a child, which is the side now, unless a trial has taken the steps already.
+    fn polish_marked(
+        &mut self,
+        candidate: Candidate,
+        mark: Mark,
+        incumbent: &mut Incumbent,
+        steps: u16,
+    ) -> Polished
+        requires live { IsLive self.old.instance.trees self.old.side }
+        requires sets { length incumbent.old.sets ≡ length self.old.instance.trees }
+        ensures instance { self.new.instance ≡ self.old.instance }
+        ensures side { self.new.side ≡ self.old.side }
+        ensures multipliers { AreMultipliersOf self.old.instance.exact result.bounded.m }
+        ensures bound { IsBoundAt self.old.instance result.bounded.m self.old.side result.bounded.key }
+        ensures sets { length incumbent.new.sets ≡ length self.old.instance.trees }
+        ensures offered { IsOfferedAt self.old.instance self.old.side incumbent.old incumbent.new }
+    {
+        if self.trial.is_of(candidate) {
+            self.repeat(mark, incumbent)
+        } else {
+            self.polish(incumbent, steps)
+        }
+    }
+
     /// Looks at a child for some steps from the multipliers that are given.
     pub(crate) fn polish_child(
         &mut self,
@@ -127,7 +174,7 @@ impl<'a> Workspace<'a> {
             candidate.bidder,
         );
         self.kept.put_multipliers(from);
-        let polished = self.polish(incumbent, steps);
+        let polished = self.polish_marked(candidate, mark, incumbent, steps);
         self.kept.mark(candidate.bidder, candidate.node, Mark::Free);
         self.relaxation.look_at_tree(
             self.problem.trees(),

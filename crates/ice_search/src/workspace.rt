@@ -8,7 +8,7 @@ use crate::problem::Problem;
 use crate::sides::put_side;
 use ice_assembly::Part;
 use ice_bound::{Desk, Kept, Multipliers};
-use ice_subgradient::Relaxation;
+use ice_subgradient::{Relaxation, Trial};
 use std::alloc::{AllocError, Global};
 use std::marker::Model;
 
@@ -20,6 +20,8 @@ pub(crate) struct Workspace<'a> {
     pub(crate) kept: Kept<'a>,
     pub(crate) desk: Box<Desk>,
     pub(crate) relaxation: Box<Relaxation>,
+    /// What the last trial at this side showed of the children of the node that it chose.
+    pub(crate) trial: Box<Trial>,
 }
 
 impl<'a> Model for Workspace<'a> {
@@ -51,6 +53,7 @@ impl<'a> Workspace<'a> {
             kept,
             desk,
             relaxation,
+            trial: Box::new(alloc, Trial::none())?,
         })
     }
 
@@ -69,5 +72,6 @@ impl<'a> Workspace<'a> {
             self.problem.weights(),
             self.kept.marks(),
         );
+        self.trial.forget();
     }
 }

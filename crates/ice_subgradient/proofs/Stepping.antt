@@ -9,23 +9,8 @@ use Rattle.ice_bound.specs.Kept.{Standing}
 use Rattle.ice_subgradient.specs.declared.incumbent.Incumbent.{Incumbent}
 use Rattle.ice_subgradient.specs.declared.polishing.Evaluated.{Evaluated}
 use Rattle.ice_subgradient.specs.Offers.{AreCovered, IsOffered}
+use Rattle.ice_subgradient.specs.Polished.{IsSameSide, IsPolished}
 use Rattle.ice_subgradient.proofs.Offering.{offered_again}
-
--- another point of the same side
-pub record IsSameSide (old now : Standing) : Type 0 where
-  pub trees : now.trees ≡ old.trees
-  pub weights : now.weights ≡ old.weights
-  pub marks : now.marks ≡ old.marks
-  pub exact : now.exact ≡ old.exact
-
--- the least sum so far, with its multipliers; and what was offered
-pub record IsPolished (old : Standing) (before after : Incumbent) (least : Evaluated) : Type 0 where
-  pub lawful : AreMultipliersOf old.exact least.m
-  pub sum : IsNetSum old.trees old.weights least.m old.marks least.total
-  pub falls : (start : ℤ) × IsNetSum old.trees old.weights old.multipliers old.marks start × (least.total ≤ℤ start)
-  pub offered : IsOffered old.trees old.exact old.weights old.marks before after
-  pub first : AreCovered old → total_value old.sets old.weights ≤ℤ after.value
-  pub sets : length after.sets ≡ length old.trees
 
 pub begun : (old : Standing) (before after : Incumbent) (least : Evaluated) → AreMultipliersOf old.exact old.multipliers → IsNetSum old.trees old.weights old.multipliers old.marks least.total
     → least.m ≡ old.multipliers → IsOffered old.trees old.exact old.weights old.marks before after → (AreCovered old → total_value old.sets old.weights ≤ℤ after.value)
@@ -41,6 +26,9 @@ begun old before after least lawful sum same offered first sets = record {
 
 pub still_live : (old now : Standing) → IsSameSide old now → IsLive old.trees old.marks → IsLive now.trees now.marks
 still_live old now same live = subst (λ ts. IsLive ts now.marks) (sym same.trees) (subst (IsLive old.trees) (sym same.marks) live)
+
+pub same_again : (old mid now : Standing) → IsSameSide old mid → IsSameSide mid now → IsSameSide old now
+same_again old mid now a b = record { trees = b.trees ∙ a.trees; weights = b.weights ∙ a.weights; marks = b.marks ∙ a.marks; exact = b.exact ∙ a.exact }
 
 module _ (old now : Standing) (same : IsSameSide old now) where
   sum_here : (m : Multipliers) (total : ℤ) → now.multipliers ≡ m → IsNetSum now.trees now.weights now.multipliers now.marks total → IsNetSum old.trees old.weights m old.marks total

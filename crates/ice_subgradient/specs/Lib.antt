@@ -1,3 +1,4 @@
 pub mod Offers
 pub mod Candidates
 pub mod Laws
+pub mod Polished

@@ -63,6 +63,11 @@ impl Descent {
         &self.sought
     }
 
+    /// The multipliers of the least sum that was seen.
+    pub(crate) fn least_multipliers(&self) -> &[i64; 32] {
+        &self.least_m
+    }
+
     /// The least sum that was seen.
     pub(crate) fn least_total(&self) -> i128 {
         self.least.total

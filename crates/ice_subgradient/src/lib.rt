@@ -13,12 +13,14 @@ mod openness;
 mod operations;
 mod polishing;
 mod relaxation;
+mod trace;
 mod trial;
 
 pub use candidates::{Candidate, Candidates, pick};
 pub use forecasting::forecast;
 pub use incumbent::Incumbent;
 pub use laws::offers_are_one;
-pub use polishing::{Evaluated, polish};
+pub use polishing::{Evaluated, polish, repeat};
 pub use relaxation::Relaxation;
-pub use trial::most_promising;
+pub use trace::Trace;
+pub use trial::{Trial, most_promising};

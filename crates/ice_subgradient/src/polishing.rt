@@ -4,12 +4,15 @@ ghost use Rattle.ice_defs.specs.Bound.{IsNetSum};
 ghost use Rattle.ice_defs.specs.Sweep.{IsLive};
 ghost use Rattle.ice_defs.specs.Trade.{total_value};
 ghost use Rattle.ice_bound.specs.Conditions.{AreMultipliersOf};
+ghost use Rattle.ice_bound.specs.Kept.{Standing};
 ghost use Rattle.ice_subgradient.specs.Offers.{AreCovered, IsOffered};
+ghost use Rattle.ice_subgradient.specs.Polished.{IsSameSide, IsPolished};
 
 use crate::course::{FARTHEST, Goods};
 use crate::descent::Descent;
 use crate::incumbent::Incumbent;
 use crate::relaxation::Relaxation;
+use crate::trace::Trace;
 use ice_bound::{Kept, Multipliers, NetSum};
 
 /// Multipliers, and the sum of the bidders' greatest nets at them, in 64ths.
@@ -92,6 +95,34 @@ fn look(kept: &Kept<'_>, incumbent: &mut Incumbent) -> i128
     }
 }
 
+/// The least sum so far, which is that of the multipliers that are kept.
+fn begin(kept: &Kept<'_>, incumbent: &mut Incumbent) -> Evaluated
+    requires live { IsLive kept.now.trees kept.now.marks }
+    requires sets { length incumbent.old.sets ≡ length kept.now.trees }
+    ensures { IsPolished kept.now incumbent.old incumbent.new result }
+{
+    let total = look(kept, incumbent);
+    Evaluated {
+        m: kept.multipliers().copy(),
+        total,
+    }
+}
+
+/// Looks at the multipliers of these numbers too.
+fn go_on(kept: &mut Kept<'_>, incumbent: &mut Incumbent, least: &mut Evaluated, numbers: &[i64; 32])
+    requires live { IsLive kept.old.trees kept.old.marks }
+    requires sets { length incumbent.old.sets ≡ length kept.old.trees }
+    ensures side { IsSameSide kept.old kept.new }
+    ensures polished { (start : Standing) (before : Incumbent) → IsSameSide start kept.old
+        → IsPolished start before incumbent.old least.old → IsPolished start before incumbent.new least.new }
+    ensures sets { length incumbent.new.sets ≡ length kept.new.trees }
+{
+    let m = multipliers_of(kept, numbers);
+    kept.put_multipliers(&m);
+    let total = look(kept, incumbent);
+    least.lower(&m, total);
+}
+
 /// Looks for multipliers at which the sum of the greatest nets is small, from those that are kept on and in at most so
 /// many steps. Where the relaxation shows a feasible assignment that is worth more than the incumbent, it is offered. The
 /// answer is the least sum that was looked at, with its multipliers; what multipliers are kept afterwards does not matter.
@@ -124,21 +155,40 @@ pub fn polish(
     ensures relaxation { relaxation.new ≡ relaxation.old }
 {
     relaxation.clear();
-    let total = look(kept, incumbent);
-    let mut least = Evaluated {
-        m: kept.multipliers().copy(),
-        total,
-    };
+    let mut least = begin(kept, incumbent);
     let mut descent = Descent::from(goods_of(kept), &numbers_of(&least.m), relaxation, steps);
     for _look in 0..steps {
         if descent.is_over() {
             break;
         }
         descent.go(relaxation, incumbent.value);
-        let m = multipliers_of(kept, descent.sought());
-        kept.put_multipliers(&m);
-        let total = look(kept, incumbent);
-        least.lower(&m, total);
+        go_on(kept, incumbent, &mut least, descent.sought());
+    }
+    least
+}
+
+/// What `polish` does, where a trial has taken the steps: looks where it looked. What multipliers are kept afterwards does
+/// not matter. Takes no memory. Time: one recursion over each tree at the beginning and for each look.
+pub fn repeat(kept: &mut Kept<'_>, incumbent: &mut Incumbent, trace: &Trace) -> Evaluated
+    requires live { IsLive kept.old.trees kept.old.marks }
+    requires sets { length incumbent.old.sets ≡ length kept.old.trees }
+    ensures trees { kept.new.trees ≡ kept.old.trees }
+    ensures weights { kept.new.weights ≡ kept.old.weights }
+    ensures marks { kept.new.marks ≡ kept.old.marks }
+    ensures exact { kept.new.exact ≡ kept.old.exact }
+    ensures lawful { AreMultipliersOf kept.old.exact result.m }
+    ensures sum { IsNetSum kept.old.trees kept.old.weights result.m kept.old.marks result.total }
+    ensures falls { (start : ℤ) × IsNetSum kept.old.trees kept.old.weights
+        kept.old.multipliers kept.old.marks start × (result.total ≤ℤ start) }
+    ensures offered { IsOffered kept.old.trees kept.old.exact kept.old.weights kept.old.marks
+        incumbent.old incumbent.new }
+    ensures first { AreCovered kept.old → total_value kept.old.sets kept.old.weights ≤ℤ
+        incumbent.new.value }
+    ensures sets { length incumbent.new.sets ≡ length kept.old.trees }
+{
+    let mut least = begin(kept, incumbent);
+    for numbers in trace.looks() {
+        go_on(kept, incumbent, &mut least, numbers);
     }
     least
 }

@@ -2,11 +2,12 @@
 ghost use Rattle.std.specs.Prelude.{◌≡◌, ◌<◌, ◌≤◌, length};
 ghost use Rattle.ice_bound.specs.Conditions.{AreWeightsOf, AreFixingsOf};
 
-use crate::candidates::{Candidate, Candidates};
+use crate::candidates::{Candidate, Candidates, pick};
 use crate::course::Goods;
 use crate::descent::Descent;
 use crate::polishing::{goods_of, numbers_of};
 use crate::relaxation::Relaxation;
+use crate::trace::Trace;
 use ice_best::{Fixings, Mark};
 use ice_bound::{Kept, NetSum};
 use ice_tree::{AllWeights, Tree};
@@ -14,8 +15,52 @@ use ice_tree::{AllWeights, Tree};
 /// A child whose sum doesn't fall counts as if it fell by so many 64ths, so that the other child's fall still counts.
 const LEAST_FALL: i128 = 8;
 
-/// After so many assignments that came up, a descent is taken as it is.
-const MOST_FINDS: u8 = 4;
+/// A candidate, with what a descent at each of its children came to.
+#[derive(Drop)]
+pub struct Trial {
+    candidate: Option<Candidate>,
+    must: Trace,
+    never: Trace,
+}
+
+impl Trial {
+    /// That of no candidate.
+    pub fn none() -> Trial {
+        Trial {
+            candidate: None,
+            must: Trace::none(),
+            never: Trace::none(),
+        }
+    }
+
+    /// Forgets the candidate.
+    pub fn forget(&mut self) {
+        self.candidate = None;
+    }
+
+    /// Whether it is the candidate's.
+    pub fn is_of(&self, candidate: Candidate) -> bool {
+        self.candidate == Some(candidate)
+    }
+
+    /// What the descent at a child came to: at the Must child, or at the Never child.
+    pub fn trace(&self, mark: Mark) -> &Trace {
+        match mark {
+            Mark::Must => &self.must,
+            _ => &self.never,
+        }
+    }
+
+    /// How much a branch promises: the product of the falls at both children, so that both count.
+    fn promise(&self, stand: &Stand) -> i128 {
+        fall(stand, self.must.total).saturating_mul(fall(stand, self.never.total))
+    }
+
+    /// Whether both children are closed, so that no other candidate promises more.
+    fn closes(&self, stand: &Stand) -> bool {
+        is_closed(stand, self.must.total) && is_closed(stand, self.never.total)
+    }
+}
 
 /// Where the candidates are tried.
 #[derive(Clone, Copy)]
@@ -38,8 +83,13 @@ fn fall(stand: &Stand, total: i128) -> i128 {
         .saturating_add(LEAST_FALL)
 }
 
-/// The least sum of a child, as far as a descent on the relaxation shows.
-fn child_total(
+/// Whether a child with this sum is closed.
+fn is_closed(stand: &Stand, total: i128) -> bool {
+    total >> 6 <= stand.value
+}
+
+/// What a descent on the relaxation comes to at a child.
+fn try_child(
     trees: &[Tree],
     weights: &AllWeights,
     marks: &Fixings,
@@ -47,7 +97,7 @@ fn child_total(
     stand: &Stand,
     candidate: Candidate,
     mark: Mark,
-) -> i128
+) -> Trace
     requires few { length trees.now ≤ 40 }
     requires weights { AreWeightsOf trees.now weights.now }
     requires marks { AreFixingsOf trees.now marks.now }
@@ -57,25 +107,22 @@ fn child_total(
 {
     let tried = Some((candidate.node, mark));
     relaxation.fill(trees, weights, marks, candidate.bidder, tried);
+    relaxation.clear();
     let mut descent = Descent::from(stand.goods, &stand.m, relaxation, stand.steps);
-    for _find in 0..MOST_FINDS {
-        if descent.is_over() {
-            break;
-        }
-        descent.go(relaxation, stand.value);
-    }
-    descent.least_total()
+    let mut trace = Trace::follow(&mut descent, relaxation, stand.value);
+    trace.keep_candidates(pick(trees, marks, relaxation));
+    trace
 }
 
-/// How much a branch at the candidate promises: the product of both falls, so that both children count.
-fn promise(
+/// The trial of a candidate; None where its bidder isn't there.
+fn try_candidate(
     trees: &[Tree],
     weights: &AllWeights,
     marks: &Fixings,
     relaxation: &mut Relaxation,
     stand: &Stand,
     candidate: Candidate,
-) -> i128
+) -> Option<Trial>
     requires few { length trees.now ≤ 40 }
     requires weights { AreWeightsOf trees.now weights.now }
     requires marks { AreFixingsOf trees.now marks.now }
@@ -83,9 +130,9 @@ fn promise(
     ensures { relaxation.new ≡ relaxation.old }
 {
     if usize::from(candidate.bidder) >= trees.len() {
-        return 0;
+        return None;
     }
-    let must = child_total(
+    let must = try_child(
         trees,
         weights,
         marks,
@@ -94,7 +141,7 @@ fn promise(
         candidate,
         Mark::Must,
     );
-    let never = child_total(
+    let never = try_child(
         trees,
         weights,
         marks,
@@ -104,11 +151,15 @@ fn promise(
         Mark::Never,
     );
     relaxation.look_at_tree(trees, weights, marks, candidate.bidder);
-    fall(stand, must).saturating_mul(fall(stand, never))
+    Some(Trial {
+        candidate: Some(candidate),
+        must,
+        never,
+    })
 }
 
 /// The candidate that promises most where both of its children are looked at in so many steps: of several the first.
-/// None where there is no candidate. Takes no memory.
+/// None where there is no candidate. Where several were tried, its trial is kept. Takes no memory.
 pub fn most_promising(
     candidates: &Candidates,
     trees: &[Tree],
@@ -118,6 +169,7 @@ pub fn most_promising(
     kept: &Kept<'_>,
     value: i128,
     steps: u16,
+    kept_trial: &mut Trial,
 ) -> Option<Candidate>
     requires few { length trees.now ≤ 40 }
     requires weights { AreWeightsOf trees.now weights.now }
@@ -125,6 +177,7 @@ pub fn most_promising(
     requires same { relaxation.old ≡ length trees.now }
     ensures { relaxation.new ≡ relaxation.old }
 {
+    kept_trial.forget();
     if candidates.len() <= 1 {
         return candidates.first().copied();
     }
@@ -139,14 +192,20 @@ pub fn most_promising(
         value,
         steps,
     };
-    let mut best = None;
     let mut most: i128 = -1;
     for &candidate in candidates.as_slice() {
-        let promise = promise(trees, weights, marks, relaxation, &stand, candidate);
+        let Some(trial) = try_candidate(trees, weights, marks, relaxation, &stand, candidate) else {
+            continue;
+        };
+        let closes = trial.closes(&stand);
+        let promise = trial.promise(&stand);
         if promise > most {
             most = promise;
-            best = Some(candidate);
+            *kept_trial = trial;
+        }
+        if closes {
+            break;
         }
     }
-    best
+    kept_trial.candidate
 }

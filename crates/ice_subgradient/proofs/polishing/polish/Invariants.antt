@@ -1,5 +1,5 @@
 use Rattle.std.proofs.Common.{◌≡◌}
-use Rattle.ice_subgradient.proofs.Stepping.{IsSameSide, IsPolished}
+use Rattle.ice_subgradient.specs.Polished.{IsSameSide, IsPolished}
 use Rattle.ice_subgradient.proofs.polishing.polish.Given as goal
 
 abbrev pub invariant-loop-look : goal.invariant-loop-look
