@@ -71,7 +71,8 @@ fn a_small_market(rt: HostRuntime) -> Result<(), Fail> {
     assert_eq!(rt; incumbent.value, 0, "the buyer alone is not feasible");
     let mut relaxation = Relaxation::new(alloc, &trees)?;
     relaxation.look_at(&trees, &weights, kept.marks());
-    let least = polish(&mut kept, &mut incumbent, &mut relaxation, 500);
+    let from = kept.multipliers().copy();
+    let least = polish(&mut kept, &mut incumbent, &mut relaxation, &from, 500);
     assert_eq!(rt; least.total, 640);
     assert_eq!(rt; incumbent.value, 10);
     let candidates = pick(&trees, kept.marks(), &relaxation);
@@ -93,7 +94,8 @@ fn the_greatest_multiplier(rt: HostRuntime) -> Result<(), Fail> {
     let mut incumbent = nothing(alloc, &trees)?;
     let mut relaxation = Relaxation::new(alloc, &trees)?;
     relaxation.look_at(&trees, &weights, kept.marks());
-    let least = polish(&mut kept, &mut incumbent, &mut relaxation, 500);
+    let from = kept.multipliers().copy();
+    let least = polish(&mut kept, &mut incumbent, &mut relaxation, &from, 500);
     assert_eq!(rt; least.total, 640);
     Ok(())
 }

@@ -59,8 +59,13 @@ impl<'a> Workspace<'a> {
         )
     }
 
-    /// Steps from the multipliers that are kept. The relaxed sets of each step are offered.
-    pub(crate) fn polish(&mut self, incumbent: &mut Incumbent, steps: u16) -> Polished
+    /// Steps from these multipliers. What comes up is offered.
+    pub(crate) fn polish(
+        &mut self,
+        from: &Multipliers,
+        incumbent: &mut Incumbent,
+        steps: u16,
+    ) -> Polished
         requires live { IsLive self.old.instance.trees self.old.side }
         requires sets { length incumbent.old.sets ≡ length self.old.instance.trees }
         ensures instance { self.new.instance ≡ self.old.instance }
@@ -70,7 +75,7 @@ impl<'a> Workspace<'a> {
         ensures sets { length incumbent.new.sets ≡ length self.old.instance.trees }
         ensures offered { IsOfferedAt self.old.instance self.old.side incumbent.old incumbent.new }
     {
-        let evaluated = polish(&mut self.kept, incumbent, &mut self.relaxation, steps);
+        let evaluated = polish(&mut self.kept, incumbent, &mut self.relaxation, from, steps);
         let candidates = pick(self.problem.trees(), self.kept.marks(), &self.relaxation);
         Polished {
             bounded: bounded(evaluated),
@@ -78,7 +83,7 @@ impl<'a> Workspace<'a> {
         }
     }
 
-    /// Steps from the multipliers that are given. The relaxed sets of each step are offered.
+    /// Moves to the multipliers that are given, and steps from them. What comes up is offered.
     pub(crate) fn polish_from(
         &mut self,
         from: &Multipliers,
@@ -96,7 +101,7 @@ impl<'a> Workspace<'a> {
         ensures offered { IsOfferedAt self.old.instance self.old.side incumbent.old incumbent.new }
     {
         self.kept.put_multipliers(from);
-        self.polish(incumbent, steps)
+        self.polish(from, incumbent, steps)
     }
 
     /// Looks where the trial looked at the child of this mark, which is the side now.
@@ -124,6 +129,7 @@ impl<'a> Workspace<'a> {
         &mut self,
         candidate: Candidate,
         mark: Mark,
+        from: &Multipliers,
         incumbent: &mut Incumbent,
         steps: u16,
     ) -> Polished
@@ -139,7 +145,7 @@ impl<'a> Workspace<'a> {
         if self.trial.is_of(candidate) {
             self.repeat(mark, incumbent)
         } else {
-            self.polish(incumbent, steps)
+            self.polish(from, incumbent, steps)
         }
     }
 
@@ -173,8 +179,7 @@ impl<'a> Workspace<'a> {
             self.kept.marks(),
             candidate.bidder,
         );
-        self.kept.put_multipliers(from);
-        let polished = self.polish_marked(candidate, mark, incumbent, steps);
+        let polished = self.polish_marked(candidate, mark, from, incumbent, steps);
         self.kept.mark(candidate.bidder, candidate.node, Mark::Free);
         self.relaxation.look_at_tree(
             self.problem.trees(),

@@ -1,5 +1,6 @@
 //! The workspace of a search: the side that is looked at, with its kept bounds, and the room that sweeps need.
-ghost use Rattle.std.specs.Prelude.{◌≡◌, ◌<◌, length, IfOk};
+ghost use Rattle.std.specs.Prelude.{◌≡◌, ◌<◌, length, IfOk, List, Bool};
+ghost use Rattle.ice_bound.specs.Conditions.{AreMultipliersOf};
 ghost use Rattle.ice_searching.specs.Parts.{side_at};
 ghost use Rattle.ice_assembly.specs.Code.{parts_of};
 ghost use Rattle.ice_search.specs.Instance.{IsSearchOf};
@@ -34,6 +35,17 @@ impl<'a> Model for Workspace<'a> {
     ghost invariant = { λ w. IsWorkspace w.problem w.kept w.desk.value.marks w.desk.value.room w.relaxation.value };
 }
 
+/// Where a part is looked at.
+fn place_of(part: &Part) -> Multipliers
+    ensures { (exact : List Bool) → AreMultipliersOf exact part.now.m → AreMultipliersOf exact result }
+{
+    if part.swept {
+        part.m.copy()
+    } else {
+        Multipliers::zero(part.m.len())
+    }
+}
+
 impl<'a> Workspace<'a> {
     /// A workspace that looks at the start.
     pub(crate) fn new(alloc: Global, problem: Problem<'a>) -> Result<Workspace<'a>, AllocError>
@@ -57,7 +69,7 @@ impl<'a> Workspace<'a> {
         })
     }
 
-    /// Looks at the side of a part, at its multipliers.
+    /// Looks at the side of a part: at its multipliers, and where it isn't swept yet at zeros, which a sweep begins with.
     pub(crate) fn look_at(&mut self, parts: &[Part], number: u32)
         requires search { IsSearchOf self.old.instance (parts_of parts.now) }
         requires there { number < length parts.now }
@@ -65,8 +77,8 @@ impl<'a> Workspace<'a> {
         ensures side { self.new.side ≡ side_at self.old.instance.start (parts_of parts.now) number }
     {
         put_side(&self.problem, parts, number, &mut self.desk.marks);
-        self.kept
-            .put_side(&self.desk.marks, &parts[number as usize].m);
+        let part = &parts[number as usize];
+        self.kept.put_side(&self.desk.marks, &place_of(part));
         self.relaxation.look_at(
             self.problem.trees(),
             self.problem.weights(),

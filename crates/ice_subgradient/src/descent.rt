@@ -24,6 +24,7 @@ pub(crate) struct Descent {
     /// The weight of the last step in the counts of the nodes.
     weight: u32,
     left: u16,
+    has_begun: bool,
     is_over: bool,
 }
 
@@ -49,6 +50,7 @@ impl Descent {
             value: i128::MIN,
             weight: 1,
             left: steps,
+            has_begun: false,
             is_over: false,
         }
     }
@@ -73,11 +75,17 @@ impl Descent {
         self.least.total
     }
 
-    /// Goes on until an assignment above the value comes up, or to the end.
+    /// Looks here at first, and goes on until an assignment above the value comes up, or to the end.
     pub(crate) fn go(&mut self, relaxation: &mut Relaxation, value: i128)
         ensures { relaxation.new ≡ relaxation.old }
     {
         self.value = self.value.max(value);
+        if !self.has_begun {
+            self.has_begun = true;
+            if self.look() {
+                return;
+            }
+        }
         for _step in 0..self.left {
             if !self.step(relaxation) {
                 break;
@@ -113,7 +121,7 @@ impl Descent {
         true
     }
 
-    /// Whether an assignment above the value came up at the last step.
+    /// Whether an assignment above the value came up here.
     fn look(&mut self) -> bool {
         let mut worth = self.here.total;
         for good in 0..self.goods.len() {

@@ -58,6 +58,8 @@ pub(crate) struct Operations {
     count: u8,
     /// For each operation, a bit for each good that leaves at its node or below it buy or sell.
     goods: [u32; 256],
+    /// For each good, a bit for each operation that has it.
+    having: [[u64; 4]; 32],
     operands: [u8; 256],
     operand_count: u8,
     leaves: [Leaf; 256],
@@ -125,6 +127,7 @@ impl Operations {
             list: [blank; 256],
             count: 0,
             goods: [0; 256],
+            having: [[0; 4]; 32],
             operands: [0; 256],
             operand_count: 0,
             leaves: [Leaf { units: 0, good: 0 }; 256],
@@ -175,6 +178,20 @@ impl Operations {
             }
         }
         self.ranked = self.operands;
+        self.having = [[0; 4]; 32];
+        for number in 0..self.count {
+            self.note_goods(number);
+        }
+    }
+
+    /// Notes for each good of an operation that it has the good.
+    fn note_goods(&mut self, number: u8) {
+        let mut goods = self.goods[usize::from(number)];
+        for _good in 0..goods.count_ones() {
+            let good = goods.trailing_zeros() % 32;
+            goods &= goods.wrapping_sub(1);
+            self.having[good as usize][usize::from(number / 64)] |= 1 << (number % 64);
+        }
     }
 
     /// Adds the operation of a node.
@@ -320,9 +337,11 @@ impl Operations {
 
     /// The greatest net at the multipliers, of which that of one good alone may be another than at the last time.
     pub(crate) fn evaluate_good(&mut self, m: &[i64; 32], good: u8) -> i64 {
-        let bit = bit_of(good);
-        for number in 0..self.count {
-            if self.goods[usize::from(number)] & bit != 0 {
+        for part in 0..=self.count / 64 {
+            let mut having = self.having[usize::from(good % 32)][usize::from(part)];
+            for _operation in 0..having.count_ones() {
+                let number = part * 64 + (having.trailing_zeros() % 64) as u8;
+                having &= having.wrapping_sub(1);
                 let value = self.value_of(number, m);
                 self.values[usize::from(number)] = value;
             }
@@ -349,8 +368,9 @@ impl Operations {
         self.count > 0 && (self.is_forced || self.root_value() > 0)
     }
 
-    /// What a node adds where it is inside. Numbers that wrap around would only mislead the steps, and none does: weights
+    /// What a node adds where it is inside. Inlined, since a call costs as much as most nodes do. Numbers that wrap around would only mislead the steps, and none does: weights
     /// stay below 2^60, and what units cost below 2^54.
+    #[inline(always)]
     fn value_of(&mut self, number: u8, m: &[i64; 32]) -> i64 {
         let operation = self.list[usize::from(number)];
         if operation.rule == Rule::Row {

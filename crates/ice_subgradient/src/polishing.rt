@@ -123,9 +123,10 @@ fn go_on(kept: &mut Kept<'_>, incumbent: &mut Incumbent, least: &mut Evaluated, 
     least.lower(&m, total);
 }
 
-/// Looks for multipliers at which the sum of the greatest nets is small, from those that are kept on and in at most so
-/// many steps. Where the relaxation shows a feasible assignment that is worth more than the incumbent, it is offered. The
-/// answer is the least sum that was looked at, with its multipliers; what multipliers are kept afterwards does not matter.
+/// Looks for multipliers at which the sum of the greatest nets is small, from these on and in at most so many steps. Where
+/// the relaxation shows a feasible assignment that is worth more than the incumbent, it is offered, and so are the relaxed
+/// sets at the multipliers that are kept. The answer is the least sum that was looked at, with its multipliers, and no more
+/// than the sum at those that were kept; what multipliers are kept afterwards does not matter.
 ///
 /// Every bidder has a satisfied set that meets its fixing, and the relaxation should be that of the same side: how small
 /// the sum gets rests on it, and nothing else does. Takes no memory. Time: each step works out the relaxation once; the
@@ -134,6 +135,7 @@ pub fn polish(
     kept: &mut Kept<'_>,
     incumbent: &mut Incumbent,
     relaxation: &mut Relaxation,
+    from: &Multipliers,
     steps: u16,
 ) -> Evaluated
     requires live { IsLive kept.old.trees kept.old.marks }
@@ -156,7 +158,7 @@ pub fn polish(
 {
     relaxation.clear();
     let mut least = begin(kept, incumbent);
-    let mut descent = Descent::from(goods_of(kept), &numbers_of(&least.m), relaxation, steps);
+    let mut descent = Descent::from(goods_of(kept), &numbers_of(from), relaxation, steps);
     for _look in 0..steps {
         if descent.is_over() {
             break;

@@ -10,9 +10,9 @@ pub polish_marked-polished-requires-clause-live : goal.polish_marked-polished-re
 polish_marked-polished-requires-clause-live c =
     let now = c.args.self.now in
     let place = c.args.candidate in
-    live_there c.self.inside.problem.trees now.instance.trees (with_mark now.side place.bidder place.node c.args.mark) c.put_multipliers.new.self.marks
+    live_there c.self.inside.problem.trees now.instance.trees (with_mark now.side place.bidder place.node c.args.mark) c.mark.new.self.marks
     (sym (ap (λ l. l.instance.trees) c.self.view_is))
-    (ap (λ xs. with_mark xs place.bidder place.node c.args.mark) (sym (ap (λ l. l.side) c.self.view_is)) ∙ sym c.mark.ensures.marks ∙ sym c.put_multipliers.ensures.marks) c.requires.live
+    (ap (λ xs. with_mark xs place.bidder place.node c.args.mark) (sym (ap (λ l. l.side) c.self.view_is)) ∙ sym c.mark.ensures.marks) c.requires.live
 
 pub returns-clause-side : goal.returns-clause-side
 returns-clause-side c =
@@ -20,7 +20,7 @@ returns-clause-side c =
     let now = c.args.self.now in
     let place = c.args.candidate in
     let marked : c.self-2.inside.kept.marks ≡ with_mark kept.marks place.bidder place.node c.args.mark =
-    ap (λ l. l.side) c.self-2.view_is ∙ c.polish_marked-polished.ensures.side ∙ c.put_multipliers.ensures.marks ∙ c.mark.ensures.marks in
+    ap (λ l. l.side) c.self-2.view_is ∙ c.polish_marked-polished.ensures.side ∙ c.mark.ensures.marks in
     let seen : kept.marks ≡ now.side = ap (λ l. l.side) c.self.view_is in
     let trees : now.instance.trees ≡ c.self.inside.problem.trees = sym (ap (λ l. l.instance.trees) c.self.view_is) in
     let free = subst (λ ts. IsFreeNode ts kept.marks place.bidder place.node) trees (subst (λ xs. IsFreeNode now.instance.trees xs place.bidder place.node) (sym seen) c.requires.free) in
@@ -33,6 +33,6 @@ returns-clause-bound c =
     let place = c.args.candidate in
     let problem = c.self.inside.problem in
     let m = c.polish_marked-polished.result.bounded.m in
-    bound_there now.instance.trees problem.trees now.instance.weights problem.weights m m c.put_multipliers.new.self.marks (with_mark now.side place.bidder place.node c.args.mark)
+    bound_there now.instance.trees problem.trees now.instance.weights problem.weights m m c.mark.new.self.marks (with_mark now.side place.bidder place.node c.args.mark)
     c.polish_marked-polished.result.bounded.key (ap (λ l. l.instance.trees) c.self.view_is) (ap (λ l. l.instance.weights) c.self.view_is) refl
-    (c.put_multipliers.ensures.marks ∙ c.mark.ensures.marks ∙ ap (λ xs. with_mark xs place.bidder place.node c.args.mark) (ap (λ l. l.side) c.self.view_is)) c.polish_marked-polished.ensures.bound
+    (c.mark.ensures.marks ∙ ap (λ xs. with_mark xs place.bidder place.node c.args.mark) (ap (λ l. l.side) c.self.view_is)) c.polish_marked-polished.ensures.bound
