@@ -101,7 +101,7 @@ fn rule_of(open: &Open, offered: u8) -> Rule {
 }
 
 /// The bit of a good.
-fn bit_of(good: u8) -> u32 {
+pub(crate) fn bit_of(good: u8) -> u32 {
     1 << (good % 32)
 }
 
@@ -320,10 +320,14 @@ impl Operations {
         self.count > 0 && !self.is_forced
     }
 
-    /// Whether units of the good may be bought or sold.
-    pub(crate) fn has_good(&self, good: u8) -> bool {
+    /// A bit for each good of which units may be bought or sold.
+    pub(crate) fn goods(&self) -> u32 {
         let root = self.count.saturating_sub(1);
-        self.count > 0 && self.goods[usize::from(root)] & bit_of(good) != 0
+        if self.count > 0 {
+            self.goods[usize::from(root)]
+        } else {
+            0
+        }
     }
 
     /// The greatest net at the multipliers, in 64ths.

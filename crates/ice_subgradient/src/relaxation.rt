@@ -3,7 +3,7 @@ ghost use Rattle.std.specs.Prelude.{◌≡◌, ◌<◌, ◌≤◌, length, IfOk}
 ghost use Rattle.ice_bound.specs.Conditions.{AreWeightsOf, AreFixingsOf};
 
 use crate::openness::Openness;
-use crate::operations::Operations;
+use crate::operations::{Operations, bit_of};
 use ice_best::{Fixings, Mark};
 use ice_tree::{AllWeights, Tree};
 use std::alloc::{AllocError, Global};
@@ -25,8 +25,23 @@ pub(crate) struct Sight {
 #[derive(Drop)]
 pub struct Relaxation {
     pub(crate) trees: Vec<Operations>,
+    /// For each good, a bit for each tree that may buy or sell it.
+    holders: [u64; 32],
     openness: Openness,
     weight: u32,
+}
+
+/// Notes which goods a tree may buy or sell.
+fn note_holder(holders: &mut [u64; 32], bidder: u8, goods: u32) {
+    let bit = 1 << (bidder % 64);
+    for good in 0..32_u8 {
+        let holders = &mut holders[usize::from(good)];
+        if goods & bit_of(good) == 0 {
+            *holders &= !bit;
+        } else {
+            *holders |= bit;
+        }
+    }
 }
 
 impl Model for Relaxation {
@@ -45,6 +60,7 @@ impl Relaxation {
         let trees = vec![in alloc; Operations::new(); trees.len()]?;
         Ok(Relaxation {
             trees,
+            holders: [0; 32],
             openness: Openness::new(),
             weight: 0,
         })
@@ -107,6 +123,7 @@ impl Relaxation {
         self.openness.fill(tree, weights.of(bidder), fixing, trial);
         self.trees[place].fill(tree, &self.openness);
         self.trees[place].keep_marks(fixing, trial);
+        note_holder(&mut self.holders, bidder, self.trees[place].goods());
     }
 
     /// Sets the counts of all nodes to 0.
@@ -151,8 +168,11 @@ impl Relaxation {
         ensures { self.new ≡ self.old }
     {
         let mut total: i128 = 0;
-        for tree in self.trees.iter_mut() {
-            if tree.has_good(good) {
+        let mut holders = self.holders[usize::from(good % 32)];
+        for _tree in 0..holders.count_ones() {
+            let place = holders.trailing_zeros() as usize;
+            holders &= holders.wrapping_sub(1);
+            if let Some(tree) = self.trees.get_mut(place) {
                 total = total.saturating_add(i128::from(tree.evaluate_good(m, good)));
             }
         }
