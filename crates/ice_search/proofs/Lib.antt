@@ -3,6 +3,7 @@ pub mod Looking
 pub mod Splitting
 pub mod Placing
 pub mod Standing
+pub mod Polishing
 pub mod Opened
 pub mod Ranges
 pub mod Offering

@@ -2,11 +2,12 @@
 use Rattle.std.specs.Prelude.{ℕ, ◌≡◌, Bool, List, length}
 use Rattle.ice_defs.specs.Fixing.{Fixing}
 use Rattle.ice_defs.specs.Steps.{Side}
-use Rattle.ice_bound.specs.Conditions.{AreFixingsOf}
+use Rattle.ice_bound.specs.Conditions.{AreFixingsOf, AreMultipliersOf}
 use Rattle.ice_bound.specs.Kept.{Standing}
 use Rattle.ice_subgradient.specs.declared.incumbent.Incumbent.{Incumbent}
 use Rattle.ice_subgradient.specs.Offers.{IsOffered}
-use Rattle.ice_search.specs.Instance.{Instance, IsInstance}
+use Rattle.ice_search.specs.Instance.{Instance, IsInstance, IsBoundAt}
+use Rattle.ice_search.specs.declared.sweep.Bounded.{Bounded}
 
 pub record Looking : Type 0 where
   pub instance : Instance
@@ -25,3 +26,9 @@ pub record IsWorkspace (x : Instance) (kept : Standing) (marks : List Fixing) (g
 -- the incumbent is as it was, or a better one that meets the side
 abbrev pub IsOfferedAt : Instance → Side → Incumbent → Incumbent → Type 0
 IsOfferedAt x side old new = IsOffered x.trees x.exact x.weights side old new
+
+-- steps at a side come to lawful multipliers with the bound at them, and what came up was offered
+pub record IsPolishedAt (x : Instance) (side : Side) (old new : Incumbent) (at : Bounded) : Type 0 where
+  pub multipliers : AreMultipliersOf x.exact at.m
+  pub bound : IsBoundAt x at.m side at.key
+  pub offered : IsOfferedAt x side old new

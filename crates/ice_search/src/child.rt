@@ -1,11 +1,10 @@
 //! The children of the side that is looked at.
-ghost use Rattle.std.specs.Prelude.{◌≡◌, length, pos, ◌+ℤ◌, ◌*ℤ◌, ◌≤ℤ◌, ◌<ℤ◌};
+ghost use Rattle.std.specs.Prelude.{◌≡◌, ◌<◌, length, pos, ◌+ℤ◌, ◌*ℤ◌, ◌≤ℤ◌, ◌<ℤ◌};
 ghost use Rattle.ice_defs.specs.Log.{IsFreeNode};
 ghost use Rattle.ice_defs.specs.Steps.{with_mark};
 ghost use Rattle.ice_defs.specs.Sweep.{IsLive};
 ghost use Rattle.ice_bound.specs.Conditions.{AreFixingsOf, AreMultipliersOf};
-ghost use Rattle.ice_search.specs.Instance.{IsBoundAt};
-ghost use Rattle.ice_search.specs.Workspace.{IsOfferedAt};
+ghost use Rattle.ice_search.specs.Workspace.{IsPolishedAt};
 
 use crate::sweep::Bounded;
 use crate::workspace::Workspace;
@@ -70,10 +69,9 @@ impl<'a> Workspace<'a> {
         requires sets { length incumbent.old.sets ≡ length self.old.instance.trees }
         ensures instance { self.new.instance ≡ self.old.instance }
         ensures side { self.new.side ≡ self.old.side }
-        ensures multipliers { AreMultipliersOf self.old.instance.exact result.bounded.m }
-        ensures bound { IsBoundAt self.old.instance result.bounded.m self.old.side result.bounded.key }
+        ensures polished { IsPolishedAt self.old.instance self.old.side incumbent.old
+            incumbent.new result.bounded }
         ensures sets { length incumbent.new.sets ≡ length self.old.instance.trees }
-        ensures offered { IsOfferedAt self.old.instance self.old.side incumbent.old incumbent.new }
     {
         let evaluated = polish(&mut self.kept, incumbent, &mut self.relaxation, from, steps);
         let candidates = pick(self.problem.trees(), self.kept.marks(), &self.relaxation);
@@ -95,10 +93,9 @@ impl<'a> Workspace<'a> {
         requires sets { length incumbent.old.sets ≡ length self.old.instance.trees }
         ensures instance { self.new.instance ≡ self.old.instance }
         ensures side { self.new.side ≡ self.old.side }
-        ensures multipliers { AreMultipliersOf self.old.instance.exact result.bounded.m }
-        ensures bound { IsBoundAt self.old.instance result.bounded.m self.old.side result.bounded.key }
+        ensures polished { IsPolishedAt self.old.instance self.old.side incumbent.old
+            incumbent.new result.bounded }
         ensures sets { length incumbent.new.sets ≡ length self.old.instance.trees }
-        ensures offered { IsOfferedAt self.old.instance self.old.side incumbent.old incumbent.new }
     {
         self.kept.put_multipliers(from);
         self.polish(from, incumbent, steps)
@@ -110,10 +107,9 @@ impl<'a> Workspace<'a> {
         requires sets { length incumbent.old.sets ≡ length self.old.instance.trees }
         ensures instance { self.new.instance ≡ self.old.instance }
         ensures side { self.new.side ≡ self.old.side }
-        ensures multipliers { AreMultipliersOf self.old.instance.exact result.bounded.m }
-        ensures bound { IsBoundAt self.old.instance result.bounded.m self.old.side result.bounded.key }
+        ensures polished { IsPolishedAt self.old.instance self.old.side incumbent.old
+            incumbent.new result.bounded }
         ensures sets { length incumbent.new.sets ≡ length self.old.instance.trees }
-        ensures offered { IsOfferedAt self.old.instance self.old.side incumbent.old incumbent.new }
     {
         let trace = self.trial.trace(mark);
         let candidates = trace.candidates();
@@ -122,6 +118,19 @@ impl<'a> Workspace<'a> {
             bounded: bounded(evaluated),
             candidates,
         }
+    }
+
+    /// Brings the relaxation of one tree to its marks.
+    fn look_at_tree(&mut self, bidder: u8)
+        requires bidder { bidder < length self.old.instance.trees }
+        ensures { self.new ≡ self.old }
+    {
+        self.relaxation.look_at_tree(
+            self.problem.trees(),
+            self.problem.weights(),
+            self.kept.marks(),
+            bidder,
+        );
     }
 
     /// Steps at a child, which is the side now, unless a trial has taken the steps already.
@@ -133,20 +142,20 @@ impl<'a> Workspace<'a> {
         incumbent: &mut Incumbent,
         steps: u16,
     ) -> Polished
+        requires bidder { candidate.bidder < length self.old.instance.trees }
         requires live { IsLive self.old.instance.trees self.old.side }
         requires sets { length incumbent.old.sets ≡ length self.old.instance.trees }
         ensures instance { self.new.instance ≡ self.old.instance }
         ensures side { self.new.side ≡ self.old.side }
-        ensures multipliers { AreMultipliersOf self.old.instance.exact result.bounded.m }
-        ensures bound { IsBoundAt self.old.instance result.bounded.m self.old.side result.bounded.key }
+        ensures polished { IsPolishedAt self.old.instance self.old.side incumbent.old
+            incumbent.new result.bounded }
         ensures sets { length incumbent.new.sets ≡ length self.old.instance.trees }
-        ensures offered { IsOfferedAt self.old.instance self.old.side incumbent.old incumbent.new }
     {
         if self.trial.is_of(candidate) {
-            self.repeat(mark, incumbent)
-        } else {
-            self.polish(from, incumbent, steps)
+            return self.repeat(mark, incumbent);
         }
+        self.look_at_tree(candidate.bidder);
+        self.polish(from, incumbent, steps)
     }
 
     /// Looks at a child for some steps from the multipliers that are given.
@@ -165,28 +174,15 @@ impl<'a> Workspace<'a> {
         requires sets { length incumbent.old.sets ≡ length self.old.instance.trees }
         ensures instance { self.new.instance ≡ self.old.instance }
         ensures side { self.new.side ≡ self.old.side }
-        ensures multipliers { AreMultipliersOf self.old.instance.exact result.bounded.m }
-        ensures bound { IsBoundAt self.old.instance result.bounded.m
-            (with_mark self.old.side candidate.bidder candidate.node mark) result.bounded.key }
+        ensures polished { IsPolishedAt self.old.instance
+            (with_mark self.old.side candidate.bidder candidate.node mark)
+            incumbent.old incumbent.new result.bounded }
         ensures sets { length incumbent.new.sets ≡ length self.old.instance.trees }
-        ensures offered { IsOfferedAt self.old.instance (with_mark self.old.side
-            candidate.bidder candidate.node mark) incumbent.old incumbent.new }
     {
         self.kept.mark(candidate.bidder, candidate.node, mark);
-        self.relaxation.look_at_tree(
-            self.problem.trees(),
-            self.problem.weights(),
-            self.kept.marks(),
-            candidate.bidder,
-        );
         let polished = self.polish_marked(candidate, mark, from, incumbent, steps);
         self.kept.mark(candidate.bidder, candidate.node, Mark::Free);
-        self.relaxation.look_at_tree(
-            self.problem.trees(),
-            self.problem.weights(),
-            self.kept.marks(),
-            candidate.bidder,
-        );
+        self.look_at_tree(candidate.bidder);
         polished
     }
 }

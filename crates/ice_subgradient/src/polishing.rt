@@ -141,19 +141,8 @@ pub fn polish(
     requires live { IsLive kept.old.trees kept.old.marks }
     requires sets { length incumbent.old.sets ≡ length kept.old.trees }
     requires relaxation { relaxation.old ≡ length kept.old.trees }
-    ensures trees { kept.new.trees ≡ kept.old.trees }
-    ensures weights { kept.new.weights ≡ kept.old.weights }
-    ensures marks { kept.new.marks ≡ kept.old.marks }
-    ensures exact { kept.new.exact ≡ kept.old.exact }
-    ensures lawful { AreMultipliersOf kept.old.exact result.m }
-    ensures sum { IsNetSum kept.old.trees kept.old.weights result.m kept.old.marks result.total }
-    ensures falls { (start : ℤ) × IsNetSum kept.old.trees kept.old.weights
-        kept.old.multipliers kept.old.marks start × (result.total ≤ℤ start) }
-    ensures offered { IsOffered kept.old.trees kept.old.exact kept.old.weights kept.old.marks
-        incumbent.old incumbent.new }
-    ensures first { AreCovered kept.old → total_value kept.old.sets kept.old.weights ≤ℤ
-        incumbent.new.value }
-    ensures sets { length incumbent.new.sets ≡ length kept.old.trees }
+    ensures side { IsSameSide kept.old kept.new }
+    ensures polished { IsPolished kept.old incumbent.old incumbent.new result }
     ensures relaxation { relaxation.new ≡ relaxation.old }
 {
     relaxation.clear();
@@ -174,19 +163,8 @@ pub fn polish(
 pub fn repeat(kept: &mut Kept<'_>, incumbent: &mut Incumbent, trace: &Trace) -> Evaluated
     requires live { IsLive kept.old.trees kept.old.marks }
     requires sets { length incumbent.old.sets ≡ length kept.old.trees }
-    ensures trees { kept.new.trees ≡ kept.old.trees }
-    ensures weights { kept.new.weights ≡ kept.old.weights }
-    ensures marks { kept.new.marks ≡ kept.old.marks }
-    ensures exact { kept.new.exact ≡ kept.old.exact }
-    ensures lawful { AreMultipliersOf kept.old.exact result.m }
-    ensures sum { IsNetSum kept.old.trees kept.old.weights result.m kept.old.marks result.total }
-    ensures falls { (start : ℤ) × IsNetSum kept.old.trees kept.old.weights
-        kept.old.multipliers kept.old.marks start × (result.total ≤ℤ start) }
-    ensures offered { IsOffered kept.old.trees kept.old.exact kept.old.weights kept.old.marks
-        incumbent.old incumbent.new }
-    ensures first { AreCovered kept.old → total_value kept.old.sets kept.old.weights ≤ℤ
-        incumbent.new.value }
-    ensures sets { length incumbent.new.sets ≡ length kept.old.trees }
+    ensures side { IsSameSide kept.old kept.new }
+    ensures polished { IsPolished kept.old incumbent.old incumbent.new result }
 {
     let mut least = begin(kept, incumbent);
     for numbers in trace.looks() {

@@ -41,6 +41,6 @@ invariant_of-result c =
       open_parts = c.push-3.new.self.items;
     })) (sym (found.ensures.instance ∙ same))
     (begun x i found.new.incumbent m v (parts_of c.push.new.self.items) c.push-3.new.self.items found.new.self.side c.in_ok-incumbent.ensures.lawful c.loop-candidate.invariant
-    (there (λ y side. IsOfferedAt y side i found.new.incumbent) x space.instance x.start space.side same at found.ensures.offered)
-    (subst (λ y. AreMultipliersOf y.exact m) same found.ensures.multipliers)
-    (there (λ y side. IsBoundAt y m side v) x space.instance x.start space.side same at found.ensures.bound) parts numbers)
+    (there (λ y side. IsOfferedAt y side i found.new.incumbent) x space.instance x.start space.side same at found.ensures.polished.offered)
+    (subst (λ y. AreMultipliersOf y.exact m) same found.ensures.polished.multipliers)
+    (there (λ y side. IsBoundAt y m side v) x space.instance x.start space.side same at found.ensures.polished.bound) parts numbers)

@@ -110,10 +110,10 @@ invariant_of-self-2 c =
     let splits = subst (λ t. IsSplitNode t.instance.trees t.side node.bidder node.node) (sym c.self.view_is) c.requires.node in
     let number = subst (λ t. c.args.number ≡ slice_index t.open_parts c.args.place) (sym c.self.view_is) c.requires.number in
     let offered = there (λ x side. IsOfferedAt x (with_mark side node.bidder node.node Never) must.new.incumbent never.new.incumbent) after.instance s.instance after.side s.side
-    (sym must.ensures.instance) (sym must.ensures.side) never.ensures.offered in
-    let lawful = subst (λ x. AreMultipliersOf x.exact second.m) must.ensures.instance never.ensures.multipliers in
+    (sym must.ensures.instance) (sym must.ensures.side) never.ensures.polished.offered in
+    let lawful = subst (λ x. AreMultipliersOf x.exact second.m) must.ensures.instance never.ensures.polished.multipliers in
     let bound = there (λ x side. IsBoundAt x second.m (with_mark side node.bidder node.node Never) second.key) after.instance s.instance after.side s.side
-    (sym must.ensures.instance) (sym must.ensures.side) never.ensures.bound in
+    (sym must.ensures.instance) (sym must.ensures.side) never.ensures.polished.bound in
     subst (λ x. IsState (record {
       instance = x;
       side = never.new.self.side;
@@ -124,7 +124,7 @@ invariant_of-self-2 c =
     })) (sym (never.ensures.instance ∙ must.ensures.instance))
     (split s c.self.invariant c.args.number looks node.bidder node.node first.m second.m first.key second.key (parts_of c.push_children.new.parts.items) pushed
     must.new.incumbent never.new.incumbent c.args.place left c.is_open-opens_must.result c.is_open-opens_never.result never.new.self.side next splits
-    must.ensures.offered offered must.ensures.multipliers must.ensures.bound lawful bound number opened
+    must.ensures.polished.offered offered must.ensures.polished.multipliers must.ensures.polished.bound lawful bound number opened
     (low c.is_open-opens_must.result never.new.incumbent.value first.key c.is_open-opens_must.ensures)
     (low c.is_open-opens_never.result never.new.incumbent.value second.key c.is_open-opens_never.ensures))
 

@@ -1,9 +1,10 @@
-use Rattle.std.proofs.Common.{refl, ap, sym, ◌∙◌, ◌≡◌, subst}
+use Rattle.std.proofs.Common.{ap, sym, ◌∙◌, ◌≡◌, subst}
 use Rattle.ice_defs.specs.Steps.{with_mark}
 use Rattle.ice_defs.specs.Log.{IsFreeNode}
 use Rattle.ice_bound.specs.Conditions.{AreFixingsOf}
 use Rattle.ice_search.proofs.Splitting.{live_there}
-use Rattle.ice_search.proofs.Standing.{bound_there, taken_back}
+use Rattle.ice_search.proofs.Standing.{taken_back}
+use Rattle.ice_search.proofs.Polishing.{polished_there}
 use Rattle.ice_search.proofs.workspace.Workspace.polish_child.Goals as goal
 
 pub polish_marked-polished-requires-clause-live : goal.polish_marked-polished-requires-clause-live
@@ -25,14 +26,12 @@ returns-clause-side c =
     let trees : now.instance.trees ≡ c.self.inside.problem.trees = sym (ap (λ l. l.instance.trees) c.self.view_is) in
     let free = subst (λ ts. IsFreeNode ts kept.marks place.bidder place.node) trees (subst (λ xs. IsFreeNode now.instance.trees xs place.bidder place.node) (sym seen) c.requires.free) in
     let fit = subst (λ ts. AreFixingsOf ts kept.marks) trees (subst (AreFixingsOf now.instance.trees) (sym seen) c.requires.fit) in
-    c.mark-2.ensures.marks ∙ taken_back c.self.inside.problem.trees kept.marks c.self-2.inside.kept.marks place.bidder place.node c.args.mark fit free marked ∙ seen
+    ap (λ l. l.side) c.look_at_tree.ensures ∙ c.mark-2.ensures.marks ∙ taken_back c.self.inside.problem.trees kept.marks c.self-2.inside.kept.marks place.bidder place.node c.args.mark fit free marked ∙ seen
 
-pub returns-clause-bound : goal.returns-clause-bound
-returns-clause-bound c =
+pub returns-clause-polished : goal.returns-clause-polished
+returns-clause-polished c =
     let now = c.args.self.now in
     let place = c.args.candidate in
-    let problem = c.self.inside.problem in
-    let m = c.polish_marked-polished.result.bounded.m in
-    bound_there now.instance.trees problem.trees now.instance.weights problem.weights m m c.mark.new.self.marks (with_mark now.side place.bidder place.node c.args.mark)
-    c.polish_marked-polished.result.bounded.key (ap (λ l. l.instance.trees) c.self.view_is) (ap (λ l. l.instance.weights) c.self.view_is) refl
-    (c.mark.ensures.marks ∙ ap (λ xs. with_mark xs place.bidder place.node c.args.mark) (ap (λ l. l.side) c.self.view_is)) c.polish_marked-polished.ensures.bound
+    let found = c.polish_marked-polished in
+    polished_there now.instance c.self.inside.problem (with_mark now.side place.bidder place.node c.args.mark) c.mark.new.self.marks c.args.incumbent.now found.new.incumbent found.result.bounded
+    (ap (λ l. l.instance) c.self.view_is) (c.mark.ensures.marks ∙ ap (λ xs. with_mark xs place.bidder place.node c.args.mark) (ap (λ l. l.side) c.self.view_is)) found.ensures.polished
