@@ -1,13 +1,17 @@
-//! Looks for prices of the first settlement's provisional sets, and prints the work that it took, for measuring. The words
-//! are a way, `cuts` for cutting planes, `run` for the stated run, or `sets` for the provisional sets alone, and the path
-//! of an exchange file in JSON.
+//! Settles an exchange once in part, and prints what it found and the work that it took, for measuring. The words are a
+//! part, `cuts` for prices of the provisional sets by cutting planes, `run` for those of the stated run, `sets` for the
+//! provisional sets alone, or `searches` for the best assignment and its regret; the path of an exchange file in JSON; and
+//! how many times to do it, once where no number is told.
 #![tactic(auto)]
 
 mod measured;
 mod provisional;
+mod searches;
 
 use crate::measured::measured;
 use ice_read::read_exchange;
+use ice_trade::Exchange;
+use std::alloc::{AllocError, Global};
 use std::env::Env;
 use std::{env, fs, io};
 
@@ -22,16 +26,35 @@ fn words<R: Env + AllocGlobal>(rt: &R) -> io::Result<Vec<String>> {
     Ok(words)
 }
 
+// The line of the last of so many times.
+fn line_of(
+    alloc: Global,
+    exchange: &Exchange,
+    part: &str,
+    times: u32,
+) -> Result<String, AllocError> {
+    for _time in 1..times {
+        let _line = measured(alloc, exchange, part)?;
+    }
+    measured(alloc, exchange, part)
+}
+
 fn main(rt: HostRuntime) -> io::Result<()> {
     let words = words(&rt)?;
-    let [way, path] = words.as_slice() else {
-        return println!(rt; "words: cuts, run or sets, and the path of an exchange file");
+    let (part, path, times) = match words.as_slice() {
+        [part, path] => (part, path, 1),
+        [part, path, times] => (part, path, times.parse().unwrap_or(1)),
+        _ => {
+            return println!(rt;
+                "words: cuts, run, sets or searches, the path of an exchange file, and how many times"
+            );
+        }
     };
     let bytes = fs::read(&rt, path.as_str())?;
     let Ok(exchange) = read_exchange(rt.alloc(), bytes.as_slice()) else {
         return println!(rt; "no exchange file");
     };
-    match measured(rt.alloc(), &exchange, way.as_str()) {
+    match line_of(rt.alloc(), &exchange, part.as_str(), times) {
         Ok(line) => println!(rt; "{line}"),
         Err(_end) => println!(rt; "no memory is left"),
     }

@@ -1,6 +1,7 @@
-//! Prices of the provisional sets, with the work that it took to find them.
+//! Parts of a settlement, with the work that they took.
 
 use crate::provisional::best_sets;
+use crate::searches::searched;
 use ice_cuts::{Work, cut_prices};
 use ice_price::{PriceEnd, Pricing, RunWork, run_prices};
 use ice_pricing::{Provisional, weighted_values};
@@ -54,8 +55,11 @@ fn by_run(alloc: Global, trade: &Provisional<'_>) -> Result<String, AllocError> 
     format!(in alloc; "turns {turns} pivots {pivots} {text}")
 }
 
-/// What this way finds of the exchange's first provisional trade, with its work.
-pub fn measured(alloc: Global, exchange: &Exchange, way: &str) -> Result<String, AllocError> {
+/// What this part of the exchange's first settlement finds, with its work.
+pub fn measured(alloc: Global, exchange: &Exchange, part: &str) -> Result<String, AllocError> {
+    if part == "searches" {
+        return searched(alloc, exchange);
+    }
     let weights = weighted_values(alloc, exchange, exchange.bounds())?;
     let sets = match best_sets(alloc, exchange, &weights) {
         Ok(sets) => sets,
@@ -63,7 +67,7 @@ pub fn measured(alloc: Global, exchange: &Exchange, way: &str) -> Result<String,
         Err(SearchEnd::NoMemory) => return String::from_str(alloc, "no memory is left"),
     };
     let trade = Provisional::of(exchange, &weights, &sets);
-    match way {
+    match part {
         "cuts" => by_cuts(alloc, &trade),
         "run" => by_run(alloc, &trade),
         _ => String::from_str(alloc, "sets"),
