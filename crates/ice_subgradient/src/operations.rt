@@ -49,17 +49,23 @@ struct Leaf {
     good: u8,
 }
 
-/// The operations of one tree, each after those of its operands, with what they worked out last. Numbers of operations,
-/// operands, leaves and nodes all fit in a byte, which spares the tests whether they are in range. All of it is kept small,
-/// since a search begins with one for each tree.
+/// The operations of one tree, the rows first, and each choice after its operands, with what they worked out last. Numbers
+/// of operations, operands, leaves and nodes all fit in a byte, which spares the tests whether they are in range. All of it
+/// is kept small, since a search begins with one for each tree.
 #[derive(Clone, Copy)]
 pub(crate) struct Operations {
     list: [Operation; 256],
     count: u8,
+    /// How many of them are rows.
+    rows: u8,
     /// For each operation, a bit for each good that leaves at its node or below it buy or sell.
     goods: [u32; 256],
-    /// For each good, a bit for each operation that has it.
-    having: [[u64; 4]; 32],
+    /// For each good, a bit for each row that has it.
+    rows_of: [[u64; 4]; 32],
+    /// For each operation, the one whose operand it is, or `NONE` ..
+    above: [u8; 256],
+    /// .. and whether that one may leave it.
+    is_offered: [bool; 256],
     operands: [u8; 256],
     operand_count: u8,
     leaves: [Leaf; 256],
@@ -126,8 +132,11 @@ impl Operations {
         Operations {
             list: [blank; 256],
             count: 0,
+            rows: 0,
             goods: [0; 256],
-            having: [[0; 4]; 32],
+            rows_of: [[0; 4]; 32],
+            above: [NONE; 256],
+            is_offered: [false; 256],
             operands: [0; 256],
             operand_count: 0,
             leaves: [Leaf { units: 0, good: 0 }; 256],
@@ -172,25 +181,31 @@ impl Operations {
         self.operand_count = 0;
         self.leaf_count = 0;
         self.is_forced = openness.of(0).is_forced;
+        self.rows_of = [[0; 4]; 32];
+        self.add_all(tree, openness, true);
+        self.rows = self.count;
+        self.add_all(tree, openness, false);
+        self.above[usize::from(self.count.saturating_sub(1))] = NONE;
+        self.ranked = self.operands;
+    }
+
+    /// Adds the rows, or all the others.
+    fn add_all(&mut self, tree: &Tree, openness: &Openness, rows: bool) {
         for node in (0..tree.nodes()).rev() {
-            if openness.of(node).is_reached && !openness.is_bound(tree, node) {
+            let open = openness.of(node);
+            if open.is_reached && open.is_whole == rows && !openness.is_bound(tree, node) {
                 self.add(tree, openness, node);
             }
         }
-        self.ranked = self.operands;
-        self.having = [[0; 4]; 32];
-        for number in 0..self.count {
-            self.note_goods(number);
-        }
     }
 
-    /// Notes for each good of an operation that it has the good.
-    fn note_goods(&mut self, number: u8) {
-        let mut goods = self.goods[usize::from(number)];
+    /// Notes for each of these goods that a row has it.
+    fn note_goods(&mut self, number: u8, goods: u32) {
+        let mut left = goods;
         for _good in 0..goods.count_ones() {
-            let good = goods.trailing_zeros() % 32;
-            goods &= goods.wrapping_sub(1);
-            self.having[good as usize][usize::from(number / 64)] |= 1 << (number % 64);
+            let good = left.trailing_zeros() % 32;
+            left &= left.wrapping_sub(1);
+            self.rows_of[good as usize][usize::from(number / 64)] |= 1 << (number % 64);
         }
     }
 
@@ -227,6 +242,7 @@ impl Operations {
             }
         }
         self.goods[usize::from(self.count)] = goods;
+        self.note_goods(self.count, goods);
         Operation {
             weight: in_64ths(open.worth),
             rule: Rule::Row,
@@ -294,10 +310,17 @@ impl Operations {
         for &number in tree.children(node) {
             let child = openness.of(number);
             if child.is_reached && (child.is_forced || brings_all) == along {
-                self.operands[usize::from(self.operand_count)] = self.numbers[usize::from(number)];
-                self.operand_count = self.operand_count.saturating_add(1);
+                self.add_operand(self.numbers[usize::from(number)], along);
             }
         }
+    }
+
+    /// Adds an operand to the operation that is made, which comes along with it, or may be taken.
+    fn add_operand(&mut self, number: u8, along: bool) {
+        self.operands[usize::from(self.operand_count)] = number;
+        self.operand_count = self.operand_count.saturating_add(1);
+        self.above[usize::from(number)] = self.count;
+        self.is_offered[usize::from(number)] = !along;
     }
 
     /// How many operations there are.
@@ -332,25 +355,74 @@ impl Operations {
 
     /// The greatest net at the multipliers, in 64ths.
     pub(crate) fn evaluate(&mut self, m: &[i64; 32]) -> i64 {
-        for number in 0..self.count {
-            let value = self.value_of(number, m);
+        for number in 0..self.rows {
+            self.values[usize::from(number)] = self.row_value(number, m);
+        }
+        for number in self.rows..self.count {
+            let value = self.choice_value(number);
             self.values[usize::from(number)] = value;
         }
         self.greatest_net()
     }
 
-    /// The greatest net at the multipliers, of which that of one good alone may be another than at the last time.
+    /// The greatest net at the multipliers, of which that of one good alone may be another than at the last time. Only those
+    /// operations are worked out that may change.
     pub(crate) fn evaluate_good(&mut self, m: &[i64; 32], good: u8) -> i64 {
+        let mut waiting = self.rows_of[usize::from(good % 32)];
         for part in 0..=self.count / 64 {
-            let mut having = self.having[usize::from(good % 32)][usize::from(part)];
-            for _operation in 0..having.count_ones() {
-                let number = part * 64 + (having.trailing_zeros() % 64) as u8;
-                having &= having.wrapping_sub(1);
-                let value = self.value_of(number, m);
-                self.values[usize::from(number)] = value;
+            // those above come later: at most one for each bit
+            for _operation in 0..64_u8 {
+                let word = waiting[usize::from(part)];
+                if word == 0 {
+                    break;
+                }
+                waiting[usize::from(part)] = word & word.wrapping_sub(1);
+                let number = part * 64 + (word.trailing_zeros() % 64) as u8;
+                if self.renew(number, m) {
+                    let above = self.above[usize::from(number)];
+                    waiting[usize::from(above / 64)] |= 1 << (above % 64);
+                }
             }
         }
         self.greatest_net()
+    }
+
+    /// Works out an operation once more, and says whether the one above it may change with it.
+    fn renew(&mut self, number: u8, m: &[i64; 32]) -> bool {
+        let before = self.values[usize::from(number)];
+        let value = if number < self.rows {
+            self.row_value(number, m)
+        } else {
+            self.choice_value(number)
+        };
+        self.values[usize::from(number)] = value;
+        value != before && !self.is_left(number, before, value)
+    }
+
+    /// Whether the operation above left this one where it added the first value, and leaves it too where it adds the other.
+    fn is_left(&self, number: u8, before: i64, value: i64) -> bool {
+        let above = self.above[usize::from(number)];
+        if above == NONE {
+            return true;
+        }
+        if !self.is_offered[usize::from(number)] {
+            return false;
+        }
+        match self.list[usize::from(above)].rule {
+            Rule::Each => before <= 0 && value <= 0,
+            Rule::BestGain | Rule::Best => self.is_behind_best(above, number, value),
+            _ => false,
+        }
+    }
+
+    /// Whether an operand that adds this is not the best one, and adds no more than that.
+    fn is_behind_best(&self, above: u8, number: u8, value: i64) -> bool {
+        let best = self.bests[usize::from(above)];
+        if best == NONE {
+            value <= 0
+        } else {
+            best != number && value <= self.values[usize::from(best)]
+        }
     }
 
     /// The greatest net that the operations worked out.
@@ -372,14 +444,11 @@ impl Operations {
         self.count > 0 && (self.is_forced || self.root_value() > 0)
     }
 
-    /// What a node adds where it is inside. Inlined, since a call costs as much as most nodes do. Numbers that wrap around would only mislead the steps, and none does: weights
-    /// stay below 2^60, and what units cost below 2^54.
+    /// What a choice adds where its node is inside. Inlined, since a call costs as much as most choices do. Numbers that wrap
+    /// around would only mislead the steps, and none does: weights stay below 2^60, and what units cost below 2^54.
     #[inline(always)]
-    fn value_of(&mut self, number: u8, m: &[i64; 32]) -> i64 {
+    fn choice_value(&mut self, number: u8) -> i64 {
         let operation = self.list[usize::from(number)];
-        if operation.rule == Rule::Row {
-            return self.row_value(operation, m);
-        }
         let value = self.bound_value(operation);
         let added = match operation.rule {
             Rule::Each => self.each_value(operation),
@@ -392,7 +461,8 @@ impl Operations {
     }
 
     /// What a row adds.
-    fn row_value(&self, operation: Operation, m: &[i64; 32]) -> i64 {
+    fn row_value(&self, number: u8, m: &[i64; 32]) -> i64 {
+        let operation = self.list[usize::from(number)];
         let mut value = operation.weight;
         for place in operation.first..operation.end {
             let leaf = self.leaves[usize::from(place)];
