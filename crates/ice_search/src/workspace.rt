@@ -35,8 +35,8 @@ impl<'a> Model for Workspace<'a> {
     ghost invariant = { λ w. IsWorkspace w.problem w.kept w.desk.value.marks w.desk.value.room w.relaxation.value };
 }
 
-/// Where a part is looked at.
-fn place_of(part: &Part) -> Multipliers
+/// The multipliers that a part is looked at with: its own, and zeros where it has yet to be swept.
+fn multipliers_for(part: &Part) -> Multipliers
     ensures { (exact : List Bool) → AreMultipliersOf exact part.now.m → AreMultipliersOf exact result }
 {
     if part.swept {
@@ -78,7 +78,7 @@ impl<'a> Workspace<'a> {
     {
         put_side(&self.problem, parts, number, &mut self.desk.marks);
         let part = &parts[number as usize];
-        self.kept.put_side(&self.desk.marks, &place_of(part));
+        self.kept.put_side(&self.desk.marks, &multipliers_for(part));
         self.relaxation.look_at(
             self.problem.trees(),
             self.problem.weights(),

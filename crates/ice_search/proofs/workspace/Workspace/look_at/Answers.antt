@@ -17,8 +17,8 @@ pub put_side-requires-2-clause-multipliers : goal.put_side-requires-2-clause-mul
 put_side-requires-2-clause-multipliers c =
     let x = c.self.inside.problem in
     let is = subst (λ l. IsSearchOf l.instance (parts_of c.args.parts.now)) (sym c.self.view_is) c.requires.search in
-    subst (λ e. AreMultipliersOf e c.place_of.result) (sym c.self.invariant.exact)
-    (c.place_of.ensures x.exact (multipliers_at x c.args.parts.now c.args.number c.index-parts-number.result is c.requires.there c.index-parts-number.is))
+    subst (λ e. AreMultipliersOf e c.multipliers_for.result) (sym c.self.invariant.exact)
+    (c.multipliers_for.ensures x.exact (multipliers_at x c.args.parts.now c.args.number c.index-parts-number.result is c.requires.there c.index-parts-number.is))
 
 pub invariant_of-self : goal.invariant_of-self
 invariant_of-self c =
