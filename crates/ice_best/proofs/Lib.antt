@@ -38,3 +38,7 @@ pub mod NetValues
 pub mod Existence
 -- a table that is filled anew from a node up to the root
 pub mod Renewing
+-- a choice that stays the best though one of the children adds more or less than it did
+pub mod Rising
+-- the parent's entry where its choice stays the best
+pub mod Raising

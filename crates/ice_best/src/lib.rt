@@ -7,6 +7,7 @@ mod choice;
 mod fill;
 mod fixing;
 mod nets;
+mod rise;
 mod sale;
 mod table;
 

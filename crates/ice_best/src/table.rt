@@ -6,11 +6,12 @@ ghost use Rattle.ice_defs.specs.Fixing.{Fixing as Marks};
 ghost use Rattle.ice_defs.specs.Bound.{IsOpen};
 ghost use Rattle.ice_defs.specs.Greatest.{IsGreatest};
 ghost use Rattle.ice_best.specs.Table.{IsTaken};
-ghost use Rattle.ice_best.specs.Entries.{AreEntries, ChangesEntry, IsSeenAlike, IsTableOf, DifferOnlyAt};
+ghost use Rattle.ice_best.specs.Entries.{IsTableOf, DifferOnlyAt};
 
 use crate::choice::Offer;
-use crate::fill::{fill, fill_all};
+use crate::fill::fill_all;
 use crate::fixing::Fixing;
+use crate::rise::{rise_above, update};
 use ice_tree::{NodeSet, Tree, Weights};
 
 /// The room that `best`, `greatest_sale` and the tables work in. It takes no memory, and what it holds between two calls
@@ -89,35 +90,6 @@ fn take_set(tree: &Tree, taken: &[bool], root: bool) -> NodeSet
     out
 }
 
-/// Fills the entry of a node anew, where those of the later nodes are filled, and says whether its parent's may have to
-/// be filled anew too.
-fn refill(
-    tree: &Tree,
-    weights: &Weights,
-    fixing: &Fixing,
-    table: &mut Table,
-    offers: &mut [Offer; 200],
-    node: u16,
-) -> bool
-    requires tree { IsTree tree.now }
-    requires few { length tree.now ≤ 200 }
-    requires node { node < length tree.now }
-    requires weights { length weights.now ≡ length tree.now }
-    requires fixing { length fixing.now ≡ length tree.now }
-    requires later { AreEntries tree.now weights.now fixing.now table.old (node + 1) }
-    ensures entries { AreEntries tree.now weights.now fixing.now table.new node }
-    ensures changes { ChangesEntry tree.now node table.old table.new }
-    ensures same { result ≡ false → IsSeenAlike node table.old table.new }
-{
-    let gain = table.gain[node as usize];
-    let needed = table.needed[node as usize];
-    let possible = table.possible[node as usize];
-    fill(tree, weights, fixing, table, offers, node);
-    gain != table.gain[node as usize]
-        || needed != table.needed[node as usize]
-        || possible != table.possible[node as usize]
-}
-
 impl Table {
     /// Room for any tree; it is the table of none.
     pub fn new() -> Table {
@@ -142,8 +114,8 @@ impl Table {
 
     /// Makes it the table at these weights, where it was the table at weights that may differ at this node alone.
     ///
-    /// Takes no memory. Time: a pass over the children of the node and of each node above it, and a sort of them, up to a
-    /// node that is worth as much as before.
+    /// Takes no memory. Time: at most a pass over the children of the node and of each node above it, and a sort of them,
+    /// up to a node that adds as much as before; none over those of a node whose choice is seen to stay the best.
     pub fn renew(
         &mut self,
         tree: &Tree,
@@ -161,13 +133,18 @@ impl Table {
         // a tree has at most 200 of them
         let _nodes = tree.nodes();
         let mut at = node;
+        let mut rise = None;
         while 0 < at {
-            if !refill(tree, weights, fixing, self, &mut scratch.offers, at) {
+            let parent = tree.parent(at);
+            let before = self.seen(at);
+            update(tree, weights, fixing, self, &mut scratch.offers, at, rise);
+            rise = rise_above(tree, weights, self, before, at, parent);
+            if rise == Some(0) {
                 return;
             }
-            at = tree.parent(at);
+            at = parent;
         }
-        fill(tree, weights, fixing, self, &mut scratch.offers, 0);
+        update(tree, weights, fixing, self, &mut scratch.offers, 0, rise);
     }
 
     /// The greatest value of an open set: a satisfied set of the tree that meets the fixing. None comes exactly where no

@@ -1,4 +1,4 @@
-use Rattle.std.proofs.Common.{◌≡◌, rules, refl, subst, sym, to_z, of_z}
+use Rattle.std.proofs.Common.{◌≡◌, rules, refl, subst, to_z, of_z}
 use mir.Syntax.{w128}
 use Rattle.ice_defs.specs.Set.{IsSmall}
 use Rattle.ice_best.specs.Nets.{node_net}
