@@ -40,5 +40,5 @@ pub mod Existence
 pub mod Renewing
 -- a choice that stays the best though one of the children adds more or less than it did
 pub mod Rising
--- the parent's entry where its choice stays the best
-pub mod Raising
+-- a change of a node's gain followed to the entry of its parent
+pub mod Following

@@ -66,6 +66,7 @@ module _ (t : Tree) (w : Weights) (x : Fixing) (gain : List ℤ) (needed possibl
         ∙ is_needed.1 (inr (found.0, found.1, ap (has needed) found.2 ∙ sym (same_child c h child).1 ∙ f));
     open_entry = λ f. opens sum picks is_opened (sym (has-put_same possible n may room_p) ∙ f);
     closed_entry = λ f. closes sum picks is_opened (sym (has-put_same possible n may room_p) ∙ f);
+    closed_gain = λ f. weight_of-put_same gain n v room_g ∙ adds_none sum is_opened (sym (has-put_same possible n may room_p) ∙ f);
     small_gain =
         let below = children_size-same t (weight_of gain) (weight_of (set gain n v)) n (λ c h child. (same_child c h child).0) in
         omega (arith, ints, below, bounded sum picks is_opened);
@@ -94,6 +95,10 @@ module _ (t : Tree) (w : Weights) (x : Fixing) (gain : List ℤ) (needed possibl
           (λ none. inr (λ T choice. none T (back (weight_of gain) (weight_of (set gain n v)) (has needed) (has (set needed n need)) (has possible) (has (set possible n may)) (has taken') (has taken')
           (children_of t n) agree (least_of (kind_of t n)) (most_of (kind_of t n)) T choice)))
           picks.none
+
+      adds_none : (sum : Option ℤ) → IsOpened (weight_of w n) sum may v → may ≡ false → v ≡ pos 0
+      adds_none None o e = o.1
+      adds_none (Some y) o e = absurd (both_ways _ e o.0)
 
       bounded : (sum : Option ℤ) → IsPick (mark_of x n) (weight_of gain) (has needed) (has possible) (least_of (kind_of t n)) (most_of (kind_of t n)) (children_of t n) (has taken') sum
           → IsOpened (weight_of w n) sum may v → size_of (weight_of (set gain n v) n) ≤ℤ (pos (2 ^ 90) +ℤ children_size t (weight_of gain) n)

@@ -1,32 +1,35 @@
--- How a node's entry is followed to that of its parent.
-use Rattle.std.specs.Prelude.{ℕ, ◌+◌, ◌≤◌, ◌≡◌, ◌≢◌, ◌⊎◌, Bool, false, IsTrue, ℤ, pos, ◌+ℤ◌, ◌≤ℤ◌}
-use Rattle.ice_defs.specs.Tree.{Tree}
+-- How a change of a node's gain is followed to the entry of its parent.
+use Rattle.std.specs.Prelude.{ℕ, ◌*◌, ◌^◌, ◌<◌, ◌≤◌, ◌≡◌, ◌≢◌, ◌⊎◌, Bool, false, length, IsTrue, ℤ, pos, neg_ℤ, ◌+ℤ◌, ◌≤ℤ◌}
+use Rattle.ice_defs.specs.Tree.{Tree, parent_of}
 use Rattle.ice_defs.specs.Set.{Weights, weight_of, has}
 use Rattle.ice_defs.specs.Fixing.{Fixing}
 use Rattle.ice_best.specs.declared.table.Table.{Table}
-use Rattle.ice_best.specs.declared.rise.Seen.{Seen}
 use Rattle.ice_best.specs.Choice.{IsGainSmall}
 use Rattle.ice_best.specs.Table.{IsEntry}
-use Rattle.ice_best.specs.Entries.{HasEntry, AreEntries, ChangesEntry}
+use Rattle.ice_best.specs.Entries.{HasEntry, IsTableOf, DifferOnlyAt}
 
--- n is seen so
-pub record IsSeen (n : ℕ) (table : Table) (seen : Seen) : Type 0 where
-  pub gain_is : seen.gain ≡ weight_of table.gain n
-  pub needed_is : seen.needed ≡ has table.needed n
-  pub possible_is : seen.possible ≡ has table.possible n
+-- the entry of p is right where n adds `more` less
+abbrev pub IsRightBefore : Tree → Weights → Fixing → Table → ℕ → ℕ → ℤ → Type 0
+IsRightBefore t w x table n p more = (g : ℕ → ℤ) → (g n +ℤ more) ≡ weight_of table.gain n → ((k : ℕ) → k ≢ n → g k ≡ weight_of table.gain k)
+    → IsEntry t w x g (has table.needed) (has table.possible) (has table.taken) p
 
--- where n adds `more` more, its entry is right
-pub record IsRaised (t : Tree) (w : Weights) (x : Fixing) (table : Table) (n : ℕ) (more : ℤ) : Type 0 where
-  pub fits : IsGainSmall (weight_of table.gain n +ℤ more)
-  pub entry : (g : ℕ → ℤ) → g n ≡ (weight_of table.gain n +ℤ more) → ((k : ℕ) → k ≢ n → g k ≡ weight_of table.gain k)
-      → IsEntry t w x g (has table.needed) (has table.possible) (has table.taken) n
+-- at most what two gains differ by
+pub record IsDifference (z : ℤ) : Type 0 where
+  pub low : neg_ℤ (pos (400 * 2 ^ 90)) ≤ℤ z
+  pub high : z ≤ℤ pos (400 * 2 ^ 90)
 
--- where the entry of n's parent was right when n was seen so, it is right with `more` more
-abbrev pub RaisesParent : Tree → Weights → Seen → Table → ℕ → ℕ → ℤ → Type 0
-RaisesParent t w before table n parent more = (x : Fixing) (old : Table) → IsSeen n old before → ChangesEntry t n old table
-    → HasEntry t w x old parent → AreEntries t w x table (parent + 1) → IsRaised t w x table parent more
+-- all nodes have their entries, but for n's parent, which has its where n adds `more` less
+pub record IsFollowed (t : Tree) (w : Weights) (x : Fixing) (table : Table) (n : ℕ) (more : ℤ) : Type 0 where
+  pub others : (k : ℕ) → k < length t → (0 < n → k ≢ parent_of t n) → HasEntry t w x table k
+  pub above : 0 < n → IsRightBefore t w x table n (parent_of t n) more
+  pub small : (k : ℕ) → k ≤ n → IsGainSmall (weight_of table.gain k)
+  pub difference : IsDifference more
 
--- why a best choice may stay the best, and add `rise` more, when one child adds `more`
+-- it is the table at weights that differ at most at n, where n's was `before`
+abbrev pub WasTableOf : Tree → Weights → Fixing → Table → ℕ → ℤ → Type 0
+WasTableOf t w x table n before = (v : Weights) × IsTableOf t v x table × DifferOnlyAt n v w × (weight_of v n ≡ before)
+
+-- why a best choice stays the best, and adds `rise` more, when one child adds `more`
 abbrev pub MayStay : Bool → Bool → ℕ → ℤ → ℤ → ℤ → ℤ → Type 0
 MayStay taken all most choice gain more rise =
     (IsTrue taken × ((pos 0 ≤ℤ more) ⊎ IsTrue all) × (rise ≡ more))

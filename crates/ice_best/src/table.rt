@@ -1,17 +1,18 @@
 //! The table of a tree: what each node adds where it is inside. It is filled once, and renewed where a weight changes.
 ghost use Rattle.std.specs.Prelude.{◌≡◌, ℕ, ◌+◌, ◌<◌, ◌≤◌, ◌&&◌, length, replicate, false, ℤ, IsTrue, IfSome, IfNone, if◌then◌else◌, pos, ◌≤ℤ◌};
 ghost use Rattle.ice_defs.specs.Tree.{Tree as Nodes, IsTree};
-ghost use Rattle.ice_defs.specs.Set.{NodeSet as Set, Weights as NodeWeights, has, value};
+ghost use Rattle.ice_defs.specs.Set.{NodeSet as Set, Weights as NodeWeights, has, value, IsSmall};
 ghost use Rattle.ice_defs.specs.Fixing.{Fixing as Marks};
 ghost use Rattle.ice_defs.specs.Bound.{IsOpen};
 ghost use Rattle.ice_defs.specs.Greatest.{IsGreatest};
 ghost use Rattle.ice_best.specs.Table.{IsTaken};
-ghost use Rattle.ice_best.specs.Entries.{IsTableOf, DifferOnlyAt};
+ghost use Rattle.ice_best.specs.Entries.{IsTableOf};
+ghost use Rattle.ice_best.specs.Rise.{WasTableOf};
 
 use crate::choice::Offer;
 use crate::fill::fill_all;
 use crate::fixing::Fixing;
-use crate::rise::{rise_above, update};
+use crate::rise::{follow, weigh};
 use ice_tree::{NodeSet, Tree, Weights};
 
 /// The room that `best`, `greatest_sale` and the tables work in. It takes no memory, and what it holds between two calls
@@ -112,39 +113,45 @@ impl Table {
         fill_all(tree, weights, fixing, self, &mut scratch.offers);
     }
 
-    /// Makes it the table at these weights, where it was the table at weights that may differ at this node alone.
+    /// Makes it the table at these weights, where it was the table at weights that may differ at this node alone, whose
+    /// weight was `before`.
     ///
-    /// Takes no memory. Time: at most a pass over the children of the node and of each node above it, and a sort of them,
-    /// up to a node that adds as much as before; none over those of a node whose choice is seen to stay the best.
+    /// Takes no memory. Time: a few steps for each node above it, up to one that adds as much as before, and a pass over
+    /// the children, and a sort of them, of those whose best choice may become another.
     pub fn renew(
         &mut self,
         tree: &Tree,
         weights: &Weights,
         fixing: &Fixing,
         node: u16,
+        before: i128,
         scratch: &mut Scratch,
     )
         requires node { node < length tree.now }
         requires weights { length weights.now ≡ length tree.now }
         requires fixing { length fixing.now ≡ length tree.now }
-        requires before { (before : NodeWeights) × IsTableOf tree.now before fixing.now self.old × DifferOnlyAt node before weights.now }
+        requires small { IsSmall before }
+        requires before { WasTableOf tree.now weights.now fixing.now self.old node before }
         ensures { IsTableOf tree.now weights.now fixing.now self.new }
     {
         // a tree has at most 200 of them
         let _nodes = tree.nodes();
         let mut at = node;
-        let mut rise = None;
-        while 0 < at {
+        let mut more = weigh(tree, weights, fixing, self, node, before);
+        while 0 < at && more != 0 {
             let parent = tree.parent(at);
-            let before = self.seen(at);
-            update(tree, weights, fixing, self, &mut scratch.offers, at, rise);
-            rise = rise_above(tree, weights, self, before, at, parent);
-            if rise == Some(0) {
-                return;
-            }
+            more = follow(
+                tree,
+                weights,
+                fixing,
+                self,
+                &mut scratch.offers,
+                at,
+                parent,
+                more,
+            );
             at = parent;
         }
-        update(tree, weights, fixing, self, &mut scratch.offers, 0, rise);
     }
 
     /// The greatest value of an open set: a satisfied set of the tree that meets the fixing. None comes exactly where no

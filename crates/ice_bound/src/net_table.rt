@@ -73,9 +73,10 @@ impl NetTable {
         ensures small { IsSmall (node_net tree.now weights.now 64 m.now 1 node) }
         ensures entries { IsTableOf tree.now self.new.nets.weights fixing.now self.new.table }
     {
+        let before = self.nets.weights.get(node);
         self.nets.put(tree, weights, m, node);
         self.table
-            .renew(tree, &self.nets.weights, fixing, node, scratch);
+            .renew(tree, &self.nets.weights, fixing, node, before, scratch);
     }
 
     /// Brings it to multipliers that differ in those that it was made at in this good alone.
