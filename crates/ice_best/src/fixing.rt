@@ -82,7 +82,8 @@ impl Model for Fixings {
 impl Fixings {
     /// Leaves each node of each bidder's tree free. Takes all the memory that the fixings need.
     pub fn free(alloc: Global, trees: &[Tree]) -> Result<Fixings, AllocError>
-        ensures { IfOk result (λ fixings. fixings ≡ map (λ t. replicate (length t) Mark.Free) trees.now) }
+        ensures { IfOk result (λ fixings. fixings
+            ≡ map (λ t. replicate (length t) Mark.Free) trees.now) }
     {
         let fixings = trees
             .iter()

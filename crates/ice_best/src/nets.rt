@@ -101,7 +101,8 @@ pub fn put_net_weight(
     requires weights { AreAtMostTrillion weights.now }
     requires scale { scale ≤ 2 ^ 32 }
     requires rates { AreRates rates.now }
-    ensures put { out.new ≡ slice_set out.old node (node_net tree.now weights.now scale rates.now times node) }
+    ensures put { out.new ≡ slice_set out.old node
+        (node_net tree.now weights.now scale rates.now times node) }
     ensures small { IsSmall (node_net tree.now weights.now scale rates.now times node) }
 {
     // a tree names at most 32 goods

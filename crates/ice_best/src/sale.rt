@@ -30,7 +30,8 @@ fn sold_units(kind: NodeKind, good: u8) -> i128
 /// The weights by which the value of a set is what it sells of the good.
 fn sale_weights(tree: &Tree, good: u8) -> Weights
     ensures len { length result ≡ length tree.now }
-    ensures each { (n : ℕ) → n < length tree.now → weight_of result n ≡ neg_ℤ (leaf_units (kind_of tree.now n) good) }
+    ensures each { (n : ℕ) → n < length tree.now → weight_of result n
+        ≡ neg_ℤ (leaf_units (kind_of tree.now n) good) }
     ensures low { (n : ℕ) → n < length tree.now → neg_ℤ (pos 65535) ≤ℤ weight_of result n }
     ensures high { (n : ℕ) → n < length tree.now → weight_of result n ≤ℤ pos 65535 }
 {
@@ -46,7 +47,8 @@ fn sale_weights(tree: &Tree, good: u8) -> Weights
 /// It is at least 0, since the empty set sells nothing. Takes no memory.
 pub fn greatest_sale(tree: &Tree, good: u8, scratch: &mut Scratch) -> i64
     ensures value { result ≡ greatest_sale tree.now good }
-    ensures greatest { IsGreatest {X = Nodes} (IsSatisfied tree.now) (λ s. neg_ℤ (units tree.now s good)) result }
+    ensures greatest { IsGreatest {X = Nodes} (IsSatisfied tree.now)
+        (λ s. neg_ℤ (units tree.now s good)) result }
     ensures not_negative { pos 0 ≤ℤ result }
 {
     let nodes = tree.nodes();

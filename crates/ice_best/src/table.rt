@@ -176,7 +176,8 @@ impl Table {
     /// empty set.
     pub fn best_set(&self, tree: &Tree, out: &mut NodeSet)
         ensures set { (w : NodeWeights) (x : Marks) → IsTableOf tree.now w x self.now → (v : ℤ)
-            → IsGreatest (IsOpen tree.now x) (λ s. value s w) v → IsOpen tree.now x out.new × (value out.new w ≡ v) }
+            → IsGreatest (IsOpen tree.now x) (λ s. value s w) v → IsOpen tree.now x out.new
+            × (value out.new w ≡ v) }
         ensures empty { (w : NodeWeights) (x : Marks) → IsTableOf tree.now w x self.now
             → ((s : Set) → IsOpen tree.now x s → ⊥) → out.new ≡ replicate (length tree.now) false }
     {

@@ -25,7 +25,8 @@ impl Desk {
     pub fn new(alloc: Global, trees: &[Tree], exact: &[bool]) -> Result<Desk, AllocError>
         requires { length exact.now ≤ 32 }
         ensures exact { IfOk result (λ desk. desk.room ≡ exact.now) }
-        ensures marks { IfOk result (λ desk. desk.marks ≡ map (λ t. replicate (length t) Free) trees.now) }
+        ensures marks { IfOk result (λ desk. desk.marks
+            ≡ map (λ t. replicate (length t) Free) trees.now) }
         ensures sides { IfOk result (λ desk. desk.sides.items ≡ []) }
     {
         Ok(Desk {

@@ -270,7 +270,8 @@ impl<'a> Kept<'a> {
         requires live { IsLive self.old.trees self.old.marks }
         requires range { IsInRange (beside rises (multiplier_of self.old.multipliers good)) }
         ensures answer { (total : ℤ) → IsNetSum self.old.trees self.old.weights (with_beside
-            self.old.multipliers good rises) self.old.marks total → IsTrue result ↔ (least ≤ℤ total) }
+            self.old.multipliers good rises) self.old.marks total → IsTrue result
+            ↔ (least ≤ℤ total) }
         ensures same { self.new ≡ self.old }
     {
         let mut moved = self.m.copy();

@@ -53,7 +53,8 @@ impl Leaves {
         requires good { good < 32 }
         requires node { node < 200 }
         ensures first { self.new.first ≡ slice_set self.old.first good node }
-        ensures next { self.new.next ≡ slice_set self.old.next node (slice_index self.old.first good) }
+        ensures next { self.new.next
+            ≡ slice_set self.old.next node (slice_index self.old.first good) }
     {
         self.next[node as usize] = self.first[good as usize];
         self.first[good as usize] = node;

@@ -68,7 +68,8 @@ impl NetTable {
         requires fixing { length fixing.now ≡ length tree.now }
         requires modest { AreModest weights.now }
         requires entries { IsTableOf tree.now self.old.nets.weights fixing.now self.old.table }
-        ensures net { self.new.nets.weights ≡ slice_set self.old.nets.weights node (node_net tree.now
+        ensures net { self.new.nets.weights
+            ≡ slice_set self.old.nets.weights node (node_net tree.now
             weights.now 64 m.now 1 node) }
         ensures small { IsSmall (node_net tree.now weights.now 64 m.now 1 node) }
         ensures entries { IsTableOf tree.now self.new.nets.weights fixing.now self.new.table }
@@ -95,7 +96,8 @@ impl NetTable {
         requires modest { AreModest weights.now }
         requires leaves { AreLeavesOf tree.now leaves.now }
         requires good { good < 32 }
-        requires before { (before : Numbers) × IsNetTable tree.now weights.now before fixing.now self.old
+        requires before { (before : Numbers)
+            × IsNetTable tree.now weights.now before fixing.now self.old
             × DifferOnlyIn good before m.now }
         ensures { IsNetTable tree.now weights.now m.now fixing.now self.new }
     {
@@ -109,9 +111,11 @@ impl NetTable {
 
     /// The greatest net of a set that is satisfied and meets the fixing; None where there is no such set.
     pub(crate) fn greatest(&self) -> Option<i128>
-        ensures net { (t : Nodes) (w : NodeWeights) (m : Numbers) (x : Marks) → IsNetTable t w m x self.now
+        ensures net { (t : Nodes) (w : NodeWeights) (m : Numbers) (x : Marks)
+            → IsNetTable t w m x self.now
             → IsNetOf t w m x result }
-        ensures small { (t : Nodes) (w : NodeWeights) (m : Numbers) (x : Marks) → IsNetTable t w m x self.now
+        ensures small { (t : Nodes) (w : NodeWeights) (m : Numbers) (x : Marks)
+            → IsNetTable t w m x self.now
             → IsSmallNet result }
     {
         self.table.greatest()
@@ -119,11 +123,14 @@ impl NetTable {
 
     /// The same, and `out` becomes a set of that net, or the empty set where there is none.
     pub(crate) fn find(&self, tree: &Tree, out: &mut NodeSet) -> Option<i128>
-        ensures found { (w : NodeWeights) (m : Numbers) (x : Marks) → IsNetTable tree.now w m x self.now
+        ensures found { (w : NodeWeights) (m : Numbers) (x : Marks)
+            → IsNetTable tree.now w m x self.now
             → IsFound tree.now w m x result out.new }
-        ensures small { (w : NodeWeights) (m : Numbers) (x : Marks) → IsNetTable tree.now w m x self.now
+        ensures small { (w : NodeWeights) (m : Numbers) (x : Marks)
+            → IsNetTable tree.now w m x self.now
             → IsSmallNet result }
-        ensures nodes { (w : NodeWeights) (m : Numbers) (x : Marks) → IsNetTable tree.now w m x self.now
+        ensures nodes { (w : NodeWeights) (m : Numbers) (x : Marks)
+            → IsNetTable tree.now w m x self.now
             → length out.new ≡ length tree.now }
     {
         self.table.best_set(tree, out);

@@ -32,7 +32,8 @@ pub fn best_excess(
     requires own { length own.now ≡ length tree.now }
     requires nodes { length weights.now ≡ length tree.now }
     requires weights { AreAtMostTrillion weights.now }
-    ensures greatest { IsGreatestExcess tree.now weights.now prices.now own.now result.set result.amount }
+    ensures greatest { IsGreatestExcess tree.now weights.now prices.now own.now result.set
+        result.amount }
     ensures low { neg_ℤ (pos (400 * 2 ^ 90)) ≤ℤ result.amount }
     ensures high { result.amount ≤ℤ pos (400 * 2 ^ 90) }
 {

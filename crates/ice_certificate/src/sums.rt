@@ -82,7 +82,8 @@ fn add_units(sums: &mut [i128; 32], weight: u64, units: &Units, own: &Units)
     requires sized { (g : ℕ) → g < 32 → IsSizedWithin (2 ^ 60) (weight_of sums.old g) }
     ensures added { (g : ℕ) → g < 32 → weight_of sums.new g
         ≡ weight_of sums.old g +ℤ (pos weight *ℤ (weight_of units.now g -ℤ weight_of own.now g)) }
-    ensures sized { (g : ℕ) → g < 32 → IsSizedWithin (2 ^ 19) (weight_of units.now g -ℤ weight_of own.now g) }
+    ensures sized { (g : ℕ) → g < 32
+        → IsSizedWithin (2 ^ 19) (weight_of units.now g -ℤ weight_of own.now g) }
 {
     for good in 0..32u8 {
         sums[good as usize] += by_weight(weight, units_above(units, own, good));

@@ -60,7 +60,8 @@ impl Checker {
         ensures stopped { OnErr result (HasCome self.new out_of_memory) }
         ensures ready { (p : Progress) → HasCome self.old p → IsTrue (is_ready p) → IsOk result }
         ensures once { IsTrue (is_ready_checker self.old) → IsOk result }
-        ensures stays { OnOk result (IsTrue (is_ready_checker self.old) → IsTrue (is_ready_checker self.new)) }
+        ensures stays { OnOk result (IsTrue (is_ready_checker self.old)
+            → IsTrue (is_ready_checker self.new)) }
     {
         let stage = mem::replace(&mut self.stage, Stage::OutOfMemory);
         let next = stage.after(self.alloc, self.next_line, line)?;
@@ -90,7 +91,8 @@ impl Checker {
     /// The settlement whose regret the next record is to state, where it is to state one and no test has failed.
     pub fn due_regret(&self) -> Option<DueRegret<'_>>
         ensures tells { (p : Progress) → HasCome self.now p → TellsDue result p }
-        ensures count { IfSome result (λ due. length due.bounds.now ≡ length due.exchange.now.bidders) }
+        ensures count { IfSome result (λ due. length due.bounds.now
+            ≡ length due.exchange.now.bidders) }
     {
         self.stage.due()
     }

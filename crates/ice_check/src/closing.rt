@@ -62,7 +62,8 @@ impl Groups {
     fn final_worth(&self, bidder: u8) -> i128
         requires kept { AreKept self.now }
         requires ready { IsReady self.now (Next.Payment bidder) }
-        ensures value { result ≡ value (set_of self.now.final_sets bidder) (weights_of (weights_for self.now Group.Final) bidder) }
+        ensures value { result ≡ value (set_of self.now.final_sets bidder)
+            (weights_of (weights_for self.now Group.Final) bidder) }
         ensures range { IsWorth result }
     {
         self.stated.trees()[usize::from(bidder)].value(

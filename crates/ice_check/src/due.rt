@@ -27,7 +27,8 @@ impl Groups {
     pub(crate) fn due(&self) -> Option<DueRegret<'_>>
         requires { AreKept self.now }
         ensures tells { (s : State) → StandsFor self.now s → TellsDue result (passing s) }
-        ensures count { IfSome result (λ due. length due.bounds.now ≡ length due.exchange.now.bidders) }
+        ensures count { IfSome result (λ due. length due.bounds.now
+            ≡ length due.exchange.now.bidders) }
     {
         match self.next {
             Next::Amount => Some(DueRegret {

@@ -393,7 +393,8 @@ impl Groups {
 
     /// What follows the regret.
     fn behind_regret(&self) -> Next
-        ensures { result ≡ behind_regret self.now.head (closing self.now.stated.exchange.settings self.now.number self.now.regret) }
+        ensures { result ≡ behind_regret self.now.head
+            (closing self.now.stated.exchange.settings self.now.number self.now.regret) }
     {
         match self.head {
             Head::Assign | Head::Regret(_) => Next::End,

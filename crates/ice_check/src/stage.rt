@@ -68,7 +68,8 @@ impl Stage {
         requires lawful { IsRecord (record_of line.now) }
         ensures leads { LeadsOn self (record_of line.now) result }
         ensures ready { IsTrue (is_ready_stage self) → result ≢ Err Halt.NoMemory }
-        ensures stays { IsTrue (is_ready_stage self) → IfOk result (λ next. IsTrue (is_ready_stage next)) }
+        ensures stays { IsTrue (is_ready_stage self)
+            → IfOk result (λ next. IsTrue (is_ready_stage next)) }
     {
         match self {
             Stage::Begin => begin(alloc, line),
@@ -88,7 +89,8 @@ impl Stage {
             → TakesFurther number next p (record_of line.now)) }
         ensures within { IfOk result (λ next. IsAtLine (suc number) next) }
         ensures ready { IsTrue (is_ready_stage self) → IsOk result }
-        ensures stays { IsTrue (is_ready_stage self) → IfOk result (λ next. IsTrue (is_ready_stage next)) }
+        ensures stays { IsTrue (is_ready_stage self)
+            → IfOk result (λ next. IsTrue (is_ready_stage next)) }
     {
         match self.step(alloc, line) {
             Ok(next) => Ok(next),
@@ -122,7 +124,8 @@ impl Stage {
     pub(crate) fn due(&self) -> Option<DueRegret<'_>>
         requires { IsKept self.now }
         ensures tells { (n : ℕ) (p : Progress) → IsProgress n self.now p → TellsDue result p }
-        ensures count { IfSome result (λ due. length due.bounds.now ≡ length due.exchange.now.bidders) }
+        ensures count { IfSome result (λ due. length due.bounds.now
+            ≡ length due.exchange.now.bidders) }
     {
         match self {
             Stage::Behind(groups) => groups.due(),

@@ -43,7 +43,8 @@ fn answer_to(alloc: Global, bytes: &[u8]) -> Result<Answer, Refusal>
 /// The checker's answer on the journal of this name, or why there is none.
 fn answer_of<H: Shelf>(alloc: Global, name: &str, shelf: &mut H) -> Result<Answer, Refusal>
     ensures answer { IfOk result (λ answer. (bytes : List ℕ)
-        × AnswersBytes bytes (Ok answer) × AreFetched (H.told shelf.old) name.now JOURNAL_LIMIT bytes) }
+        × AnswersBytes bytes (Ok answer)
+        × AreFetched (H.told shelf.old) name.now JOURNAL_LIMIT bytes) }
     ensures refusal { IfErr result
         (Refuses 1 name.now JOURNAL_LIMIT IsCheckFault (H.told shelf.old) (H.told shelf.new)) }
     ensures kept { OnOk result (H.told shelf.new ≡ H.told shelf.old) }

@@ -99,8 +99,10 @@ fn replay_words(words: &[String]) -> Option<(&str, u8)>
 /// The names of an exchange and of at most 20 round files, where the words are such.
 fn run_names(words: &[String]) -> Option<(&str, &[String])>
     ensures { MatchOption result
-        ((one : List ℕ) → (others : List (List ℕ)) → length others ≤ 20 → map string_bytes words.now ≡ one ∷ others → ⊥)
-        (λ names. (length names.1.now ≤ 20) × (map string_bytes words.now ≡ names.0.now ∷ map string_bytes names.1.now)) }
+        ((one : List ℕ) → (others : List (List ℕ)) → length others ≤ 20 → map string_bytes words.now
+        ≡ one ∷ others → ⊥)
+        (λ names. (length names.1.now ≤ 20)
+        × (map string_bytes words.now ≡ names.0.now ∷ map string_bytes names.1.now)) }
 {
     let (exchange, rounds) = words.split_first()?;
     if rounds.len() > 20 {

@@ -158,7 +158,8 @@ pub fn read_prices<H: Shelf>(
 ) -> Result<Prices, Refusal>
     ensures prices { IfOk result (HoldsPrices (H.told shelf.old) name.now goods) }
     ensures refusal { IfErr result
-        (Refuses file name.now FILE_LIMIT (IsPricesFault goods) (H.told shelf.old) (H.told shelf.new)) }
+        (Refuses file name.now FILE_LIMIT (IsPricesFault goods) (H.told shelf.old)
+        (H.told shelf.new)) }
     ensures kept { OnOk result (H.told shelf.new ≡ H.told shelf.old) }
     ensures kept_at_refusal { IfErr result (λ refusal.
         KeepsTold (H.told shelf.old) (H.told shelf.new) (refusal_status refusal)) }

@@ -35,7 +35,8 @@ fn write_round<H: Shelf, K: Sink>(
     requires { round.number ≤ 19 }
     ensures next { IfOk result (λ next. EndsRound round next name.now (H.told shelf.old)
         (K.written out.old) (K.written out.new) (K.faults out.old) (K.faults out.new)) }
-    ensures ended { IfErr result (λ status. EndsInRound round name.now (H.told shelf.old) (H.told shelf.new)
+    ensures ended { IfErr result
+        (λ status. EndsInRound round name.now (H.told shelf.old) (H.told shelf.new)
         (K.written out.old) (K.written out.new) (K.faults out.old) (K.faults out.new) status) }
     ensures kept { OnOk result (H.told shelf.new ≡ H.told shelf.old) }
     ensures kept_at_end { IfErr result (KeepsTold (H.told shelf.old) (H.told shelf.new)) }

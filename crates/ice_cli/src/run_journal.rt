@@ -59,7 +59,8 @@ pub fn bound_of(spent: &Spent) -> i128
 pub fn put_halted<K: Sink>(halt: &Halt, spent: &Spent, out: &mut K) -> Result<(), SinkFault>
     requires halt { IsWritableHalt halt.now }
     requires spent { IsWritable (length (exact_of halt.now.exchange)) (proved_spent spent.now) }
-    ensures put { IsPut (bytes_of (halt_records halt.now ++ spent_records halt.now.exchange spent.now)) result
+    ensures put { IsPut
+        (bytes_of (halt_records halt.now ++ spent_records halt.now.exchange spent.now)) result
         (K.written out.old) (K.written out.new) (K.faults out.old) (K.faults out.new) }
     ensures record_is { IsRecord (line.spent spent.now.value spent.now.bound) }
 {
@@ -72,7 +73,8 @@ pub fn put_halted<K: Sink>(halt: &Halt, spent: &Spent, out: &mut K) -> Result<()
 fn stop_spent<K: Sink>(halt: &Halt, spent: &Spent, out: &mut K) -> Status
     requires halt { IsWritableHalt halt.now }
     requires spent { IsWritable (length (exact_of halt.now.exchange)) (proved_spent spent.now) }
-    ensures said { IsSaid (bytes_of (halt_records halt.now ++ spent_records halt.now.exchange spent.now)) Status.Spent
+    ensures said { IsSaid
+        (bytes_of (halt_records halt.now ++ spent_records halt.now.exchange spent.now)) Status.Spent
         (K.written out.old) (K.written out.new) (K.faults out.old) (K.faults out.new) result }
     ensures record_is { IsRecord (line.spent spent.now.value spent.now.bound) }
 {
@@ -105,8 +107,10 @@ fn stop_limited<K: Sink>(halt: &Halt, limit: &PriceLimit, out: &mut K) -> Status
 pub fn settled_round<K: Sink>(ready: Ready, out: &mut K) -> Result<InRound, Status>
     requires { (going : List Going) × IsRunning going ready }
     ensures { MatchResult result
-        (λ round. OpensRound ready round (K.written out.old) (K.written out.new) (K.faults out.old) (K.faults out.new))
-        (λ status. EndsHere ready (K.written out.old) (K.written out.new) (K.faults out.old) (K.faults out.new) status) }
+        (λ round. OpensRound ready round (K.written out.old) (K.written out.new) (K.faults out.old)
+        (K.faults out.new))
+        (λ status. EndsHere ready (K.written out.old) (K.written out.new) (K.faults out.old)
+        (K.faults out.new) status) }
 {
     match ready.settle() {
         Settled::Closed(closing) => Err(close(&closing, out)),

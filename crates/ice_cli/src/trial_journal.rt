@@ -52,7 +52,8 @@ fn put_first<K: Sink>(
     first: &Option<TruthRound>,
     out: &mut K,
 ) -> Result<(), SinkFault>
-    requires { IfSome first.now (λ r. IsWritableOpening (length (exact_of exchange.now)) r.opening) }
+    requires { IfSome first.now
+        (λ r. IsWritableOpening (length (exact_of exchange.now)) r.opening) }
     ensures { IsPut (bytes_of (first_records exchange.now first.now)) result
         (K.written out.old) (K.written out.new) (K.faults out.old) (K.faults out.new) }
 {
@@ -68,7 +69,8 @@ fn put_trial<K: Sink>(
     first: &Option<TruthRound>,
     out: &mut K,
 ) -> Result<(), SinkFault>
-    requires { IfSome first.now (λ r. IsWritableOpening (length (exact_of exchange.now)) r.opening) }
+    requires { IfSome first.now
+        (λ r. IsWritableOpening (length (exact_of exchange.now)) r.opening) }
     ensures { IsPut (bytes_of (trial_records exchange.now first.now)) result
         (K.written out.old) (K.written out.new) (K.faults out.old) (K.faults out.new) }
 {

@@ -77,7 +77,8 @@ fn line_to(alloc: Global, bytes: &[u8]) -> Result<Vec<u8>, Refusal>
 /// The line of the exchange that the flat bids of the file of this name say, or why there is none.
 fn translation_of<H: Shelf>(alloc: Global, name: &str, shelf: &mut H) -> Result<Vec<u8>, Refusal>
     ensures line { IfOk result (λ line. (bytes : List ℕ)
-        × IsTranslationOf bytes line.items × AreFetched (H.told shelf.old) name.now FILE_LIMIT bytes) }
+        × IsTranslationOf bytes line.items
+        × AreFetched (H.told shelf.old) name.now FILE_LIMIT bytes) }
     ensures refusal { IfErr result
         (Refuses 1 name.now FILE_LIMIT IsFlatFault (H.told shelf.old) (H.told shelf.new)) }
     ensures kept { OnOk result (H.told shelf.new ≡ H.told shelf.old) }

@@ -14,7 +14,8 @@ use ice_tree::NodeKind;
 /// The value of a package: 10 to 39 units of money for each of its goods.
 fn package_value(goods: u8, generator: &mut Generator) -> Valued
     requires { goods ≤ 4 }
-    ensures truth { result.truth ≡ pos (10 * goods + sum (draws (replicate goods 30) generator.old)) }
+    ensures truth { result.truth
+        ≡ pos (10 * goods + sum (draws (replicate goods 30) generator.old)) }
     ensures below { result.below ≡ drawn (state_after goods generator.old) 10 }
     ensures above { result.above ≡ drawn (state_after (goods + 1) generator.old) 10 }
     ensures modest { IsModest result }
@@ -34,7 +35,8 @@ fn add_package(maker: &mut ValuedTreeMaker, goods: u8, generator: &mut Generator
     requires root { maker.old.opened ≡ 0 ∷ [] }
     requires begun { 0 < length maker.old.tree }
     requires room { length maker.old.tree + goods < 13 }
-    requires parents { (c : ℕ) → 0 < c → c < length maker.old.tree → parent_of maker.old.tree c < c }
+    requires parents { (c : ℕ) → 0 < c → c < length maker.old.tree
+        → parent_of maker.old.tree c < c }
     ensures tree { let drawn = draws (package_draws goods) generator.old in
         maker.new.tree ≡ maker.old.tree ++ package_tree (length maker.old.tree) goods drawn }
     ensures values { let drawn = draws (package_draws goods) generator.old in
@@ -55,8 +57,10 @@ fn add_package(maker: &mut ValuedTreeMaker, goods: u8, generator: &mut Generator
 /// A buyer: at most one of three packages, of two, three and four goods.
 pub(crate) fn buyer(generator: &mut Generator) -> Valuation
     ensures tree { result.tree ≡ (buyer 0 (draws buyer_draws generator.old)).tree }
-    ensures bounds { result.bounds ≡ bounds_of_values (buyer 0 (draws buyer_draws generator.old)).values }
-    ensures truth { result.truth ≡ truth_of_values (buyer 0 (draws buyer_draws generator.old)).values }
+    ensures bounds { result.bounds
+        ≡ bounds_of_values (buyer 0 (draws buyer_draws generator.old)).values }
+    ensures truth { result.truth
+        ≡ truth_of_values (buyer 0 (draws buyer_draws generator.old)).values }
     ensures limited { IsLimitedTree 12 result.tree }
     ensures ordered { AreBounds (length result.tree) result.bounds }
     ensures state { generator.new ≡ state_after 18 generator.old }

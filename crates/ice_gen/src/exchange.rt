@@ -60,7 +60,8 @@ impl Draft {
             (bidder_from name.now own.now valuation.tree valuation.bounds) ≡ None }
         ensures exchange { OnOk result (self.new.maker ≡ with_bidder self.old.maker
             (bidder_from name.now own.now valuation.tree valuation.bounds)) }
-        ensures truth { OnOk result (self.new.truth.items ≡ self.old.truth.items ++ valuation.truth ∷ []) }
+        ensures truth { OnOk result (self.new.truth.items
+            ≡ self.old.truth.items ++ valuation.truth ∷ []) }
     {
         let Valuation {
             tree,

@@ -90,7 +90,8 @@ impl Packing {
     ) -> Result<(), SinkFault>
         requires { IsRecord (step (leaf multipliers.items)) }
         ensures put { IsGathered gathered.new
-            (gathered.old ++ line_of (near (changes_from 0 (before_of self.old) multipliers.items))) result
+            (gathered.old ++ line_of (near (changes_from 0 (before_of self.old) multipliers.items)))
+            result
             (K.written out.old) (K.written out.new) (K.faults out.old) (K.faults out.new) }
         ensures after { before_of self.new ≡ multipliers.items }
         ensures goods { self.new.goods ≡ self.old.goods }
@@ -110,7 +111,8 @@ impl Packing {
     ) -> Result<(), SinkFault>
         requires { 0 < length line.now }
         ensures put { (r : Record) → IsRecord r → line.now ≡ line_of r
-            → IsGathered gathered.new (gathered.old ++ line_of (packed_record (before_of self.old) r)) result
+            → IsGathered gathered.new
+            (gathered.old ++ line_of (packed_record (before_of self.old) r)) result
             (K.written out.old) (K.written out.new) (K.faults out.old) (K.faults out.new) }
         ensures after { (r : Record) → IsRecord r → line.now ≡ line_of r
             → before_of self.new ≡ packed_after self.old.goods (before_of self.old) r }
@@ -153,7 +155,8 @@ fn put_changes<K: Sink>(
     out: &mut K,
 ) -> Result<(), SinkFault>
     requires { IsRecord (near (map change_of changes.items)) }
-    ensures { IsGathered gathered.new (gathered.old ++ line_of (near (map change_of changes.items))) result
+    ensures { IsGathered gathered.new (gathered.old ++ line_of (near (map change_of changes.items)))
+        result
         (K.written out.old) (K.written out.new) (K.faults out.old) (K.faults out.new) }
 {
     writer.clear();

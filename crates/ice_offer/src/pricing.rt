@@ -31,7 +31,8 @@ pub(crate) fn trade_at<'a>(
     judge: &'a Judge,
 ) -> Provisional<'a>
     requires round { IsRoundOf exchange.now judge.now }
-    requires weights { weights.now ≡ weighted_weights exchange.now.settings.weight judge.now.bounds }
+    requires weights { weights.now
+        ≡ weighted_weights exchange.now.settings.weight judge.now.bounds }
     ensures { result ≡ provisional_of exchange.now
         (weighted_weights exchange.now.settings.weight judge.now.bounds) judge.now.sets }
 {
@@ -78,7 +79,8 @@ impl Offer {
         requires place { self.old.place ≡ Place.Prices }
         requires kept { IsKept exchange.now self.old }
         requires counts { (length prices.now.nums == length exchange.now.goods) ≡ true }
-        ensures { (number : ℕ) → Takes exchange.now number self.old (records.prices prices.now) result
+        ensures { (number : ℕ) → Takes exchange.now number self.old (records.prices prices.now)
+            result
             self.new }
     {
         if are_lawful_in(exchange, prices) {
@@ -94,7 +96,8 @@ impl Offer {
     fn state_prices(&mut self, exchange: &Exchange, prices: &Prices) -> Result<Went, Fault>
         requires place { self.old.place ≡ Place.Prices }
         requires kept { IsKept exchange.now self.old }
-        ensures { (number : ℕ) → Takes exchange.now number self.old (records.prices prices.now) result
+        ensures { (number : ℕ) → Takes exchange.now number self.old (records.prices prices.now)
+            result
             self.new }
     {
         if count_goods(exchange, prices) {
@@ -109,7 +112,8 @@ impl Offer {
         requires place { self.old.place ≡ Place.Prices }
         requires lawful { IsRecord (record_of line.now) }
         requires kept { IsKept exchange.now self.old }
-        ensures { (number : ℕ) → Takes exchange.now number self.old (record_of line.now) result self.new }
+        ensures { (number : ℕ) → Takes exchange.now number self.old (record_of line.now) result
+            self.new }
     {
         if is_limit(line) {
             return Err(Fault::Here(Rule::Closed));
@@ -122,7 +126,8 @@ impl Offer {
 
     /// A list of rows begins, of a certificate with this denominator.
     pub(crate) fn begin_list(&mut self, list: CertificateList, den: u64)
-        ensures same { self.new ≡ record self.old { den = den; tally = self.new.tally; place = Place.Rows list } }
+        ensures same { self.new
+            ≡ record self.old { den = den; tally = self.new.tally; place = Place.Rows list } }
         ensures none { (t : ProvisionalTrade) → t.goods ≤ 32 → IsTallyOf t [] self.new.tally }
     {
         self.den = den;
@@ -178,7 +183,8 @@ impl Offer {
         requires kept { IsKept exchange.now self.old }
         requires weights { weights.now
             ≡ weighted_weights exchange.now.settings.weight self.old.judge.bounds }
-        ensures { (number : ℕ) → Takes exchange.now number self.old (record_of line.now) result self.new }
+        ensures { (number : ℕ) → Takes exchange.now number self.old (record_of line.now) result
+            self.new }
     {
         match accuracy_in(line) {
             Some(stated) => self.state_violation(exchange, weights, &stated),

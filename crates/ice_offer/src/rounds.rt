@@ -30,7 +30,8 @@ impl Offer {
     fn submit(&mut self, exchange: &Exchange, submitted: &Submitted<'_>) -> Result<Went, Fault>
         requires lawful { IsRecord (records.submit (values_of submitted.now)) }
         requires kept { IsKept exchange.now self.old }
-        ensures { (number : ℕ) → CanOpen exchange.now number self.old (records.submit (values_of submitted.now))
+        ensures { (number : ℕ) → CanOpen exchange.now number self.old
+            (records.submit (values_of submitted.now))
             → Takes exchange.now number self.old (records.submit (values_of submitted.now)) result
             self.new }
     {
@@ -111,7 +112,8 @@ impl Offer {
     ) -> Result<Went, Fault>
         requires place { self.old.place ≡ Place.Verdict due }
         requires kept { IsKept exchange.now self.old }
-        ensures { (number : ℕ) → Takes exchange.now number self.old (records.verdict verdict) result self.new }
+        ensures { (number : ℕ) → Takes exchange.now number self.old (records.verdict verdict) result
+            self.new }
     {
         if is_due(due, verdict) {
             self.place = Place::Round;
@@ -130,7 +132,8 @@ impl Offer {
     ) -> Result<Went, Fault>
         requires place { self.old.place ≡ Place.Verdict due }
         requires kept { IsKept exchange.now self.old }
-        ensures { (number : ℕ) → Takes exchange.now number self.old (record_of line.now) result self.new }
+        ensures { (number : ℕ) → Takes exchange.now number self.old (record_of line.now) result
+            self.new }
     {
         match verdict_in(line) {
             Some(verdict) => self.state_verdict(exchange, due, verdict),

@@ -86,9 +86,11 @@ impl Offer {
         requires kept { IsKept exchange.now self.now }
         requires weights { weights.now
             ≡ weighted_weights exchange.now.settings.weight self.now.judge.bounds }
-        ensures yes { (rows : List Row) → IsTallyOf (trade_of exchange.now self.now) rows self.now.tally
+        ensures yes { (rows : List Row)
+            → IsTallyOf (trade_of exchange.now self.now) rows self.now.tally
             → IsTrue result → Passes exchange.now self.now list rows }
-        ensures no { (rows : List Row) → IsTallyOf (trade_of exchange.now self.now) rows self.now.tally
+        ensures no { (rows : List Row)
+            → IsTallyOf (trade_of exchange.now self.now) rows self.now.tally
             → Passes exchange.now self.now list rows → IsTrue result }
     {
         let trade = trade_at(exchange, weights, &self.judge);
@@ -135,7 +137,8 @@ impl Offer {
             ≡ weighted_weights exchange.now.settings.weight self.old.judge.bounds }
         ensures same { self.new ≡ record self.old { tally = self.new.tally } }
         ensures count { self.new.tally.count ≡ suc self.old.tally.count }
-        ensures taken { (rows : List Row) → IsTallyOf (trade_of exchange.now self.old) rows self.old.tally
+        ensures taken { (rows : List Row)
+            → IsTallyOf (trade_of exchange.now self.old) rows self.old.tally
             → IsTallyOf (trade_of exchange.now self.old) (rows ++ row.now ∷ []) self.new.tally }
     {
         let trade = trade_at(exchange, weights, &self.judge);
@@ -245,7 +248,8 @@ impl Offer {
         requires lawful { IsRecord (records.balance den) }
         requires kept { IsKept exchange.now self.old }
         requires passed { HasPassed exchange.now self.old CertificateList.Accuracy }
-        ensures { (number : ℕ) → Takes exchange.now number self.old (records.balance den) result self.new }
+        ensures { (number : ℕ) → Takes exchange.now number self.old (records.balance den) result
+            self.new }
     {
         let _goods = exchange.goods();
         self.begin_list(CertificateList::Balance, den);
@@ -259,7 +263,8 @@ impl Offer {
         requires kept { IsKept exchange.now self.old }
         requires no_row { row_in (record_of line.now) ≡ None }
         requires passed { HasPassed exchange.now self.old CertificateList.Accuracy }
-        ensures { (number : ℕ) → Takes exchange.now number self.old (record_of line.now) result self.new }
+        ensures { (number : ℕ) → Takes exchange.now number self.old (record_of line.now) result
+            self.new }
     {
         match balance_in(line) {
             Some(den) => self.state_balance(exchange, den),

@@ -56,7 +56,8 @@ impl Checker {
         ensures count { OnOk result (self.new.count ≡ self.old.count + length text.now + 1) }
         ensures stopped { OnErr result (IsStopped self.new) }
         ensures ready { IsTrue (is_ready_at self.old) → IsOk result }
-        ensures stays { OnOk result (IsTrue (is_ready_at self.old) → IsTrue (is_ready_at self.new)) }
+        ensures stays { OnOk result (IsTrue (is_ready_at self.old)
+            → IsTrue (is_ready_at self.new)) }
     {
         let record = self.begun.end(text);
         self.count += text.len() as u64 + 1;
@@ -70,7 +71,8 @@ impl Checker {
     fn go_on(&mut self, text: &[u8])
         requires few { self.old.count + length text.now < 2 ^ 63 }
         requires one_line { ¬ Contains text.now 10 }
-        ensures after { (bytes : List ℕ) → StandsFor self.old bytes → StandsFor self.new (bytes ++ text.now) }
+        ensures after { (bytes : List ℕ) → StandsFor self.old bytes
+            → StandsFor self.new (bytes ++ text.now) }
         ensures count { self.new.count ≡ self.old.count + length text.now }
         ensures lines { self.new.lines ≡ self.old.lines }
     {
@@ -89,7 +91,8 @@ impl Checker {
         ensures count { OnOk result (self.new.count ≡ self.old.count + length piece.now) }
         ensures stopped { OnErr result (IsStopped self.new) }
         ensures ready { IsTrue (is_ready_at self.old) → IsOk result }
-        ensures stays { OnOk result (IsTrue (is_ready_at self.old) → IsTrue (is_ready_at self.new)) }
+        ensures stays { OnOk result (IsTrue (is_ready_at self.old)
+            → IsTrue (is_ready_at self.new)) }
         ensures still { IsStopped self.old → IsErr result }
     {
         if self.lines.are_stopped() {

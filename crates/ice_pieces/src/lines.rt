@@ -29,7 +29,8 @@ fn fed(mut checker: RecordChecker, line: &Line) -> Result<Lines, AllocError>
         → AreRead next (whole ++ line_of (record_of line.now))) }
     ensures within { IfOk result (λ next. IsWithin (suc checker.line) next) }
     ensures ready { IsTrue (is_ready_lines (Lines.Records checker)) → IsOk result }
-    ensures stays { IsTrue (is_ready_lines (Lines.Records checker)) → IfOk result (λ next. IsTrue (is_ready_lines next)) }
+    ensures stays { IsTrue (is_ready_lines (Lines.Records checker))
+        → IfOk result (λ next. IsTrue (is_ready_lines next)) }
 {
     match checker.feed(line) {
         Ok(()) => Ok(Lines::Records(checker)),
@@ -49,7 +50,8 @@ impl Lines {
             → AreRead next (whole ++ line_of (record_of line.now))) }
         ensures within { IfOk result (λ next. (n : ℕ) → IsWithin n self → IsWithin (suc n) next) }
         ensures ready { IsTrue (is_ready_lines self) → IsOk result }
-        ensures stays { IsTrue (is_ready_lines self) → IfOk result (λ next. IsTrue (is_ready_lines next)) }
+        ensures stays { IsTrue (is_ready_lines self)
+            → IfOk result (λ next. IsTrue (is_ready_lines next)) }
     {
         match self {
             Lines::Records(checker) => fed(checker, line),
@@ -60,7 +62,8 @@ impl Lines {
 
     /// Takes the next line, which is that of no record.
     fn stop(self) -> Result<Lines, AllocError>
-        ensures read { IfOk result (λ next. (whole text : List ℕ) → AreRead self whole → ¬ Contains text 10
+        ensures read { IfOk result (λ next. (whole text : List ℕ) → AreRead self whole
+            → ¬ Contains text 10
             → IsNoRecord text → AreRead next (whole ++ (text ++ 10 ∷ []))) }
         ensures within { IfOk result (λ next. (n : ℕ) → IsWithin n next) }
         ensures ready { IsTrue (is_ready_lines self) → IsOk result }
@@ -84,7 +87,8 @@ impl Lines {
         ensures read { IfOk result (ReadsOn self (option_map record_of found.now)) }
         ensures within { IfOk result (λ next. (n : ℕ) → IsWithin n self → IsWithin (suc n) next) }
         ensures ready { IsTrue (is_ready_lines self) → IsOk result }
-        ensures stays { IsTrue (is_ready_lines self) → IfOk result (λ next. IsTrue (is_ready_lines next)) }
+        ensures stays { IsTrue (is_ready_lines self)
+            → IfOk result (λ next. IsTrue (is_ready_lines next)) }
     {
         match found {
             Some(line) => self.take(line),

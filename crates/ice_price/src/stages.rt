@@ -121,7 +121,8 @@ impl StageAt {
 
     /// The limit at which the stage ends with this pool.
     pub(crate) fn limit(&self, kind: LimitKind, pool: Vec<PoolMember>) -> PriceLimit
-        ensures stage { record { stage = stage_of result.stage; delta = result.delta; den = result.den }
+        ensures stage { record
+            { stage = stage_of result.stage; delta = result.delta; den = result.den }
             ≡ self.now }
         ensures kind { result.kind ≡ kind }
         ensures pool { result.pool.items ≡ pool.items }

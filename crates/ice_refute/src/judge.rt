@@ -71,8 +71,10 @@ fn judge_leaf(
     requires weights { AreWeightsOf trees.now weights.now }
     requires goods { length m.now ≡ length room.old }
     requires marks { AreFixingsOf trees.now marks.now }
-    ensures ok { OnOk result (PassesAt trees.now room.old weights.now target marks.now (leaf m.now)) }
-    ensures fault { IfErr result (HasFault trees.now room.old weights.now target marks.now (leaf m.now)) }
+    ensures ok { OnOk result
+        (PassesAt trees.now room.old weights.now target marks.now (leaf m.now)) }
+    ensures fault { IfErr result
+        (HasFault trees.now room.old weights.now target marks.now (leaf m.now)) }
     ensures exact { room.new ≡ room.old }
 {
     if has_wrong_sign(m, room) {

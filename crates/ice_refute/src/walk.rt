@@ -86,7 +86,8 @@ impl Walk {
         requires goods { CountsGoods (length desk.old.room) (step_of step.now) }
         ensures ok { OnOk result (PassesAt trees.now desk.old.room weights.now target
             (first_side self.old.sides) (step_of step.now)) }
-        ensures sides { OnOk result (self.new.sides ≡ sides_after self.old.sides (step_of step.now)) }
+        ensures sides { OnOk result (self.new.sides
+            ≡ sides_after self.old.sides (step_of step.now)) }
         ensures fault { IfErr result (HasFault trees.now desk.old.room weights.now target
             (first_side self.old.sides) (step_of step.now)) }
         ensures few { OnOk result (length self.new.sides ≤ 2001) }

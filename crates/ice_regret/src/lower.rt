@@ -29,7 +29,8 @@ pub fn best_at_lower_values(
     ensures best { IfOk result (λ f. IsBestOfAll (trees_of exchange.now) (exact_of exchange.now)
         (lower_weights bounds.now) f.value) }
     ensures branches { IfOk result (λ f. branches.new + branch_count f.log ≡ branches.old) }
-    ensures end { IfErr result (IsEnd (lower_search exchange.now bounds.now) branches.old branches.new) }
+    ensures end { IfErr result
+        (IsEnd (lower_search exchange.now bounds.now) branches.old branches.new) }
 {
     let trees = exchange.trees();
     let mut weights = AllWeights::new(alloc, trees)?;

@@ -29,7 +29,8 @@ pub(crate) enum Watch {
 
 /// Behind the first record.
 fn after_first(line: &Line) -> Watch
-    ensures { (number : ℕ) (c : checker.Checking) → WatchesOn number Watch.Start c (record_of line.now) result }
+    ensures { (number : ℕ) (c : checker.Checking)
+        → WatchesOn number Watch.Start c (record_of line.now) result }
 {
     if is_session_head(line) {
         Watch::Before
@@ -91,7 +92,8 @@ fn after_other(
 
 /// The prices of the settlement may come.
 fn after_begun(mut replay: Replay, checker: &Checker, line: &Line) -> Watch
-    ensures { (number : ℕ) → WatchesOn number (Watch.Begun replay) checker.now (record_of line.now) result }
+    ensures { (number : ℕ) → WatchesOn number (Watch.Begun replay) checker.now (record_of line.now)
+        result }
 {
     if !checker.awaits_prices() {
         return Watch::Begun(replay);

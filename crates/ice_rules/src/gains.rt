@@ -22,7 +22,8 @@ pub(crate) fn is_less(a: i128, b: i128) -> bool
 pub fn loss(at: &Standing, scratch: &mut Scratch) -> i128
     requires satisfied { IsSatisfied at.now.tree.now at.now.set.now }
     requires nodes { length at.now.bounds.now.lo ≡ length at.now.tree.now }
-    ensures loss { IsLoss at.now.tree.now at.now.prices.now at.now.set.now at.now.bounds.now result }
+    ensures loss { IsLoss at.now.tree.now at.now.prices.now at.now.set.now at.now.bounds.now
+        result }
     ensures not_negative { pos 0 ≤ℤ result }
     ensures high { result ≤ℤ pos (400 * 2 ^ 90) }
 {
@@ -49,7 +50,8 @@ pub(crate) fn least_gain(at: &Standing, scratch: &mut Scratch) -> i128
 pub(crate) fn is_best_throughout(at: &Standing, scratch: &mut Scratch) -> bool
     requires satisfied { IsSatisfied at.now.tree.now at.now.set.now }
     requires nodes { length at.now.bounds.now.lo ≡ length at.now.tree.now }
-    ensures yes { IsTrue result → IsBestThroughout at.now.tree.now at.now.prices.now at.now.bounds.now
+    ensures yes { IsTrue result
+        → IsBestThroughout at.now.tree.now at.now.prices.now at.now.bounds.now
         at.now.set.now }
     ensures no { IsBestThroughout at.now.tree.now at.now.prices.now at.now.bounds.now at.now.set.now
         → IsTrue result }
@@ -64,7 +66,8 @@ pub(crate) fn is_ahead(at: &Standing, other: &NodeSet) -> bool
     requires nodes { length at.now.bounds.now.lo ≡ length at.now.tree.now }
     ensures yes { IsTrue result
         → IsAhead at.now.tree.now at.now.prices.now at.now.bounds.now at.now.set.now other.now }
-    ensures no { IsAhead at.now.tree.now at.now.prices.now at.now.bounds.now at.now.set.now other.now
+    ensures no { IsAhead at.now.tree.now at.now.prices.now at.now.bounds.now at.now.set.now
+        other.now
         → IsTrue result }
 {
     let weights = against(at.bounds, at.set);

@@ -31,8 +31,10 @@ fn first_crossed(lo: &[i64], hi: &[i64]) -> Option<u16>
 /// Whether new values reach beyond the old bounds of the node.
 fn is_loosened(old: &Bounds, node: u16, lo: i64, hi: i64) -> bool
     requires { node < length old.now.lo }
-    ensures yes { IsTrue result → (lo <ℤ weight_of old.now.lo node) ⊎ (weight_of old.now.hi node <ℤ hi) }
-    ensures no { (lo <ℤ weight_of old.now.lo node) ⊎ (weight_of old.now.hi node <ℤ hi) → IsTrue result }
+    ensures yes { IsTrue result → (lo <ℤ weight_of old.now.lo node)
+        ⊎ (weight_of old.now.hi node <ℤ hi) }
+    ensures no { (lo <ℤ weight_of old.now.lo node) ⊎ (weight_of old.now.hi node <ℤ hi)
+        → IsTrue result }
 {
     lo < old.lo(node) || old.hi(node) < hi
 }
@@ -109,7 +111,8 @@ pub fn judge(at: &Standing, lo: &[i64], hi: &[i64], improve: i64, scratch: &mut 
     requires lo_values { IsTrue (list_all is_value lo.now) }
     requires hi_values { IsTrue (list_all is_value hi.now) }
     ensures judged { IsVerdict at.now improve lo.now hi.now result }
-    ensures exact { hi.now ≡ lo.now → IsInside 1 at.now.bounds.now lo.now → result ≡ Verdict.Accepted }
+    ensures exact { hi.now ≡ lo.now → IsInside 1 at.now.bounds.now lo.now → result
+        ≡ Verdict.Accepted }
 {
     first_that_holds(at, lo, hi, improve, scratch)
 }

@@ -14,7 +14,8 @@ use ice_tree::Bounds;
 pub fn mrpar(at: &Standing, scratch: &mut Scratch) -> bool
     requires satisfied { IsSatisfied at.now.tree.now at.now.set.now }
     requires nodes { length at.now.bounds.now.lo ≡ length at.now.tree.now }
-    ensures { IsTrue result ↔ IsMrpar at.now.tree.now at.now.prices.now at.now.set.now at.now.bounds.now }
+    ensures { IsTrue result ↔ IsMrpar at.now.tree.now at.now.prices.now at.now.set.now
+        at.now.bounds.now }
 {
     let set = best_at_centre(at, scratch);
     let best = Standing {
@@ -60,7 +61,8 @@ pub fn improvement(at: &Standing, new: &Bounds, improve: i64, scratch: &mut Scra
     requires old { length at.now.bounds.now.lo ≡ length at.now.tree.now }
     requires new { length new.now.lo ≡ length at.now.tree.now }
     ensures { IsTrue result
-        ↔ Improves at.now.tree.now at.now.prices.now at.now.set.now at.now.bounds.now new.now improve }
+        ↔ Improves at.now.tree.now at.now.prices.now at.now.set.now at.now.bounds.now new.now
+        improve }
 {
     let then = Standing {
         tree: at.tree,

@@ -168,8 +168,10 @@ impl<'a> Workspace<'a> {
         steps: u16,
     ) -> Polished
         requires fit { AreFixingsOf self.old.instance.trees self.old.side }
-        requires free { IsFreeNode self.old.instance.trees self.old.side candidate.bidder candidate.node }
-        requires live { IsLive self.old.instance.trees (with_mark self.old.side candidate.bidder candidate.node mark) }
+        requires free { IsFreeNode self.old.instance.trees self.old.side candidate.bidder
+            candidate.node }
+        requires live { IsLive self.old.instance.trees
+            (with_mark self.old.side candidate.bidder candidate.node mark) }
         requires from { AreMultipliersOf self.old.instance.exact from.now }
         requires sets { length incumbent.old.sets ≡ length self.old.instance.trees }
         ensures instance { self.new.instance ≡ self.old.instance }

@@ -106,7 +106,8 @@ impl<'a> Workspace<'a> {
 
     /// Goes on to a child of the side that is looked at.
     fn go_to(&mut self, candidate: Candidate, mark: Mark)
-        requires { IsFreeNode self.old.instance.trees self.old.side candidate.bidder candidate.node }
+        requires { IsFreeNode self.old.instance.trees self.old.side candidate.bidder
+            candidate.node }
         ensures { self.new.instance ≡ self.old.instance }
     {
         self.kept.mark(candidate.bidder, candidate.node, mark);

@@ -21,7 +21,8 @@ use std::alloc::Global;
 
 /// 1 for a branch step.
 fn branches_of(step: &Step) -> u32
-    ensures { (rest : List PlainStep) → branch_count (step_of step.now ∷ rest) ≡ branch_count rest + result }
+    ensures { (rest : List PlainStep) → branch_count (step_of step.now ∷ rest)
+        ≡ branch_count rest + result }
 {
     match step {
         Step::Branch { .. } => 1,
@@ -61,10 +62,15 @@ pub fn search_from(
     requires meets { MeetsAll first.now start.now }
     requires from { AreMultipliersOf (exact_of exchange.now) from.now }
     requires branches { branches.old ≤ 50000 }
-    ensures found { IfOk result (IsFoundBy (instance_of exchange.now weights.now start.now first.now)) }
-    ensures best { IfOk result (λ f. IsBest (trees_of exchange.now) (exact_of exchange.now) weights.now start.now f.value) }
+    ensures found { IfOk result
+        (IsFoundBy (instance_of exchange.now weights.now start.now first.now)) }
+    ensures best { IfOk result
+        (λ f. IsBest (trees_of exchange.now) (exact_of exchange.now) weights.now start.now
+        f.value) }
     ensures branches { IfOk result (λ f. branches.new + branch_count f.log ≡ branches.old) }
-    ensures end { IfErr result (IsEnd (instance_of exchange.now weights.now start.now first.now) branches.old branches.new) }
+    ensures end { IfErr result
+        (IsEnd (instance_of exchange.now weights.now start.now first.now) branches.old
+        branches.new) }
 {
     let problem = Problem::new(exchange, weights, start, first);
     let mut progress = Progress::begin(alloc, problem, from, candidates)?;
@@ -107,10 +113,15 @@ pub fn search(
     requires feasible { IsFeasible (trees_of exchange.now) (exact_of exchange.now) first.now }
     requires meets { MeetsAll first.now start.now }
     requires branches { branches.old ≤ 50000 }
-    ensures found { IfOk result (IsFoundBy (instance_of exchange.now weights.now start.now first.now)) }
-    ensures best { IfOk result (λ f. IsBest (trees_of exchange.now) (exact_of exchange.now) weights.now start.now f.value) }
+    ensures found { IfOk result
+        (IsFoundBy (instance_of exchange.now weights.now start.now first.now)) }
+    ensures best { IfOk result
+        (λ f. IsBest (trees_of exchange.now) (exact_of exchange.now) weights.now start.now
+        f.value) }
     ensures branches { IfOk result (λ f. branches.new + branch_count f.log ≡ branches.old) }
-    ensures end { IfErr result (IsEnd (instance_of exchange.now weights.now start.now first.now) branches.old branches.new) }
+    ensures end { IfErr result
+        (IsEnd (instance_of exchange.now weights.now start.now first.now) branches.old
+        branches.new) }
 {
     let zeros = Multipliers::zero(exchange.goods());
     search_from(

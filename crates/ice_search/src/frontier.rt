@@ -17,7 +17,8 @@ pub(crate) fn key_of(part: &Part) -> i128
 /// The bound of the open part at a place, and the value where there is none.
 fn bound_at(parts: &[Part], open_parts: &[u32], place: Option<usize>, value: i128) -> i128
     requires numbers { AreParts (parts_of parts.now) open_parts.now }
-    requires place { IsHigher (parts_of parts.now) open_parts.now value (length open_parts.now) place }
+    requires place { IsHigher (parts_of parts.now) open_parts.now value (length open_parts.now)
+        place }
     ensures { result ≡ bound_at (parts_of parts.now) open_parts.now value place }
 {
     match place {
@@ -54,7 +55,8 @@ pub(crate) fn greatest(parts: &[Part], open_parts: &[u32], value: i128) -> Optio
 /// Takes an open part out.
 pub(crate) fn take_out(open_parts: &mut Vec<u32>, place: usize)
     requires { place < vec_len open_parts.old }
-    ensures others { IsPermutation open_parts.old.items (slice_index open_parts.old.items place ∷ open_parts.new.items) }
+    ensures others { IsPermutation open_parts.old.items
+        (slice_index open_parts.old.items place ∷ open_parts.new.items) }
     ensures len { vec_len open_parts.new + 1 ≡ vec_len open_parts.old }
     ensures capacity { vec_capacity open_parts.new ≡ vec_capacity open_parts.old }
 {
@@ -85,7 +87,8 @@ pub(crate) fn open_children(
     requires place { place < vec_len open_parts.old }
     requires room { vec_len open_parts.old + 2 ≤ vec_capacity open_parts.old }
     requires few { first < 1000000 }
-    ensures opened { AreOpened open_parts.old.items open_parts.new.items place first opens_first opens_second }
+    ensures opened { AreOpened open_parts.old.items open_parts.new.items place first opens_first
+        opens_second }
     ensures len { vec_len open_parts.new ≤ vec_len open_parts.old + 1 }
 {
     take_out(open_parts, place);

@@ -45,7 +45,8 @@ fn is_live_with(kept: &mut Kept, candidate: Candidate, mark: Mark) -> bool
 fn is_free(kept: &Kept, candidate: Candidate) -> bool
     requires bidder { candidate.bidder < length kept.now.trees }
     requires node { candidate.node < length (tree_of kept.now.trees candidate.bidder) }
-    ensures free { IsTrue result ↔ IsFreeNode kept.now.trees kept.now.marks candidate.bidder candidate.node }
+    ensures free { IsTrue result
+        ↔ IsFreeNode kept.now.trees kept.now.marks candidate.bidder candidate.node }
     ensures fit { AreFixingsOf kept.now.trees kept.now.marks }
 {
     kept.marks().of(candidate.bidder).get(candidate.node) == Mark::Free
@@ -55,8 +56,10 @@ fn is_free(kept: &Kept, candidate: Candidate) -> bool
 pub(crate) fn splits(kept: &mut Kept, candidate: Candidate) -> bool
     requires bidder { candidate.bidder < length kept.old.trees }
     requires node { candidate.node < length (tree_of kept.old.trees candidate.bidder) }
-    ensures yes { IsTrue result → IsSplitNode kept.old.trees kept.old.marks candidate.bidder candidate.node }
-    ensures no { result ≡ false → IsFreeNode kept.old.trees kept.old.marks candidate.bidder candidate.node
+    ensures yes { IsTrue result
+        → IsSplitNode kept.old.trees kept.old.marks candidate.bidder candidate.node }
+    ensures no { result ≡ false
+        → IsFreeNode kept.old.trees kept.old.marks candidate.bidder candidate.node
         → IsLive kept.old.trees (with_mark kept.old.marks candidate.bidder candidate.node Must)
         → ¬ IsLive kept.old.trees (with_mark kept.old.marks candidate.bidder candidate.node Never) }
     ensures same { IsSameStanding kept.old kept.new }
@@ -74,7 +77,8 @@ pub(crate) fn splits(kept: &mut Kept, candidate: Candidate) -> bool
 fn find_in_tree(kept: &mut Kept, bidder: u8) -> Option<Candidate>
     requires { bidder < length kept.old.trees }
     ensures none { IfNone result (HasNoNodeOf kept.old.trees kept.old.marks bidder) }
-    ensures some { IfSome result (λ candidate. IsSplitNode kept.old.trees kept.old.marks candidate.bidder candidate.node) }
+    ensures some { IfSome result
+        (λ candidate. IsSplitNode kept.old.trees kept.old.marks candidate.bidder candidate.node) }
     ensures same { IsSameStanding kept.old kept.new }
 {
     for node in 0..kept.marks().of(bidder).len() {
@@ -89,7 +93,8 @@ fn find_in_tree(kept: &mut Kept, bidder: u8) -> Option<Candidate>
 /// A node that is free and leaves both children live.
 pub(crate) fn find(kept: &mut Kept) -> Option<Candidate>
     ensures none { IfNone result (HasNoNode kept.old.trees kept.old.marks) }
-    ensures some { IfSome result (λ candidate. IsSplitNode kept.old.trees kept.old.marks candidate.bidder candidate.node) }
+    ensures some { IfSome result
+        (λ candidate. IsSplitNode kept.old.trees kept.old.marks candidate.bidder candidate.node) }
     ensures same { IsSameStanding kept.old kept.new }
 {
     for bidder in 0..kept.len() {

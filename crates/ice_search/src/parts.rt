@@ -30,7 +30,8 @@ pub(crate) fn lower(parts: &mut Vec<Part>, number: u32, swept: Bounded)
 
 /// A part that isn't swept, below another.
 fn child(above: u32, candidate: Candidate, mark: Mark, bounded: Bounded) -> Part
-    ensures { part_of result ≡ child_part above candidate.bidder candidate.node mark bounded.m bounded.key }
+    ensures { part_of result ≡ child_part above candidate.bidder candidate.node mark bounded.m
+        bounded.key }
 {
     Part {
         above,
@@ -56,7 +57,8 @@ pub(crate) fn push_children(
     requires room { vec_len parts.old + 2 ≤ vec_capacity parts.old }
     requires few { vec_len parts.old ≤ 1000000 }
     ensures { parts_of parts.new.items ≡ (slice_set (parts_of parts.old.items) number
-        (split_at (part_at (parts_of parts.old.items) number) candidate.bidder candidate.node (vec_len parts.old))
+        (split_at (part_at (parts_of parts.old.items) number) candidate.bidder candidate.node
+        (vec_len parts.old))
         ++ child_part number candidate.bidder candidate.node Must must.m must.key ∷ [])
         ++ child_part number candidate.bidder candidate.node Never never.m never.key ∷ [] }
 {

@@ -43,7 +43,8 @@ impl<'a> Progress<'a> {
     /// The place of an open part of the greatest bound, where that is above the value.
     pub(crate) fn next(&self) -> Option<usize>
         ensures none { IfNone result (IsAboveWhole self.now.parts self.now.value) }
-        ensures some { IfSome result (IsGreatestOpen self.now.parts self.now.open_parts self.now.value) }
+        ensures some { IfSome result
+            (IsGreatestOpen self.now.parts self.now.open_parts self.now.value) }
         ensures opened { AreOpen self.now.parts self.now.value self.now.open_parts }
     {
         greatest(&self.parts, &self.open_parts, self.incumbent.value)
@@ -88,7 +89,8 @@ impl<'a> Progress<'a> {
     /// A node to split a part at that is looked at.
     pub(crate) fn find_node(&mut self, number: u32) -> Option<Candidate>
         ensures none { IfNone result (HasNoNode self.old.instance.trees self.old.side) }
-        ensures some { IfSome result (λ node. IsSplitNode self.old.instance.trees self.old.side node.bidder node.node) }
+        ensures some { IfSome result
+            (λ node. IsSplitNode self.old.instance.trees self.old.side node.bidder node.node) }
         ensures same { self.new ≡ self.old }
     {
         let value = self.incumbent.value;
@@ -145,8 +147,10 @@ impl<'a> Progress<'a> {
         requires few { length self.old.parts < 1000000 }
         ensures instance { self.new.instance ≡ self.old.instance }
         ensures count { OnOk result (length self.new.parts ≡ length self.old.parts + 2) }
-        ensures unswept { OnOk result (unswept_count self.new.parts ≡ unswept_count self.old.parts + 2) }
-        ensures open_parts { OnOk result (length self.new.open_parts ≤ length self.old.open_parts + 1) }
+        ensures unswept { OnOk result (unswept_count self.new.parts
+            ≡ unswept_count self.old.parts + 2) }
+        ensures open_parts { OnOk result
+            (length self.new.open_parts ≤ length self.old.open_parts + 1) }
     {
         self.parts.reserve(2)?;
         self.hints.reserve(2)?;

@@ -25,7 +25,8 @@ pub(crate) fn run(
     requires few { length progress.old.parts + 2 * left.old ≤ 200000 }
     ensures instance { progress.new.instance ≡ progress.old.instance }
     ensures left { left.new ≤ left.old }
-    ensures count { OnOk result (length progress.new.parts + 2 * left.new ≡ length progress.old.parts + 2 * left.old) }
+    ensures count { OnOk result (length progress.new.parts + 2 * left.new
+        ≡ length progress.old.parts + 2 * left.old) }
     ensures ended { IfOk result (HasEnded progress.new left.new) }
 {
     let mut has_dived = false;

@@ -23,7 +23,8 @@ pub(crate) struct Bounded {
 fn kept_bound(kept: &Kept) -> Bounded
     requires { IsLive kept.now.trees kept.now.marks }
     ensures multipliers { result.m ≡ kept.now.multipliers }
-    ensures bound { IsBound kept.now.trees kept.now.weights kept.now.multipliers kept.now.marks result.key }
+    ensures bound { IsBound kept.now.trees kept.now.weights kept.now.multipliers kept.now.marks
+        result.key }
 {
     match kept.bound() {
         Bound::AtMost(key) => Bounded {
@@ -69,7 +70,8 @@ impl<'a> Workspace<'a> {
         ensures sets { length incumbent.new.sets ≡ length self.now.instance.trees }
         ensures offered { IsOfferedAt self.now.instance self.now.side incumbent.old incumbent.new }
         ensures closed { HasNoNode self.now.instance.trees self.now.side → (v : ℤ)
-            → IsSweptBound self.now.instance.trees self.now.instance.exact self.now.instance.weights self.now.side v → v ≤ℤ incumbent.new.value }
+            → IsSweptBound self.now.instance.trees self.now.instance.exact self.now.instance.weights
+            self.now.side v → v ≤ℤ incumbent.new.value }
     {
         // They are known to be open, one for each bidder.
         let _sets = self.kept.sets();

@@ -37,7 +37,8 @@ impl<'a> Model for Workspace<'a> {
 
 /// The multipliers that a part is looked at with: its own, and zeros where it has yet to be swept.
 fn multipliers_for(part: &Part) -> Multipliers
-    ensures { (exact : List Bool) → AreMultipliersOf exact part.now.m → AreMultipliersOf exact result }
+    ensures { (exact : List Bool) → AreMultipliersOf exact part.now.m
+        → AreMultipliersOf exact result }
 {
     if part.swept {
         part.m.copy()

@@ -36,10 +36,18 @@ impl Model for Draft {
 // A node is complete: an open node whose last child it is gets closed, and is complete in turn.
 fn complete(maker: &mut TreeMaker, to_come: &mut ArrayVec<u16, 16>) -> Result<(), TreeFault>
     requires { AreKept maker.old.draft.tree maker.old.draft.opened (reverse to_come.old.items) }
-    ensures same { maker.new ≡ record maker.old { draft = record maker.old.draft { opened = maker.new.draft.opened } } }
+    ensures same { maker.new
+        ≡ record maker.old { draft = record maker.old.draft { opened = maker.new.draft.opened } } }
     ensures counted { length to_come.new.items ≡ length maker.new.draft.opened }
-    ensures done { OnOk result (complete (open_nodes maker.old.draft.tree 1 maker.old.draft.opened (reverse to_come.old.items)) ≡ Found (open_nodes maker.old.draft.tree 0 maker.new.draft.opened (reverse to_come.new.items))) }
-    ensures refused { IfErr result (λ fault. complete (open_nodes maker.old.draft.tree 1 maker.old.draft.opened (reverse to_come.old.items)) ≡ Refused (of_maker (tree_fault_number fault))) }
+    ensures done { OnOk result
+        (complete (open_nodes maker.old.draft.tree 1 maker.old.draft.opened
+        (reverse to_come.old.items))
+        ≡ Found (open_nodes maker.old.draft.tree 0 maker.new.draft.opened
+        (reverse to_come.new.items))) }
+    ensures refused { IfErr result
+        (λ fault.
+        complete (open_nodes maker.old.draft.tree 1 maker.old.draft.opened
+        (reverse to_come.old.items)) ≡ Refused (of_maker (tree_fault_number fault))) }
 {
     while !to_come.is_empty() {
         let innermost = to_come.len() - 1;
@@ -59,7 +67,10 @@ impl Draft {
     pub(crate) fn new(goods: u8, name: Name, own: ArrayVec<u32, 32>) -> Draft
         requires some { 0 < goods }
         requires few { goods ≤ 32 }
-        ensures { result ≡ record { goods = goods; draft = record { bidder = record { name = name; own = own.items; tree = []; bounds = no_bounds }; opened = [] } } }
+        ensures { result
+            ≡ record { goods = goods; draft = record
+            { bidder = record { name = name; own = own.items; tree = []; bounds = no_bounds };
+            opened = [] } } }
     {
         Draft {
             name,
@@ -73,8 +84,10 @@ impl Draft {
     pub(crate) fn leaf(&mut self, kind: NodeKind, lo: i64, hi: i64) -> Result<(), TreeFault>
         requires going { IsDrafting self.old }
         requires leaf { IsLeaf kind }
-        ensures taken { OnOk result ((self.old.goods ≡ self.new.goods) × (draft_after self.old kind 0 lo hi ≡ Found self.new.draft)) }
-        ensures refused { IfErr result (λ fault. draft_after self.old kind 0 lo hi ≡ Refused (of_maker (tree_fault_number fault))) }
+        ensures taken { OnOk result ((self.old.goods ≡ self.new.goods)
+            × (draft_after self.old kind 0 lo hi ≡ Found self.new.draft)) }
+        ensures refused { IfErr result (λ fault. draft_after self.old kind 0 lo hi
+            ≡ Refused (of_maker (tree_fault_number fault))) }
     {
         self.maker.leaf(kind, lo, hi)?;
         complete(&mut self.maker, &mut self.to_come)
@@ -90,8 +103,12 @@ impl Draft {
         hi: i64,
     ) -> Result<(), TreeFault>
         requires { IsDrafting self.old }
-        ensures taken { OnOk result ((self.old.goods ≡ self.new.goods) × (draft_after self.old (NodeKind.Choose least most) children lo hi ≡ Found self.new.draft)) }
-        ensures refused { IfErr result (λ fault. draft_after self.old (NodeKind.Choose least most) children lo hi ≡ Refused (of_maker (tree_fault_number fault))) }
+        ensures taken { OnOk result ((self.old.goods ≡ self.new.goods)
+            × (draft_after self.old (NodeKind.Choose least most) children lo hi
+            ≡ Found self.new.draft)) }
+        ensures refused { IfErr result
+            (λ fault. draft_after self.old (NodeKind.Choose least most) children lo hi
+            ≡ Refused (of_maker (tree_fault_number fault))) }
     {
         self.maker.open_choose(least, most, lo, hi)?;
         self.to_come.push(children);
@@ -110,8 +127,10 @@ impl Draft {
         hi: i64,
     ) -> Result<(), TreeFault>
         requires { IsDrafting self.old }
-        ensures taken { OnOk result ((self.old.goods ≡ self.new.goods) × (draft_after self.old kind children lo hi ≡ Found self.new.draft)) }
-        ensures refused { IfErr result (λ fault. draft_after self.old kind children lo hi ≡ Refused (of_maker (tree_fault_number fault))) }
+        ensures taken { OnOk result ((self.old.goods ≡ self.new.goods)
+            × (draft_after self.old kind children lo hi ≡ Found self.new.draft)) }
+        ensures refused { IfErr result (λ fault. draft_after self.old kind children lo hi
+            ≡ Refused (of_maker (tree_fault_number fault))) }
     {
         match kind {
             NodeKind::Choose { least, most } => self.choose(least, most, children, lo, hi),
@@ -130,7 +149,8 @@ impl Draft {
     pub(crate) fn finish(self) -> (Name, ArrayVec<u32, 32>, Tree, Bounds)
         requires closed { self.draft.opened ≡ [] }
         requires some { 0 < length self.draft.bidder.tree }
-        ensures bidder { self.draft.bidder ≡ record { name = result.0; own = result.1.items; tree = result.2; bounds = result.3 } }
+        ensures bidder { self.draft.bidder
+            ≡ record { name = result.0; own = result.1.items; tree = result.2; bounds = result.3 } }
         ensures tree { IsLimitedTree self.goods result.2 }
         ensures bounds { AreBounds (length result.2) result.3 }
     {

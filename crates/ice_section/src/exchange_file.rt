@@ -56,7 +56,9 @@ impl ExchangeFile {
         requires numbered { IsNumbered self.old.reached }
         ensures begun { OnOk result (IsBegun (suc lines) (so_far self.new) self.new.section) }
         ensures numbered { OnOk result (IsNumbered self.new.reached) }
-        ensures taken { OnOk result ((rest : List Record) → exchange_after lines (so_far self.old) (record_of next.now ∷ rest) ≡ exchange_after (suc lines) (so_far self.new) rest) }
+        ensures taken { OnOk result ((rest : List Record)
+            → exchange_after lines (so_far self.old) (record_of next.now ∷ rest)
+            ≡ exchange_after (suc lines) (so_far self.new) rest) }
     {
         let line = lines + 1;
         match self.reached {
@@ -95,7 +97,8 @@ impl ExchangeFile {
     fn finish(self, lines: u64) -> Result<Exchange, LineFileFault>
         requires few { lines < 2 ^ 63 }
         requires numbered { IsNumbered self.reached }
-        ensures exchange { IfOk result (λ exchange. exchange_after lines (so_far self) [] ≡ Found exchange) }
+        ensures exchange { IfOk result (λ exchange. exchange_after lines (so_far self) []
+            ≡ Found exchange) }
         ensures fault { IfErr result (IsFaultOf (exchange_after lines (so_far self) [])) }
     {
         let ExchangeFile { reached, section } = self;

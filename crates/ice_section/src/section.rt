@@ -43,8 +43,10 @@ impl Model for Section {
 }
 
 fn add_good(maker: &mut ExchangeMaker, name: &Name, exact: bool) -> Result<(), SectionFault>
-    ensures made { OnOk result ((good_refusal maker.old.goods maker.old.bidders name.now ≡ None) × (maker.new ≡ with_good maker.old (record { name = name.now; exact = exact }))) }
-    ensures refused { IfErr result (IsMakerRefusal (good_refusal maker.old.goods maker.old.bidders name.now)) }
+    ensures made { OnOk result ((good_refusal maker.old.goods maker.old.bidders name.now ≡ None)
+        × (maker.new ≡ with_good maker.old (record { name = name.now; exact = exact }))) }
+    ensures refused { IfErr result
+        (IsMakerRefusal (good_refusal maker.old.goods maker.old.bidders name.now)) }
     ensures unchanged { OnErr result (maker.new ≡ maker.old) }
     ensures name { IsName name.now }
 {
@@ -65,8 +67,12 @@ fn add_bidder(maker: &mut ExchangeMaker, draft: Draft) -> Result<(), SectionFaul
     requires some { 0 < length draft.draft.bidder.tree }
     requires count { length draft.draft.bidder.own ≡ length maker.old.goods }
     requires own { AllByRecursion (λ amount. amount ≤ 1000000) draft.draft.bidder.own }
-    ensures made { OnOk result ((bidder_refusal (length maker.old.goods) maker.old.bidders draft.draft.bidder ≡ None) × (maker.new ≡ with_bidder maker.old draft.draft.bidder)) }
-    ensures refused { IfErr result (IsMakerRefusal (bidder_refusal (length maker.old.goods) maker.old.bidders draft.draft.bidder)) }
+    ensures made { OnOk result
+        ((bidder_refusal (length maker.old.goods) maker.old.bidders draft.draft.bidder ≡ None)
+        × (maker.new ≡ with_bidder maker.old draft.draft.bidder)) }
+    ensures refused { IfErr result
+        (IsMakerRefusal (bidder_refusal (length maker.old.goods) maker.old.bidders
+        draft.draft.bidder)) }
     ensures unchanged { OnErr result (maker.new ≡ maker.old) }
 {
     let (name, own, tree, bounds) = draft.finish();
@@ -142,8 +148,10 @@ impl Section {
     }
 
     fn take_good(&mut self, name: &Name, exact: bool) -> Result<(), SectionFault>
-        ensures taken { OnOk result (take_good self.old (record { name = name.now; exact = exact }) ≡ Found self.new) }
-        ensures refused { IfErr result (IsRefusal (take_good self.old (record { name = name.now; exact = exact }))) }
+        ensures taken { OnOk result (take_good self.old (record { name = name.now; exact = exact })
+            ≡ Found self.new) }
+        ensures refused { IfErr result
+            (IsRefusal (take_good self.old (record { name = name.now; exact = exact }))) }
     {
         let Some(maker) = &mut self.maker else {
             return Err(SectionFault::Order);

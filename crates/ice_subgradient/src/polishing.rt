@@ -114,7 +114,8 @@ fn go_on(kept: &mut Kept<'_>, incumbent: &mut Incumbent, least: &mut Evaluated, 
     requires sets { length incumbent.old.sets ≡ length kept.old.trees }
     ensures side { IsSameSide kept.old kept.new }
     ensures polished { (start : Standing) (before : Incumbent) → IsSameSide start kept.old
-        → IsPolished start before incumbent.old least.old → IsPolished start before incumbent.new least.new }
+        → IsPolished start before incumbent.old least.old
+        → IsPolished start before incumbent.new least.new }
     ensures sets { length incumbent.new.sets ≡ length kept.new.trees }
 {
     let m = multipliers_of(kept, numbers);

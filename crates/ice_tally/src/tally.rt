@@ -70,7 +70,8 @@ impl Tally {
         requires den { 0 < den }
         requires violation { unsigned_abs violation < 2 ^ 127 }
         ensures yes { (rows : List Row) → let t = trade.now in IsTallyOf t rows self.now
-            → IsTrue result → PassesAccuracy t.trees t.weights t.sets t.goods t.cap prices.now violation
+            → IsTrue result → PassesAccuracy t.trees t.weights t.sets t.goods t.cap prices.now
+            violation
             (record { den = den; rows = rows }) }
         ensures no { (rows : List Row) → let t = trade.now in IsTallyOf t rows self.now
             → PassesAccuracy t.trees t.weights t.sets t.goods t.cap prices.now violation

@@ -91,8 +91,10 @@ impl Bidders {
     /// What a bidder owns of a good.
     pub(crate) fn owns(&self, bidder: u8, good: u8) -> u32
         requires bidder { bidder < length self.now }
-        requires good { good < length (slice_index_or (map (λ bidder. bidder.own) self.now) bidder []) }
-        ensures { result ≡ slice_index (slice_index_or (map (λ bidder. bidder.own) self.now) bidder [])
+        requires good { good < length
+            (slice_index_or (map (λ bidder. bidder.own) self.now) bidder []) }
+        ensures { result
+            ≡ slice_index (slice_index_or (map (λ bidder. bidder.own) self.now) bidder [])
             good }
     {
         self.owned[bidder as usize].get(good)

@@ -158,7 +158,8 @@ impl Exchange {
         requires count { length sets.now ≡ length self.now.bidders }
         requires satisfied { (b : ℕ) → b < length self.now.bidders
             → IsSatisfied (tree_of (trees_of self.now) b) (set_of sets.now b) }
-        ensures feasible { IsOk result ↔ IsFeasible (trees_of self.now) (exact_of self.now) sets.now }
+        ensures feasible { IsOk result
+            ↔ IsFeasible (trees_of self.now) (exact_of self.now) sets.now }
         ensures excess { IfErr result (λ fault. IsExcess (exact_of self.now)
             (total_units (trees_of self.now) sets.now) fault.good fault.excess) }
     {

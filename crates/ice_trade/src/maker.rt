@@ -171,7 +171,8 @@ impl ExchangeMaker {
         ensures made { IfOk result (λ made. made ≡ name.now) }
         ensures refused { RefusedBy result (bidder_refusal (length self.now.goods) self.now.bidders
             (record { name = name.now; own = own.now; tree = tree.now; bounds = no_bounds })) }
-        ensures sale { IfErr result (λ fault. TellsSale fault (length self.now.goods) tree.now own.now) }
+        ensures sale { IfErr result
+            (λ fault. TellsSale fault (length self.now.goods) tree.now own.now) }
     {
         let Some(name) = Name::new(name) else {
             return Err(MakeFault::BadName);
@@ -209,7 +210,8 @@ impl ExchangeMaker {
             (record { name = name.now; own = own.now; tree = tree; bounds = bounds }))) }
         ensures refused { RefusedBy result (bidder_refusal (length self.old.goods) self.old.bidders
             (record { name = name.now; own = own.now; tree = tree; bounds = bounds })) }
-        ensures sale { IfErr result (λ fault. TellsSale fault (length self.old.goods) tree own.now) }
+        ensures sale { IfErr result
+            (λ fault. TellsSale fault (length self.old.goods) tree own.now) }
         ensures unchanged { OnErr result (self.new ≡ self.old) }
     {
         let name = self.check_bidder(name, own, &tree)?;

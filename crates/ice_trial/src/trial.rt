@@ -67,7 +67,8 @@ fn hold_round(
     opening: Opening,
     truths: &[Bounds],
 ) -> Result<(Ready, TruthRound), AllocError>
-    requires { (s : SessionAt) × IsRunning [] s × IsOpening s round opening × AreTruths s.bounds truths.now }
+    requires { (s : SessionAt) × IsRunning [] s × IsOpening s round opening
+        × AreTruths s.bounds truths.now }
     ensures { IfOk result (λ two. IsTold two.0 two.1
         × (two.0.exchange ≡ round.exchange) × (two.0.bounds ≡ truths.now)) }
 {

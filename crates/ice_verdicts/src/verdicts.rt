@@ -40,7 +40,8 @@ fn improve_of(exchange: &Exchange) -> i64
 
 /// Whether there is one lower and one upper value for each node.
 fn count_nodes(tree: &Tree, lo: &[i64], hi: &[i64]) -> bool
-    ensures { (name : List ℕ) → result ≡ has_tree_length tree.now (submission_of name lo.now hi.now) }
+    ensures { (name : List ℕ) → result
+        ≡ has_tree_length tree.now (submission_of name lo.now hi.now) }
 {
     let nodes = tree.nodes() as usize;
     lo.len() == nodes && hi.len() == nodes
@@ -55,8 +56,10 @@ impl Judge {
         requires hi_nodes { length hi.now ≡ length (tree_of (trees_of exchange.now) bidder) }
         requires lo_values { IsTrue (list_all is_value lo.now) }
         requires hi_values { IsTrue (list_all is_value hi.now) }
-        ensures { (name : List ℕ) → IsJudged (tree_of (trees_of exchange.now) bidder) self.now.prices
-            exchange.now.settings.improve (set_of self.now.sets bidder) (bounds_of self.now.bounds bidder)
+        ensures { (name : List ℕ)
+            → IsJudged (tree_of (trees_of exchange.now) bidder) self.now.prices
+            exchange.now.settings.improve (set_of self.now.sets bidder)
+            (bounds_of self.now.bounds bidder)
             (stated_bounds (submission_of name lo.now hi.now)) result }
     {
         let at = Standing {
@@ -91,7 +94,8 @@ impl Judge {
     fn take(&mut self, exchange: &Exchange, bidder: u8, lo: &[i64], hi: &[i64])
         requires round { IsRoundOf exchange.now self.old }
         requires bidder { bidder < length exchange.now.bidders }
-        requires fits { bounds_refusal (length (tree_of (trees_of exchange.now) bidder)) lo.now hi.now
+        requires fits { bounds_refusal (length (tree_of (trees_of exchange.now) bidder)) lo.now
+            hi.now
             ≡ None }
         ensures taken { (name : List ℕ) → self.new ≡ with_taken self.old (Some bidder)
             (submission_of name lo.now hi.now) }
@@ -138,10 +142,12 @@ impl Judge {
         requires round { IsRoundOf exchange.now self.old }
         requires lo_values { IsTrue (list_all is_value lo.now) }
         requires hi_values { IsTrue (list_all is_value hi.now) }
-        ensures verdict { IsVerdictIn exchange.now self.old (submission_of name.now lo.now hi.now) result }
+        ensures verdict { IsVerdictIn exchange.now self.old (submission_of name.now lo.now hi.now)
+            result }
         ensures next { (judged : List Judged) → IsAfter exchange.now judged self.old
             → IsNextVerdict self.old.prices exchange.now.settings.improve
-            (bidders_in exchange.now self.old) judged (submission_of name.now lo.now hi.now) result }
+            (bidders_in exchange.now self.old) judged (submission_of name.now lo.now hi.now)
+            result }
         ensures changed { self.new ≡ round_after exchange.now self.old (record {
           submission = submission_of name.now lo.now hi.now;
           verdict = result;

@@ -31,7 +31,8 @@ fn put_found_final<K: Sink>(
     best: &Option<Found>,
     out: &mut K,
 ) -> Result<(), SinkFault>
-    requires { IfSome best.now (λ best. IsWritable (length (exact_of exchange.now)) (proved_found best)) }
+    requires { IfSome best.now
+        (λ best. IsWritable (length (exact_of exchange.now)) (proved_found best)) }
     ensures { IsPut (bytes_of (found_final exchange.now best.now)) result
         (K.written out.old) (K.written out.new) (K.faults out.old) (K.faults out.new) }
 {
@@ -63,7 +64,8 @@ fn put_found_provisional<K: Sink>(
     provisional: &Option<Found>,
     out: &mut K,
 ) -> Result<(), SinkFault>
-    requires { IfSome provisional.now (λ p. IsWritable (length (exact_of exchange.now)) (proved_found p)) }
+    requires { IfSome provisional.now
+        (λ p. IsWritable (length (exact_of exchange.now)) (proved_found p)) }
     ensures { IsPut (bytes_of (found_provisional exchange.now provisional.now)) result
         (K.written out.old) (K.written out.new) (K.faults out.old) (K.faults out.new) }
 {
@@ -112,7 +114,8 @@ fn kind_of(kind: ice_price::LimitKind) -> LimitKind
 /// Puts the stage and the limit, with the violation and its denominator.
 fn put_stage<K: Sink>(limit: &PriceLimit, out: &mut K) -> Result<(), SinkFault>
     requires { IsWritableLimit limit.now }
-    ensures { IsPut (bytes_of (line.limit (price.stage_of limit.now.stage) (price.limit_of limit.now.kind)
+    ensures { IsPut
+        (bytes_of (line.limit (price.stage_of limit.now.stage) (price.limit_of limit.now.kind)
         limit.now.delta limit.now.den ∷ [])) result
         (K.written out.old) (K.written out.new) (K.faults out.old) (K.faults out.new) }
 {

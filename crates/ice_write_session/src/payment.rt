@@ -23,7 +23,9 @@ use ice_write::put_record;
 /// Puts the cut and the surplus.
 fn put_threshold<K: Sink>(closing: &Closing, out: &mut K) -> Result<(), SinkFault>
     requires { IsWritableClosing closing.now }
-    ensures { IsPut (bytes_of (line.threshold closing.now.payments.cut closing.now.payments.surplus ∷ [])) result
+    ensures { IsPut
+        (bytes_of (line.threshold closing.now.payments.cut closing.now.payments.surplus ∷ []))
+        result
         (K.written out.old) (K.written out.new) (K.faults out.old) (K.faults out.new) }
 {
     let line = Line::Threshold {
@@ -75,7 +77,8 @@ fn payment_line(closing: &Closing, bidder: u8) -> Line
 /// Puts what each bidder pays, in order.
 fn put_payments<K: Sink>(closing: &Closing, out: &mut K) -> Result<(), SinkFault>
     requires { IsWritableClosing closing.now }
-    ensures { IsPut (bytes_of (map payment_record (closed_of closing.now.exchange closing.now).payments)) result
+    ensures { IsPut
+        (bytes_of (map payment_record (closed_of closing.now.exchange closing.now).payments)) result
         (K.written out.old) (K.written out.new) (K.faults out.old) (K.faults out.new) }
 {
     for bidder in 0..closing.exchange.bidders() {

@@ -70,7 +70,8 @@ fn den_of(certificate: &Certificate) -> u64
 fn put_violation<K: Sink>(pricing: &Pricing, out: &mut K) -> Result<(), SinkFault>
     requires violation { IsViolationField pricing.now.delta }
     requires den { IsDen pricing.now.accuracy.den }
-    ensures { IsPut (bytes_of (line.accuracy pricing.now.delta pricing.now.accuracy.den ∷ [])) result
+    ensures { IsPut (bytes_of (line.accuracy pricing.now.delta pricing.now.accuracy.den ∷ []))
+        result
         (K.written out.old) (K.written out.new) (K.faults out.old) (K.faults out.new) }
 {
     let line = Line::Accuracy {
@@ -109,7 +110,8 @@ pub(crate) fn put_accuracy<K: Sink>(pricing: &Pricing, out: &mut K) -> Result<()
 /// Puts the certificate of the greatest price.
 pub(crate) fn put_balance<K: Sink>(balance: &Certificate, out: &mut K) -> Result<(), SinkFault>
     requires { IsWritableCertificate balance.now }
-    ensures { IsPut (bytes_of (line.balance balance.now.den ∷ map row_record balance.now.rows)) result
+    ensures { IsPut (bytes_of (line.balance balance.now.den ∷ map row_record balance.now.rows))
+        result
         (K.written out.old) (K.written out.new) (K.faults out.old) (K.faults out.new) }
 {
     put_balance_den(balance, out)?;

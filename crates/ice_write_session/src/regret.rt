@@ -33,7 +33,9 @@ pub fn put_regret<K: Sink>(
     out: &mut K,
 ) -> Result<(), SinkFault>
     requires { IsWritableRegret (length (exact_of exchange.now)) regret.now }
-    ensures { IsPut (bytes_of (rival_records exchange.now regret.now ++ line.regret regret.now.amount ∷ [])) result
+    ensures { IsPut
+        (bytes_of (rival_records exchange.now regret.now ++ line.regret regret.now.amount ∷ []))
+        result
         (K.written out.old) (K.written out.new) (K.faults out.old) (K.faults out.new) }
 {
     put_rival(exchange, regret, out)?;
@@ -51,7 +53,8 @@ pub(crate) fn put_settlement<K: Sink>(
     requires number { number ≤ 20 }
     requires written { IsWritableSettlement (length (exact_of exchange.now))
         (settlement_of best.now regret.now) }
-    ensures { IsPut (bytes_of (line.settle number ∷ regret_records exchange.now best.now regret.now)) result
+    ensures { IsPut
+        (bytes_of (line.settle number ∷ regret_records exchange.now best.now regret.now)) result
         (K.written out.old) (K.written out.new) (K.faults out.old) (K.faults out.new) }
 {
     put_settle(number, out)?;

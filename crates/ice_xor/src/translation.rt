@@ -21,7 +21,8 @@ fn add_bidder(exchange: &mut ExchangeMaker, bidder: &FlatBidder) -> Result<(), M
     requires lawful { IsFlatBidder (length exchange.old.goods) bidder.now }
     ensures made { OnOk result (exchange.new
         ≡ with_bidder exchange.old (translated_bidder bidder.now)) }
-    ensures refused { IsRefusedBy result (or_later (tree_refusal (length exchange.old.goods) bidder.now)
+    ensures refused { IsRefusedBy result
+        (or_later (tree_refusal (length exchange.old.goods) bidder.now)
         (bidder_refusal (length exchange.old.goods) exchange.old.bidders
         (translated_bidder bidder.now))) }
 {

@@ -63,7 +63,8 @@ fn take_units(
         → units_one (good_names exchange.now) path units.old.items name.now (view value.now)
         ≡ Ok units.new.items) }
     ensures refused { IfErr result (λ fault. IsFaultOrMemory fault
-        (λ path. units_one (good_names exchange.now) path units.old.items name.now (view value.now))) }
+        (λ path. units_one (good_names exchange.now) path units.old.items name.now
+        (view value.now))) }
     ensures short { IfErr result (λ fault. length fault.place ≤ 33) }
 {
     let Some(good) = exchange.find_good(name) else {
