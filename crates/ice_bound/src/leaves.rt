@@ -1,5 +1,5 @@
 //! The leaves of a tree, good by good.
-ghost use Rattle.std.specs.Prelude.{◌≡◌, ◌+◌, ◌<◌, ◌≤◌, length, slice_index, slice_set, true, false, IsTrue, IfOk, ℕ};
+ghost use Rattle.std.specs.Prelude.{◌≡◌, ◌+◌, ◌<◌, length, slice_index, slice_set, true, IfOk, ℕ};
 ghost use Rattle.ice_defs.specs.Lawful.{IsLimitedKind};
 ghost use Rattle.ice_defs.specs.Tree.{Tree as Nodes, kind_of};
 ghost use Rattle.ice_bound.specs.Leaves.{is_leaf_of, IsNextLeaf, AreLeavesOf, AreLeaves};

@@ -1,6 +1,6 @@
 //! The amounts of a charge in whole numbers.
-ghost use Rattle.std.specs.Prelude.{◌≡◌, ◌≤◌, ◌*◌, ◌^◌, ◌↔◌, ℕ, IsTrue, false, pos, ◌-ℤ◌, ◌*ℤ◌, ◌≤ℤ◌, length, unsigned_abs};
-ghost use Rattle.ice_defs.specs.Fraction.{Fraction, whole, AtMost, Equals};
+ghost use Rattle.std.specs.Prelude.{◌≡◌, ◌≤◌, ◌*◌, ◌^◌, ◌↔◌, IsTrue, false, pos, ◌-ℤ◌, ◌*ℤ◌, ◌≤ℤ◌, length, unsigned_abs};
+ghost use Rattle.ice_defs.specs.Fraction.{whole, AtMost, Equals};
 ghost use Rattle.ice_defs.specs.Sum.{sum_over};
 ghost use Rattle.ice_journal.specs.Lines.{fraction_of};
 ghost use Rattle.ice_threshold.specs.CutOff.{cut_num};

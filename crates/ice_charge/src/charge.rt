@@ -1,6 +1,6 @@
 //! The cut and the surplus of a session that closes.
 ghost use Rattle.std.specs.Prelude.{◌≡◌, ◌<◌, pos};
-ghost use Rattle.ice_defs.specs.Fraction.{Fraction, whole};
+ghost use Rattle.ice_defs.specs.Fraction.{whole};
 ghost use Rattle.ice_frac.specs.Lowest.{IsLowest};
 ghost use Rattle.ice_journal.specs.Lines.{fraction_of};
 ghost use Rattle.ice_journal.specs.Ranges.{IsFractionField};

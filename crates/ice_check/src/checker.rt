@@ -1,5 +1,5 @@
 //! The checker, which takes one record at a time.
-ghost use Rattle.std.specs.Prelude.{◌≡◌, ◌<◌, ◌^◌, suc, length, IsTrue, IfOk, IfSome, OnOk, OnErr, IsOk, IsOkAnd};
+ghost use Rattle.std.specs.Prelude.{◌≡◌, ◌<◌, ◌^◌, suc, length, IsTrue, IfSome, OnOk, OnErr, IsOk, IsOkAnd};
 ghost use Rattle.ice_journal.specs.Lines.{record_of};
 ghost use Rattle.ice_journal.specs.Ranges.{IsRecord};
 ghost use Rattle.ice_journal_laws.specs.Progress.{Progress, nothing, out_of_memory, is_ready};

@@ -9,7 +9,6 @@ ghost use Rattle.ice_journal_laws.specs.State as tests;
 ghost use Rattle.ice_journal_laws.specs.State.{at_sets};
 ghost use Rattle.ice_journal_laws.specs.Tests.{HasLeftOut};
 ghost use Rattle.ice_check.specs.Stating.{SatisfiesNext};
-ghost use Rattle.ice_check.specs.Heads.{HasLog};
 ghost use Rattle.ice_check.specs.Groups.{at_hand, weights_for, AreKept, IsGroupAt, HasOpen, IsReady};
 ghost use Rattle.ice_check.specs.Openings.{CanOpen};
 ghost use Rattle.ice_check.specs.Taking.{behind_regret, behind_without, Begins, Takes, TakesOrFails, as_faults, HasOpened, LogFollows, Closes, HasKeptFinal, LeavesGroup, LeavesStep, AnswersHere, IsAnswer};

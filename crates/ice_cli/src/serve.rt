@@ -1,5 +1,5 @@
 //! The top call: it answers the words of the program.
-ghost use Rattle.std.specs.Prelude.{◌≡◌, ℕ, List, map, string_bytes};
+ghost use Rattle.std.specs.Prelude.{ℕ, List, map, string_bytes};
 ghost use Rattle.ice_edge.specs.Edge.{Appends};
 ghost use Rattle.ice_cli.specs.Output.{words_line};
 ghost use Rattle.ice_cli.specs.Keeping.{KeepsTold};

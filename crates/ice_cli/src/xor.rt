@@ -1,13 +1,11 @@
 //! `xor`: the exchange that flat bids say.
-ghost use Rattle.std.specs.Prelude.{◌≡◌, ◌++◌, ◌∷◌, [], ℕ, List, IfOk, IfErr, OnOk, Ok as Read};
+ghost use Rattle.std.specs.Prelude.{◌≡◌, ◌++◌, ◌∷◌, [], ℕ, List, IfOk, IfErr, OnOk};
 ghost use Rattle.ice_read.specs.Written.{exchange_text};
-ghost use Rattle.ice_xor.specs.FlatFile.{flat_of};
-ghost use Rattle.ice_xor.specs.Faults.{maker_fault_number};
 ghost use Rattle.ice_xor.specs.Translating.{translate_refusal};
 ghost use Rattle.ice_cli.specs.Keeping.{KeepsTold};
 ghost use Rattle.ice_cli.specs.Parts.{AreFetched, Serves};
 ghost use Rattle.ice_cli.specs.Refusals.{refusal_status, IsFaultOf, Refuses};
-ghost use Rattle.ice_cli.specs.XorServed.{bidder_fault, IsFlatFault, IsTranslation, IsTranslationOf, XorAnswers};
+ghost use Rattle.ice_cli.specs.XorServed.{IsFlatFault, IsTranslation, IsTranslationOf, XorAnswers};
 ghost use Rattle.ice_cli.specs.XorParts.{IsBidderFault, IsMakerFault};
 
 use crate::files::{FILE_LIMIT, fetch, place_refusal};

@@ -1,5 +1,5 @@
 //! Best sets at prices over long denominators.
-ghost use Rattle.std.specs.Prelude.{◌≡◌, ◌<◌, length, IfSome, IfOk};
+ghost use Rattle.std.specs.Prelude.{◌≡◌, ◌<◌, length, IfOk};
 ghost use Rattle.ice_defs.specs.Set.{IsSmall};
 ghost use Rattle.ice_defs.specs.Trade.{tree_of};
 

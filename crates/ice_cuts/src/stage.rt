@@ -1,5 +1,5 @@
 //! The turns of a stage.
-ghost use Rattle.std.specs.Prelude.{◌≡◌, ◌<◌, length};
+ghost use Rattle.std.specs.Prelude.{◌<◌};
 ghost use Rattle.ice_cuts.specs.Works.{IsMoreWork};
 
 use crate::cut::Cut;

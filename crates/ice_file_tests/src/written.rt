@@ -1,5 +1,5 @@
 //! Exchanges written in JSON.
-ghost use Rattle.std.specs.Prelude.{◌≡◌, IfOk, length};
+ghost use Rattle.std.specs.Prelude.{IfOk, length};
 ghost use Rattle.ice_defs.specs.Lawful.{IsLimitedTree, AreBounds};
 
 use ice_read::write_exchange;

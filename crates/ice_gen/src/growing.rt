@@ -1,5 +1,5 @@
 //! Trees in the making whose nodes have true values.
-ghost use Rattle.std.specs.Prelude.{◌≡◌, ◌<◌, ◌+◌, [], ◌∷◌, length, IsTrue, IsOk, None, false, true};
+ghost use Rattle.std.specs.Prelude.{◌≡◌, ◌<◌, length, IsTrue, None, false, true};
 ghost use Rattle.ice_defs.specs.Making.{is_lawful_kind, is_complete};
 ghost use Rattle.ice_defs.specs.Lawful.{IsLimitedTree, AreBounds};
 ghost use Rattle.ice_tree.specs.Making.{IsLeaf, draft_close_refusal, all_but_first};

@@ -1,5 +1,5 @@
 //! A comparison with all sets at all corners of the bounds, on small trees.
-ghost use Rattle.std.specs.Prelude.{◌<◌, ◌≤◌, ◌≡◌, length};
+ghost use Rattle.std.specs.Prelude.{◌<◌, ◌≤◌};
 
 use crate::rules::{set_of, verdict};
 use ice_rules::{Scratch, Standing, Verdict, improvement, loss, mrpar};

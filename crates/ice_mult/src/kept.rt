@@ -1,7 +1,6 @@
 //! Sweeps over bounds that are kept. Where the guess of a multiplier is right, few trees are looked at.
 ghost use Rattle.std.specs.Prelude.{◌≡◌, ◌<◌, ◌≤◌, ◌^◌, ℤ, pos, ◌+ℤ◌, length, false, IsTrue, IfSome};
 ghost use Rattle.ice_defs.specs.Bound.{IsNetSum};
-ghost use Rattle.ice_defs.specs.Log.{IsMultiplier};
 ghost use Rattle.ice_defs.specs.Sweep.{IsLive, SweepsBelow, Sweeps};
 ghost use Rattle.ice_defs.specs.Trade.{is_exact};
 ghost use Rattle.ice_bound.specs.Conditions.{AreWeightsOf};

@@ -1,8 +1,7 @@
 //! Fractions over one denominator.
-ghost use Rattle.std.specs.Prelude.{ℕ, ◌≡◌, ◌<◌, ◌≤◌, ◌+◌, ◌*◌, ◌^◌, length, map, IfSome, IfNone, pos, ◌≤ℤ◌};
+ghost use Rattle.std.specs.Prelude.{◌≡◌, ◌<◌, ◌≤◌, ◌*◌, ◌^◌, length, map, IfSome, IfNone, pos, ◌≤ℤ◌};
 ghost use Rattle.std.specs.List.{AllByRecursion};
 ghost use Rattle.ice_defs.specs.Fraction.{IsFraction};
-ghost use Rattle.ice_defs.specs.Prices.{price_of};
 ghost use Rattle.ice_defs.specs.PricingRun.{lcm, common_den, num_over};
 ghost use Rattle.ice_frac.specs.Lowest.{IsLowest};
 

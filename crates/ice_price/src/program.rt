@@ -1,10 +1,9 @@
 //! The program of a stage over a pool.
-ghost use Rattle.std.specs.Prelude.{ℕ, suc, ◌≡◌, ◌<◌, ◌≤◌, ◌+◌, ◌*◌, ◌^◌, [], ◌∷◌, ◌++◌, length, All, IfOk, OnOk, vec_len, pos, neg_ℤ, ◌≤ℤ◌, ◌*ℤ◌};
+ghost use Rattle.std.specs.Prelude.{◌≡◌, ◌<◌, ◌≤◌, ◌+◌, ◌*◌, ◌^◌, [], ◌∷◌, ◌++◌, length, All, IfOk, OnOk, vec_len, pos, neg_ℤ, ◌≤ℤ◌, ◌*ℤ◌};
 ghost use Rattle.ice_defs.specs.Trade.{tree_of};
 ghost use Rattle.ice_defs.specs.PricingRun.{units_above};
 ghost use Rattle.ice_lp.specs.Limits.{IsNumber};
 ghost use Rattle.ice_pricing_laws.specs.Laws.{AreMembers};
-ghost use Rattle.ice_pricing.specs.Provisional.{IsProvisional};
 ghost use Rattle.ice_price.specs.Programs.{good_row, member_row, program_over};
 
 use crate::ends::PoolMember;

@@ -1,5 +1,5 @@
 //! The bidders' best sets at prices, one after another.
-ghost use Rattle.std.specs.Prelude.{◌≡◌, ◌<◌, ◌*◌, ◌^◌, length, IsTrue, pos, neg_ℤ, ◌≤ℤ◌, unsigned_abs};
+ghost use Rattle.std.specs.Prelude.{◌<◌, ◌^◌, IsTrue, unsigned_abs};
 ghost use Rattle.ice_defs.specs.Fraction.{Below, IsFraction};
 ghost use Rattle.ice_price.specs.Scans.{IsScan};
 

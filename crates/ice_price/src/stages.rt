@@ -1,6 +1,6 @@
 //! Where a pricing run stands, apart from its pool.
-ghost use Rattle.std.specs.Prelude.{suc, replicate, vec_len, All, IfOk, ◌+◌, ◌≡◌, ◌*◌, ◌≤◌, ◌<◌, ◌^◌, length, slice_index_or, pos, neg_ℤ, ◌≤ℤ◌, ℤ, ◌-ℤ◌, ◌*ℤ◌};
-ghost use Rattle.ice_defs.specs.Fraction.{Equals, IsFraction, whole};
+ghost use Rattle.std.specs.Prelude.{suc, replicate, vec_len, All, IfOk, ◌+◌, ◌≡◌, ◌*◌, ◌≤◌, ◌<◌, ◌^◌, pos, neg_ℤ, ◌≤ℤ◌, ℤ, ◌-ℤ◌, ◌*ℤ◌};
+ghost use Rattle.ice_defs.specs.Fraction.{Equals, IsFraction};
 ghost use Rattle.ice_defs.specs.PricingRun.{StageAt as RunStageAt, first_stage, only_at};
 ghost use Rattle.ice_lp.specs.Limits.{IsNumber};
 ghost use Rattle.ice_pricing_laws.specs.Laws.{balance_at};

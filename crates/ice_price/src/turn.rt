@@ -1,5 +1,5 @@
 //! The turns of a stage.
-ghost use Rattle.std.specs.Prelude.{◌≡◌, ◌<◌, ◌≤◌, ◌*◌, ◌^◌, length, drop, IfOk, IfErr, IfSome, IfNone, pos, ◌≤ℤ◌};
+ghost use Rattle.std.specs.Prelude.{◌≡◌, ◌<◌, ◌≤◌, ◌*◌, ◌^◌, length, drop, IfOk, IfErr, IfSome, IfNone};
 ghost use Rattle.ice_defs.specs.PricingRun.{solution_prices};
 ghost use Rattle.ice_defs.specs.Prices.{ArePrices};
 ghost use Rattle.ice_defs.specs.Program.{AreNonNegative};

@@ -1,11 +1,10 @@
 //! The certificate of a stage: its duals as weights of the pool's sets.
-ghost use Rattle.std.specs.Prelude.{ℕ, ◌≡◌, ◌<◌, ◌≤◌, ◌*◌, ◌^◌, length, map, IfOk, IfErr, IfSome, IfNone, pos, ◌≤ℤ◌, ◌<ℤ◌};
+ghost use Rattle.std.specs.Prelude.{◌≡◌, ◌<◌, ◌≤◌, ◌*◌, ◌^◌, length, IfOk, IfErr, IfSome, IfNone, pos, ◌≤ℤ◌};
 ghost use Rattle.std.specs.List.{AllByRecursion};
 ghost use Rattle.ice_defs.specs.Fraction.{IsFraction, AtMost, whole, times};
 ghost use Rattle.ice_defs.specs.Program.{AreNonNegative};
 ghost use Rattle.ice_defs.specs.PricingRun.{common_den, num_over};
 ghost use Rattle.ice_pricing_laws.specs.Weights.{lowest_of, weights_of_duals, rows_with, nums_of};
-ghost use Rattle.ice_pricing.specs.Priced.{IsLimited};
 ghost use Rattle.ice_price.specs.Large.{IsLarge, AreLarge, IsStoppedBy, AreFitting, IsCertificate};
 
 use crate::ends::{LimitKind, PoolMember, Stop};

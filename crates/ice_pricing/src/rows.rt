@@ -1,5 +1,5 @@
 //! The tests of certificates.
-ghost use Rattle.std.specs.Prelude.{◌≡◌, ◌≤◌, ◌<◌, ◌+◌, ◌^◌, length, IsTrue, IfSome, IfNone, unsigned_abs};
+ghost use Rattle.std.specs.Prelude.{◌≤◌, ◌<◌, ◌+◌, ◌^◌, IsTrue, IfSome, IfNone, unsigned_abs};
 ghost use Rattle.std.specs.List.{AllByRecursion};
 ghost use Rattle.ice_defs.specs.Rows.{IsRow, PassesAccuracy, PassesBalance};
 ghost use Rattle.ice_rows.specs.Sums.{AreSums, IsWithRow};

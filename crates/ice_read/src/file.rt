@@ -1,5 +1,5 @@
 //! The value of a file in JSON.
-ghost use Rattle.std.specs.Prelude.{◌≡◌, ◌≢◌, [], Option, Some, None, MatchResult, IfErr};
+ghost use Rattle.std.specs.Prelude.{◌≡◌, ◌≢◌, [], Some, None, MatchResult, IfErr};
 ghost use Rattle.serde_json.specs.View.{view};
 ghost use Rattle.ice_read.specs.Values.{value_of};
 

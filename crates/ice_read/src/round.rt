@@ -1,5 +1,5 @@
 //! Round files: the bids of one round.
-ghost use Rattle.std.specs.Prelude.{◌≡◌, ◌≢◌, ◌+◌, ◌<◌, ◌≤◌, ℕ, [], codes, length, vec_len, MatchResult, IfOk, IfErr};
+ghost use Rattle.std.specs.Prelude.{◌≡◌, ◌≢◌, ◌+◌, ◌<◌, ◌≤◌, [], codes, length, vec_len, MatchResult, IfOk, IfErr};
 ghost use Rattle.serde_json.specs.View.{view, items_view};
 ghost use Rattle.ice_defs.specs.FileFault.{Path};
 ghost use Rattle.ice_bid.specs.Bids.{AreValues};

@@ -1,5 +1,5 @@
 //! Values of a file: of the type that their place asks for, whole, and in range.
-ghost use Rattle.std.specs.Prelude.{◌≡◌, ◌&&◌, int_le, ◌+◌, ◌<◌, ◌≤◌, [], ◌∷◌, ℕ, length, map, codes, MatchResult, IfOk, IfErr, pos, is_some, option_and_then};
+ghost use Rattle.std.specs.Prelude.{◌≡◌, ◌&&◌, int_le, ◌+◌, ◌<◌, ◌≤◌, [], ◌∷◌, length, map, MatchResult, IfOk, IfErr, pos, is_some, option_and_then};
 ghost use Rattle.std.specs.List.{list_all};
 ghost use Rattle.serde_json.specs.Find.{get, as_number, as_integer};
 ghost use Rattle.serde_json.specs.View.{view, items_view, members_view};

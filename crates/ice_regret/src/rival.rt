@@ -1,6 +1,6 @@
 //! The regret of an assignment, by a search at the values that it perturbs.
 ghost use Rattle.std.specs.Prelude.{◌≡◌, ◌+◌, ◌≤◌, IfOk, IfErr};
-ghost use Rattle.ice_defs.specs.Exchange.{trees_of, exact_of, market_of};
+ghost use Rattle.ice_defs.specs.Exchange.{trees_of, exact_of};
 ghost use Rattle.ice_defs.specs.Steps.{branch_count};
 ghost use Rattle.ice_defs.specs.Trade.{IsFeasible};
 ghost use Rattle.ice_bound.specs.Conditions.{AreBoundsOf};

@@ -1,5 +1,5 @@
 //! The lines that say a settlement, each written into an empty writer.
-ghost use Rattle.std.specs.Prelude.{◌≡◌, ◌+◌, ◌*◌, ◌<◌, ◌≤◌, [], ◌∷◌, length};
+ghost use Rattle.std.specs.Prelude.{◌≡◌, ◌+◌, ◌<◌, ◌≤◌, [], ◌∷◌, length};
 ghost use Rattle.std.specs.Fmt.{signed_decimal};
 ghost use Rattle.ice_defs.specs.Lawful.{AreBounds};
 ghost use Rattle.ice_defs.specs.Set.{weight_of};

@@ -1,5 +1,4 @@
 //! A settlement, put into a sink line by line.
-ghost use Rattle.std.specs.Prelude.{◌≡◌};
 ghost use Rattle.ice_edge.specs.Puts.{IsPut};
 ghost use Rattle.ice_journal.specs.Records as line;
 ghost use Rattle.ice_journal.specs.Spelling.{line_of};

@@ -1,5 +1,5 @@
 //! The records of a session that a replay looks at.
-ghost use Rattle.std.specs.Prelude.{◌≡◌, ℕ, ◌↔◌, IsTrue, None, MatchOption};
+ghost use Rattle.std.specs.Prelude.{◌≡◌, ℕ, None, MatchOption};
 ghost use Rattle.ice_journal.specs.Lines.{record_of};
 ghost use Rattle.ice_journal.specs.Records as records;
 ghost use Rattle.ice_journal_laws.specs.Fields.{amount_in, prices_in};

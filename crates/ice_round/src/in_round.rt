@@ -1,7 +1,7 @@
 //! A session in a round.
 ghost use Rattle.std.specs.Prelude.{◌≡◌, ◌∷◌, ◌++◌, [], List};
 ghost use Rattle.ice_defs.specs.Round.{Judged, IsNextVerdict};
-ghost use Rattle.ice_verdicts.specs.Judges.{bidders_in, submission_of, IsVerdictIn, round_after, IsAfter};
+ghost use Rattle.ice_verdicts.specs.Judges.{bidders_in, IsVerdictIn, round_after, IsAfter};
 ghost use Rattle.ice_round.specs.SessionAt.{session_after};
 
 use crate::ready::Ready;

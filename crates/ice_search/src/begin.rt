@@ -1,6 +1,5 @@
 //! The beginning of a search.
-ghost use Rattle.std.specs.Prelude.{◌≡◌, ◌≤◌, length, IfOk};
-ghost use Rattle.ice_defs.specs.Sweep.{IsLive};
+ghost use Rattle.std.specs.Prelude.{◌≡◌, length, IfOk};
 ghost use Rattle.ice_bound.specs.Conditions.{AreMultipliersOf};
 ghost use Rattle.ice_defs.specs.declared.Mark.TheVariants.{Free};
 ghost use Rattle.ice_assembly.specs.Code.{part_of};

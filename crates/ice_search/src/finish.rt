@@ -1,7 +1,6 @@
 //! What a search gives, from its parts.
 ghost use Rattle.std.specs.Prelude.{◌≡◌, ◌+◌, ◌*◌, ◌≤◌, length, IfOk};
 ghost use Rattle.ice_defs.specs.Steps.{branch_count};
-ghost use Rattle.ice_searching.specs.Parts.{part_at};
 ghost use Rattle.ice_searching.specs.Searching.{IsAboveWhole, IsNext};
 ghost use Rattle.ice_search.specs.Nodes.{IsSplitNode};
 ghost use Rattle.ice_search.specs.Results.{IsFoundBy, IsSpentBy};

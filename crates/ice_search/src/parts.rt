@@ -1,5 +1,5 @@
 //! Changes of the parts of a search.
-ghost use Rattle.std.specs.Prelude.{◌↔◌, IsTrue, ◌≡◌, ◌+◌, ◌<◌, ◌≤◌, [], ◌∷◌, ◌++◌, length, slice_set, vec_len, vec_capacity, true, ◌≤ℤ◌, ◌<ℤ◌};
+ghost use Rattle.std.specs.Prelude.{◌↔◌, IsTrue, ◌≡◌, ◌+◌, ◌<◌, ◌≤◌, [], ◌∷◌, ◌++◌, slice_set, vec_len, vec_capacity, true, ◌≤ℤ◌, ◌<ℤ◌};
 ghost use Rattle.ice_defs.specs.declared.Mark.TheVariants.{Must, Never};
 ghost use Rattle.ice_searching.specs.Parts.{part_at, split_at};
 ghost use Rattle.ice_assembly.specs.Code.{part_of, parts_of};

@@ -1,7 +1,7 @@
 //! A search as it goes on.
 ghost use Rattle.std.specs.Prelude.{◌≡◌, ◌+◌, ◌<◌, ◌≤◌, length, slice_index, true, false, IfNone, IfSome, OnOk};
 ghost use Rattle.std.specs.List.{Contains};
-ghost use Rattle.ice_searching.specs.Parts.{part_at, side_at};
+ghost use Rattle.ice_searching.specs.Parts.{part_at};
 ghost use Rattle.ice_searching.specs.Searching.{IsAboveWhole, IsNext, AreOpen};
 ghost use Rattle.ice_searching.specs.Nodes.{HasNoNode};
 ghost use Rattle.ice_search.specs.Nodes.{IsSplitNode};

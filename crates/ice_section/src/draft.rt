@@ -1,5 +1,5 @@
 //! A bidder whose tree is not complete.
-ghost use Rattle.std.specs.Prelude.{◌≡◌, ◌==◌, ◌<◌, ◌≤◌, [], ◌∷◌, length, reverse, Some, OnOk, IfOk, IfErr, Ok as Found, Err as Refused};
+ghost use Rattle.std.specs.Prelude.{◌≡◌, ◌==◌, ◌<◌, ◌≤◌, [], length, reverse, OnOk, IfErr, Ok as Found, Err as Refused};
 ghost use Rattle.ice_defs.specs.Bounds.{no_bounds};
 ghost use Rattle.ice_defs.specs.Lawful.{IsLimitedTree, AreBounds};
 ghost use Rattle.ice_tree.specs.Fault.{tree_fault_number};

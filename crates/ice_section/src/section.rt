@@ -1,7 +1,7 @@
 //! The section of a journal or file that describes its exchange.
-ghost use Rattle.std.specs.Prelude.{◌≡◌, ◌==◌, ◌<◌, ◌≤◌, [], ◌∷◌, ◌++◌, length, IsTrue, IsOk, OnOk, OnErr, IfOk, IfErr, Ok as Found, None};
+ghost use Rattle.std.specs.Prelude.{◌≡◌, ◌==◌, ◌<◌, ◌≤◌, [], length, IsTrue, OnOk, OnErr, IfOk, IfErr, Ok as Found, None};
 ghost use Rattle.ice_defs.specs.Exchange.{AreSettings};
-ghost use Rattle.ice_defs.specs.Lawful.{IsBidder, IsExchange};
+ghost use Rattle.ice_defs.specs.Lawful.{IsExchange};
 ghost use Rattle.ice_defs.specs.Making.{good_refusal, bidder_refusal};
 ghost use Rattle.ice_trade.specs.Parts.{with_good, with_bidder};
 ghost use Rattle.ice_journal.specs.Lines.{record_of};

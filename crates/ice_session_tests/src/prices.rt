@@ -1,5 +1,4 @@
 //! Worked prices, and certificates that pass or fail the tests.
-ghost use Rattle.std.specs.Prelude.{◌≡◌, length};
 
 use crate::markets::{EMPTY_CORE, MAYBE, OPEN_SALE, THREE_PRIMES};
 use crate::taken::{Market, are_satisfied, market_of, with_leaf};

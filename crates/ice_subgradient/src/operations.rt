@@ -1,5 +1,5 @@
 //! A tree under marks as a short list of operations, which work out its greatest net and take the nodes of it.
-ghost use Rattle.std.specs.Prelude.{◌≡◌, ◌<◌, ◌≤◌, length};
+ghost use Rattle.std.specs.Prelude.{◌<◌, ◌≤◌, length};
 
 use crate::openness::{Choice, Open, Openness, mark_of};
 use ice_best::{Fixing, Mark};

@@ -5,7 +5,7 @@ ghost use Rattle.std.specs.Str.{bytes_eq};
 ghost use Rattle.ice_defs.specs.Exchange.{names_of, market_of};
 ghost use Rattle.ice_defs.specs.Market.{owned_amount};
 ghost use Rattle.ice_defs.specs.Lawful.{IsBidder, IsExchange, good_names};
-ghost use Rattle.ice_defs.specs.Making.{good_refusal, bidder_refusal, exchange_refusal, node_count};
+ghost use Rattle.ice_defs.specs.Making.{good_refusal, bidder_refusal, exchange_refusal};
 ghost use Rattle.ice_defs.specs.Bounds.{no_bounds};
 ghost use Rattle.ice_trade.specs.Fault.{RefusedBy, TellsSale};
 ghost use Rattle.ice_trade.specs.Parts.{no_exchange, with_good, with_bidder};

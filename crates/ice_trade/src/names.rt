@@ -1,5 +1,5 @@
 //! Names in the order in which they were added.
-ghost use Rattle.std.specs.Prelude.{◌≡◌, ℕ, ◌+◌, ◌≤◌, ◌<◌, ◌++◌, [], ◌∷◌, false, length, slice_index_or, IfOk, IfSome};
+ghost use Rattle.std.specs.Prelude.{◌≡◌, ◌+◌, ◌≤◌, ◌<◌, ◌++◌, [], ◌∷◌, false, length, slice_index_or, IfOk, IfSome};
 ghost use Rattle.std.specs.List.{position, list_any, IsDistinct};
 ghost use Rattle.std.specs.Str.{bytes_eq};
 
@@ -16,7 +16,7 @@ pub(crate) struct Names {
 }
 
 impl Model for Names {
-    ghost use Rattle.std.specs.Prelude.{◌≤◌, ◌+◌, List, ℕ, length};
+    ghost use Rattle.std.specs.Prelude.{◌≤◌, ◌+◌, length};
     ghost use Rattle.indexmap.specs.IndexSet.{spare};
     ghost use Rattle.ice_trade.specs.Names.{NameList};
 

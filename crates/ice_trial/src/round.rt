@@ -1,5 +1,4 @@
 //! A round in which bids are submitted.
-ghost use Rattle.std.specs.Prelude.{◌≡◌};
 ghost use Rattle.ice_trial.specs.Rounds.{Submits};
 
 use ice_bid::Bid;

@@ -1,5 +1,5 @@
 //! What is known of a round while its submissions come in.
-ghost use Rattle.std.specs.Prelude.{◌≡◌, [], ◌<◌, ◌≤◌, ℕ, IfOk, length, map, replicate, false, pos, slice_index_or, slice_set, true};
+ghost use Rattle.std.specs.Prelude.{◌≡◌, [], ◌<◌, ◌≤◌, ℕ, IfOk, length, map, replicate, false, pos, slice_set, true};
 ghost use Rattle.ice_defs.specs.Exchange.{Exchange, trees_of, opening_bounds};
 ghost use Rattle.ice_defs.specs.Set.{IsSatisfied};
 ghost use Rattle.ice_defs.specs.Trade.{tree_of, set_of};

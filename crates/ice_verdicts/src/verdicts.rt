@@ -8,7 +8,7 @@ ghost use Rattle.ice_defs.specs.Exchange.{trees_of};
 ghost use Rattle.ice_defs.specs.Judging.{IsJudged};
 ghost use Rattle.ice_defs.specs.Round.{Judged, IsNextVerdict, stated_bounds, is_acceptance, has_tree_length};
 ghost use Rattle.ice_tree.specs.Bounds.{bounds_refusal};
-ghost use Rattle.ice_verdicts.specs.Judges.{IsRoundOf, bidders_in, submission_of, bidder_named, with_taken, IsVerdictOf, IsVerdictIn, round_after, IsAfter};
+ghost use Rattle.ice_verdicts.specs.Judges.{IsRoundOf, bidders_in, submission_of, with_taken, IsVerdictOf, IsVerdictIn, round_after, IsAfter};
 
 use crate::judge::Judge;
 use ice_rules::{Scratch, Standing, Verdict, judge};

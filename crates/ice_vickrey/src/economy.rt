@@ -33,7 +33,6 @@ pub(crate) struct Economy<'a> {
 
 impl<'a> Model for Economy<'a> {
     ghost use Rattle.ice_vickrey.specs.Economy as economy;
-    ghost use Rattle.ice_vickrey.specs.Economy.{IsEconomy};
     ghost use Rattle.ice_vickrey.specs.Stored.{IsStored};
 
     ghost Value = { economy.Economy };

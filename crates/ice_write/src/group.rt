@@ -8,7 +8,6 @@ ghost use Rattle.ice_journal.specs.Records.{version_2};
 ghost use Rattle.ice_journal.specs.Ranges.{IsRecord, IsBits, IsStepRecord};
 ghost use Rattle.ice_journal.specs.Plain.{all_zero};
 ghost use Rattle.ice_journal.specs.Journal.{bytes_of};
-ghost use Rattle.ice_journal.specs.Spelling.{line_of};
 ghost use Rattle.ice_journal.specs.Lines.{record_of};
 ghost use Rattle.ice_write.specs.Writable.{AreWritable};
 ghost use Rattle.ice_journal_laws.specs.Fields.{multipliers_after};

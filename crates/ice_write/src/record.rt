@@ -1,5 +1,4 @@
 //! One record.
-ghost use Rattle.std.specs.Prelude.{◌≡◌};
 ghost use Rattle.ice_edge.specs.Puts.{IsPut};
 ghost use Rattle.ice_journal.specs.Ranges.{IsRecord};
 ghost use Rattle.ice_journal.specs.Spelling.{line_of};

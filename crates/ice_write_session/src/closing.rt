@@ -1,5 +1,4 @@
 //! The settlement that closes a session.
-ghost use Rattle.std.specs.Prelude.{◌≡◌, length};
 ghost use Rattle.ice_edge.specs.Puts.{IsPut};
 ghost use Rattle.ice_journal.specs.Journal.{bytes_of};
 ghost use Rattle.ice_write_session.specs.Records.{closing_records};

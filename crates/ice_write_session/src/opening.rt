@@ -1,5 +1,5 @@
 //! A settlement that opens a round.
-ghost use Rattle.std.specs.Prelude.{◌≡◌, [], length};
+ghost use Rattle.std.specs.Prelude.{[], length};
 ghost use Rattle.ice_defs.specs.Exchange.{exact_of};
 ghost use Rattle.ice_edge.specs.Puts.{IsPut};
 ghost use Rattle.ice_journal.specs.Records as line;

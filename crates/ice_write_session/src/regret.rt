@@ -1,5 +1,5 @@
 //! The final sets of a settlement and their regret.
-ghost use Rattle.std.specs.Prelude.{◌≡◌, ◌≤◌, ◌∷◌, ◌++◌, [], length, pos};
+ghost use Rattle.std.specs.Prelude.{◌≤◌, ◌∷◌, ◌++◌, [], length, pos};
 ghost use Rattle.ice_defs.specs.Exchange.{exact_of, IsBetween};
 ghost use Rattle.ice_edge.specs.Puts.{IsPut};
 ghost use Rattle.ice_journal.specs.Records as line;

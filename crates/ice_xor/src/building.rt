@@ -1,11 +1,10 @@
 //! The tree of a bidder's packages.
-ghost use Rattle.std.specs.Prelude.{◌≡◌, ◌<◌, ◌≤◌, ◌∷◌, [], ◌++◌, length, min, if◌then◌else◌, Some, None, OnOk, IfOk, IfErr, MatchResult};
+ghost use Rattle.std.specs.Prelude.{◌≡◌, ◌<◌, ◌≤◌, length, min, if◌then◌else◌, OnOk, IfOk};
 ghost use Rattle.std.specs.List.{AllByRecursion};
 ghost use Rattle.ice_defs.specs.Lawful.{IsLimitedTree, AreBounds};
 ghost use Rattle.ice_tree.specs.Making.{IsLeaf};
-ghost use Rattle.ice_tree.specs.Fault.{tree_fault_number, RefusedBy};
+ghost use Rattle.ice_tree.specs.Fault.{RefusedBy};
 ghost use Rattle.ice_xor.specs.FlatBids.{leaf_kind, flat_tree, flat_bounds};
-ghost use Rattle.ice_xor.specs.Lawful.{IsAmount};
 ghost use Rattle.ice_xor.specs.Translating.{tree_refusal};
 ghost use Rattle.ice_xor.specs.Building.{IsUnderRoot, package_refusal, with_package};
 

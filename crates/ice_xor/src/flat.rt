@@ -1,8 +1,5 @@
 //! An exchange of flat bids.
-ghost use Rattle.std.specs.Prelude.{◌≡◌, ◌<◌, ◌≤◌, [], IfOk, length};
-ghost use Rattle.std.specs.List.{position};
-ghost use Rattle.std.specs.Str.{bytes_eq};
-ghost use Rattle.ice_defs.specs.Lawful.{good_names};
+ghost use Rattle.std.specs.Prelude.{◌≡◌, ◌<◌, length};
 ghost use Rattle.ice_xor.specs.Lawful.{IsFlatExchange};
 
 use crate::bidders::FlatBidder;

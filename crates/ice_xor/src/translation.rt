@@ -1,12 +1,12 @@
 //! Flat bids as an exchange of trees.
-ghost use Rattle.std.specs.Prelude.{◌≡◌, ◌<◌, [], ◌∷◌, ◌++◌, length, None, Some, OnOk, IfOk, IfErr};
+ghost use Rattle.std.specs.Prelude.{◌≡◌, ◌<◌, length, None, OnOk, IfOk, IfErr};
 ghost use Rattle.ice_defs.specs.Making.{bidder_refusal};
 ghost use Rattle.ice_defs.specs.Lawful.{IsExchange};
 ghost use Rattle.ice_trade.specs.Parts.{with_bidder};
 ghost use Rattle.ice_xor.specs.FlatBids.{translated, translated_bidder};
 ghost use Rattle.ice_xor.specs.Lawful.{IsFlatBidder};
 ghost use Rattle.ice_xor.specs.Translating.{tree_refusal, or_later, translate_refusal};
-ghost use Rattle.ice_xor.specs.Faults.{maker_fault_number, IsTranslateFault, IsRefusedBy};
+ghost use Rattle.ice_xor.specs.Faults.{IsTranslateFault, IsRefusedBy};
 
 use crate::bidders::FlatBidder;
 use crate::building::tree_of;
