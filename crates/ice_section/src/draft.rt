@@ -68,9 +68,13 @@ impl Draft {
         requires some { 0 < goods }
         requires few { goods ≤ 32 }
         ensures { result
-            ≡ record { goods = goods; draft = record
-            { bidder = record { name = name; own = own.items; tree = []; bounds = no_bounds };
-            opened = [] } } }
+            ≡ record {
+              goods = goods;
+              draft = record {
+                bidder = record { name = name; own = own.items; tree = []; bounds = no_bounds };
+                opened = [];
+              };
+            } }
     {
         Draft {
             name,
