@@ -12,6 +12,7 @@ mod level;
 mod openness;
 mod operations;
 mod polishing;
+mod profile;
 mod relaxation;
 mod trace;
 mod trial;

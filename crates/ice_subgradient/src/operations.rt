@@ -2,6 +2,7 @@
 ghost use Rattle.std.specs.Prelude.{◌<◌, ◌≤◌, length};
 
 use crate::openness::{Choice, Open, Openness, mark_of};
+use crate::profile::{Line, Profile, Share};
 use ice_best::{Fixing, Mark};
 use ice_tree::{NodeKind, Tree};
 
@@ -387,6 +388,75 @@ impl Operations {
         self.greatest_net()
     }
 
+    /// Whether it is a row, or a choice among rows that takes one of them, or all that add value.
+    pub(crate) fn is_flat(&self) -> bool {
+        let root = self.root();
+        self.count > 0 && self.rows >= self.count.saturating_sub(1) && root.rule != Rule::Several
+    }
+
+    /// What the tree adds as the multiplier of a good moves, where the values stand at 0 of it. Its rows that may be taken and
+    /// have the good are told to the profile.
+    pub(crate) fn share(&self, good: u8, profile: &mut Profile) -> Share {
+        let root = self.root();
+        if root.rule == Rule::Row {
+            let fixed = self.line(self.count.saturating_sub(1), good);
+            return Share::new(fixed, Rule::Bound, !self.is_forced);
+        }
+        let mut share = Share::new(self.fixed_line(root, good), root.rule, !self.is_forced);
+        for place in root.offered..root.end {
+            let number = self.operands[usize::from(place)];
+            if self.goods[usize::from(number)] & bit_of(good) == 0 {
+                share.rest = share.with(share.rest, self.values[usize::from(number)]);
+            } else {
+                profile.add_line(self.line(number, good));
+            }
+        }
+        share
+    }
+
+    /// What an operation and the rows that come along with it add.
+    fn fixed_line(&self, operation: Operation, good: u8) -> Line {
+        let mut fixed = Line {
+            base: operation.weight,
+            units: 0,
+        };
+        for place in operation.first..operation.offered {
+            let line = self.line(self.operands[usize::from(place)], good);
+            fixed.base = fixed.base.wrapping_add(line.base);
+            fixed.units = fixed.units.wrapping_add(line.units);
+        }
+        fixed
+    }
+
+    /// What a row adds as the multiplier of a good moves from 0.
+    fn line(&self, number: u8, good: u8) -> Line {
+        let row = self.list[usize::from(number)];
+        let mut units: i64 = 0;
+        for place in row.first..row.end {
+            let leaf = self.leaves[usize::from(place)];
+            if leaf.good == good {
+                units = units.wrapping_add(i64::from(leaf.units));
+            }
+        }
+        Line {
+            base: self.values[usize::from(number)],
+            units,
+        }
+    }
+
+    /// Works out the rows that have a good once more, and nothing else.
+    pub(crate) fn renew_rows(&mut self, m: &[i64; 32], good: u8) {
+        let rows_of = self.rows_of[usize::from(good % 32)];
+        for part in 0..4_u8 {
+            let mut waiting = rows_of[usize::from(part)];
+            for _row in 0..rows_of[usize::from(part)].count_ones() {
+                let number = part * 64 + (waiting.trailing_zeros() % 64) as u8;
+                waiting &= waiting.wrapping_sub(1);
+                self.values[usize::from(number)] = self.row_value(number, m);
+            }
+        }
+    }
+
     /// Works out an operation once more, and says whether the one above it may change with it.
     fn renew(&mut self, number: u8, m: &[i64; 32]) -> bool {
         let before = self.values[usize::from(number)];
@@ -432,6 +502,11 @@ impl Operations {
         } else {
             0
         }
+    }
+
+    /// The operation of the root.
+    fn root(&self) -> Operation {
+        self.list[usize::from(self.count.saturating_sub(1))]
     }
 
     /// What the root adds.

@@ -4,6 +4,7 @@ ghost use Rattle.ice_bound.specs.Conditions.{AreWeightsOf, AreFixingsOf};
 
 use crate::openness::Openness;
 use crate::operations::{Operations, bit_of};
+use crate::profile::Profile;
 use ice_best::{Fixings, Mark};
 use ice_tree::{AllWeights, Tree};
 use std::alloc::{AllocError, Global};
@@ -162,21 +163,56 @@ impl Relaxation {
         }
     }
 
-    /// The sum of the greatest nets of those trees that may buy or sell the good. Its multiplier alone may be another than
-    /// at the last time.
-    pub(crate) fn part_at(&mut self, m: &[i64; 32], good: u8) -> i128
+    /// Makes the profile that of a good. Its multiplier is 0, and the rows of the trees stand at these multipliers.
+    pub(crate) fn fill_profile(&mut self, profile: &mut Profile, m: &[i64; 32], good: u8)
+        ensures { self.new ≡ self.old }
+    {
+        profile.clear();
+        let mut holders = self.holders[usize::from(good % 32)];
+        for _tree in 0..holders.count_ones() {
+            let place = holders.trailing_zeros();
+            holders &= holders.wrapping_sub(1);
+            if let Some(tree) = self.trees.get_mut(place as usize) {
+                if !profile.add(tree, good) {
+                    profile.others |= 1 << (place % 64);
+                    if tree.is_flat() {
+                        tree.evaluate(m);
+                    }
+                }
+            }
+        }
+    }
+
+    /// The sum of the greatest nets of these trees. The multiplier of this good alone may be another than at the last time.
+    pub(crate) fn part_at(&mut self, trees: u64, m: &[i64; 32], good: u8) -> i128
         ensures { self.new ≡ self.old }
     {
         let mut total: i128 = 0;
-        let mut holders = self.holders[usize::from(good % 32)];
-        for _tree in 0..holders.count_ones() {
-            let place = holders.trailing_zeros() as usize;
-            holders &= holders.wrapping_sub(1);
+        let mut left = trees;
+        for _tree in 0..trees.count_ones() {
+            let place = left.trailing_zeros() as usize;
+            left &= left.wrapping_sub(1);
             if let Some(tree) = self.trees.get_mut(place) {
                 total = total.saturating_add(i128::from(tree.evaluate_good(m, good)));
             }
         }
         total
+    }
+
+    /// Leaves the trees at the multipliers, of which that of the profile's good alone may be another than at the last time:
+    /// the rows of those that the profile tells, and what is above them with the next profile.
+    pub(crate) fn leave_at(&mut self, profile: &Profile, m: &[i64; 32], good: u8)
+        ensures { self.new ≡ self.old }
+    {
+        self.part_at(profile.others, m, good);
+        let mut told = self.holders[usize::from(good % 32)] & !profile.others;
+        for _tree in 0..told.count_ones() {
+            let place = told.trailing_zeros() as usize;
+            told &= told.wrapping_sub(1);
+            if let Some(tree) = self.trees.get_mut(place) {
+                tree.renew_rows(m, good);
+            }
+        }
     }
 
     /// How near the operation's node was to being taken half of the time: the count of the times that it was taken, or of

@@ -1,0 +1,148 @@
+//! What the trees that may buy or sell one good add together, as its multiplier alone moves.
+
+use crate::operations::{Operations, Rule};
+
+/// So many rows are told at most.
+const MOST_LINES: u8 = 255;
+
+/// What a row adds, as the multiplier moves.
+#[derive(Clone, Copy)]
+pub(crate) struct Line {
+    /// What it adds where the multiplier is 0.
+    pub(crate) base: i64,
+    /// The units of the good that it buys, and less than none where it sells.
+    pub(crate) units: i64,
+}
+
+/// What a tree adds, as the multiplier moves: its fixed part and, as the rule says, the best of its rows that may be taken,
+/// or all of these that add value.
+#[derive(Clone, Copy)]
+pub(crate) struct Share {
+    pub(crate) fixed: Line,
+    pub(crate) rule: Rule,
+    pub(crate) is_optional: bool,
+    /// What the rows without the good add by the rule.
+    pub(crate) rest: i64,
+    /// Where its rows that have the good begin, and where they end.
+    first: u8,
+    end: u8,
+}
+
+/// What the trees that may buy or sell a good add together, as its multiplier moves. Such a sum is worked out in few steps
+/// for each tree that chooses among rows.
+#[derive(Drop)]
+pub(crate) struct Profile {
+    lines: [Line; 256],
+    line_count: u8,
+    shares: [Share; 64],
+    share_count: u8,
+    /// A bit for each other tree that may buy or sell the good.
+    pub(crate) others: u64,
+}
+
+impl Line {
+    /// What the row adds at a multiplier. Numbers that wrap around would only mislead a forecast.
+    fn at(&self, multiplier: i64) -> i64 {
+        self.base.wrapping_sub(self.units.wrapping_mul(multiplier))
+    }
+}
+
+impl Share {
+    /// That of a tree with this fixed part, and no row yet that may be taken.
+    pub(crate) fn new(fixed: Line, rule: Rule, is_optional: bool) -> Share {
+        Share {
+            fixed,
+            rule,
+            is_optional,
+            rest: if rule == Rule::Best { i64::MIN } else { 0 },
+            first: 0,
+            end: 0,
+        }
+    }
+
+    /// What a row that may be taken adds to what others add.
+    pub(crate) fn with(&self, others: i64, value: i64) -> i64 {
+        if self.rule == Rule::Each {
+            others.wrapping_add(value.max(0))
+        } else {
+            others.max(value)
+        }
+    }
+}
+
+impl Profile {
+    /// That of no tree.
+    pub(crate) fn new() -> Profile {
+        let none = Line { base: 0, units: 0 };
+        Profile {
+            lines: [none; 256],
+            line_count: 0,
+            shares: [Share::new(none, Rule::Bound, false); 64],
+            share_count: 0,
+            others: 0,
+        }
+    }
+
+    /// Makes it that of no tree.
+    pub(crate) fn clear(&mut self) {
+        self.line_count = 0;
+        self.share_count = 0;
+        self.others = 0;
+    }
+
+    /// Adds a row that has the good to the tree that is told next. There is room for some.
+    pub(crate) fn add_line(&mut self, line: Line) {
+        self.lines[usize::from(self.line_count)] = line;
+        self.line_count = self.line_count.saturating_add(1).min(MOST_LINES);
+    }
+
+    /// Adds a tree, whose rows that have the good are told since the last one.
+    fn add_share(&mut self, share: Share, first: u8) {
+        let end = self.line_count;
+        self.shares[usize::from(self.share_count % 64)] = Share {
+            first,
+            end,
+            ..share
+        };
+        self.share_count = self.share_count.saturating_add(1);
+    }
+
+    /// Adds what a tree adds as the multiplier of a good moves, where its values stand at 0 of it. False where it can't be
+    /// told so, since it is no choice among rows, or has too many.
+    pub(crate) fn add(&mut self, tree: &Operations, good: u8) -> bool {
+        let first = self.line_count;
+        if !tree.is_flat()
+            || usize::from(first) + usize::from(tree.len()) > usize::from(MOST_LINES)
+            || self.share_count >= 64
+        {
+            return false;
+        }
+        let share = tree.share(good, self);
+        self.add_share(share, first);
+        true
+    }
+
+    /// What a tree adds at a multiplier.
+    fn share_at(&self, share: &Share, multiplier: i64) -> i64 {
+        let mut others = share.rest;
+        for place in share.first..share.end {
+            others = share.with(others, self.lines[usize::from(place)].at(multiplier));
+        }
+        let value = share.fixed.at(multiplier).wrapping_add(others);
+        if share.is_optional {
+            value.max(0)
+        } else {
+            value
+        }
+    }
+
+    /// What the trees add together at a multiplier.
+    pub(crate) fn sum_at(&self, multiplier: i64) -> i128 {
+        let mut sum: i128 = 0;
+        for place in 0..self.share_count {
+            let value = self.share_at(&self.shares[usize::from(place % 64)], multiplier);
+            sum = sum.saturating_add(i128::from(value));
+        }
+        sum
+    }
+}
