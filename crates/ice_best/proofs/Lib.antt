@@ -26,6 +26,8 @@ pub mod Frame
 pub mod Roots
 -- one more entry of a half-filled table
 pub mod NewEntry
+-- the entry of a node without children
+pub mod Leaf
 -- from the table to the answer
 pub mod RootEntry
 -- the test `is_satisfied` decides which sets are satisfied
