@@ -42,13 +42,16 @@ fn line_of(
 fn main(rt: HostRuntime) -> io::Result<()> {
     let words = words(&rt)?;
     let (part, path, times) = match words.as_slice() {
-        [part, path] => (part, path, 1),
-        [part, path, times] => (part, path, times.parse().unwrap_or(1)),
+        [part, path] => (part, path, Ok(1)),
+        [part, path, times] => (part, path, times.parse()),
         _ => {
             return println!(rt;
                 "words: cuts, run, sets or searches, the path of an exchange file, and how many times"
             );
         }
+    };
+    let Ok(times) = times else {
+        return println!(rt; "no number of times");
     };
     let bytes = fs::read(&rt, path.as_str())?;
     let Ok(exchange) = read_exchange(rt.alloc(), bytes.as_slice()) else {
