@@ -84,9 +84,9 @@ fn take_set(tree: &Tree, taken: &[bool], root: bool) -> NodeSet
     let mut out = NodeSet::empty(nodes);
     out.put(0, root);
     for node in 1..nodes {
-        // no jump, since its way could not be predicted
-        let inside = taken[node as usize] & out.has(tree.parent(node));
-        out.put(node, inside);
+        if taken[node as usize] && out.has(tree.parent(node)) {
+            out.put(node, true);
+        }
     }
     out
 }
