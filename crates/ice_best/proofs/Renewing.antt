@@ -1,14 +1,14 @@
 -- A table that is filled anew from a node up to the root.
-use Rattle.std.proofs.Common.{ℕ, ◌<◌, ◌≤◌, ◌≡◌, ◌≢◌, true, length, set, ℤ, arith, ap, sym, ◌∙◌, ◌⊎◌, inl, inr}
-use Rattle.std.proofs.lemmas.Bool.{cases_lt}
+use Rattle.std.proofs.Common.{ℕ, ◌<◌, ◌≤◌, ◌≡◌, ◌≢◌, true, length, set, ℤ, arith, ap, sym, subst, ◌∙◌, ◌⊎◌, inl, inr}
+use Rattle.std.proofs.lemmas.Bool.{cases_eq, cases_lt}
 use Rattle.std.proofs.lemmas.List.{length-set}
 use Rattle.ice_defs.specs.Tree.{Tree, IsTree, parent_of, is_child}
 use Rattle.ice_defs.specs.Set.{Weights, has, weight_of}
 use Rattle.ice_defs.specs.Fixing.{Fixing}
 use Rattle.ice_best.specs.declared.table.Table.{Table}
-use Rattle.ice_best.specs.Entries.{HasEntry, AreEntries, AreOtherEntries, ChangesEntry, IsTableOf, DifferOnlyAt}
+use Rattle.ice_best.specs.Entries.{HasEntry, AreEntries, AreOtherEntries, ChangesEntry, IsSeenAlike, IsTableOf, DifferOnlyAt, DifferOnlyAtMark}
 use Rattle.ice_best.proofs.Children.{filter_at}
-use Rattle.ice_best.proofs.Frame.{IsEntry-same, IsEntry-weight}
+use Rattle.ice_best.proofs.Frame.{IsEntry-same, IsEntry-weight, IsEntry-mark}
 use Rattle.ice_best.proofs.Bounding.{child_after}
 use Rattle.ice_best.proofs.NewEntry.{weight_of-put_other}
 
@@ -16,6 +16,11 @@ use Rattle.ice_best.proofs.NewEntry.{weight_of-put_other}
 pub others_at_first : (t : Tree) (v w : Weights) (x : Fixing) (table : Table) (node : ℕ) → IsTableOf t v x table → DifferOnlyAt node v w → AreOtherEntries t w x table node
 others_at_first t v w x table node is differ n ne l =
     IsEntry-weight t v w x (weight_of table.gain) (has table.needed) (has table.possible) (has table.taken) n (differ.same n ne) (is.entries n (omega arith) l)
+
+-- and so where its mark changed
+pub others_at_mark : (t : Tree) (w : Weights) (x y : Fixing) (table : Table) (node : ℕ) → IsTableOf t w x table → DifferOnlyAtMark node x y → AreOtherEntries t w y table node
+others_at_mark t w x y table node is differ n ne l =
+    IsEntry-mark t w x y (weight_of table.gain) (has table.needed) (has table.possible) (has table.taken) n (differ n ne) (is.entries n (omega arith) l)
 
 module _ (t : Tree) (w : Weights) (x : Fixing) (old new : Table) (n : ℕ) (tree : IsTree t) (changes : ChangesEntry t n old new) where
   -- what its parent sees of c is the same
@@ -57,6 +62,22 @@ module _ (t : Tree) (w : Weights) (x : Fixing) (old new : Table) (n : ℕ) (tree
             kept_entry k m
             (λ c h child. let after = child_after t k c tree h child in same_other c (λ e. ne (sym after.1 ∙ ap (parent_of t) e)))
             (others k (omega (arith, m)) l)
+
+    -- and none is, where its parent sees the same
+    pub all_right : IsSeenAlike n old new → AreEntries t w x new 0
+    unfolding Same
+    all_right alike k _ l = by (cases_lt k n)
+      where
+        same : (c : ℕ) → Same c
+        same c = here (cases_eq c n)
+          where
+            here : (c ≡ n) ⊎ (c ≡ n → ⊥) → Same c
+            here (inl e) = subst (λ c. Same c) (sym e) (alike.gain_same, alike.needed_same, alike.possible_same)
+            here (inr ne) = same_other c ne
+
+        by : (k < n) ⊎ (n ≤ k) → HasEntry t w x new k
+        by (inr m) = entries k m l
+        by (inl m) = kept_entry k m (λ c h child. same c) (others k (omega (arith, m)) l)
 
 -- one weight that is put differs at most there
 pub DifferOnlyAt-put : (w : Weights) (node : ℕ) (v : ℤ) → DifferOnlyAt node w (set w node v)

@@ -1,4 +1,5 @@
-//! The table of a tree: what each node adds where it is inside. It is filled once, and renewed where a weight changes.
+//! The table of a tree: what each node adds where it is inside. It is filled once, and renewed where a weight or a mark
+//! changes.
 ghost use Rattle.std.specs.Prelude.{◌≡◌, ◌<◌, ◌≤◌, ◌&&◌, length, replicate, false, ℤ, IsTrue, IfSome, IfNone, if◌then◌else◌, pos, ◌≤ℤ◌};
 ghost use Rattle.ice_defs.specs.Tree.{Tree as Nodes};
 ghost use Rattle.ice_defs.specs.Set.{NodeSet as Set, Weights as NodeWeights, has, value, IsSmall};
@@ -6,11 +7,11 @@ ghost use Rattle.ice_defs.specs.Fixing.{Fixing as Marks};
 ghost use Rattle.ice_defs.specs.Bound.{IsOpen};
 ghost use Rattle.ice_defs.specs.Greatest.{IsGreatest};
 ghost use Rattle.ice_best.specs.Table.{IsTaken};
-ghost use Rattle.ice_best.specs.Entries.{IsTableOf};
+ghost use Rattle.ice_best.specs.Entries.{IsTableOf, DifferOnlyAtMark};
 ghost use Rattle.ice_best.specs.Rise.{WasTableOf};
 
 use crate::choice::Offer;
-use crate::fill::fill_all;
+use crate::fill::{fill_all, refill};
 use crate::fixing::Fixing;
 use crate::rise::{follow, weigh};
 use ice_tree::{NodeSet, Tree, Weights};
@@ -35,8 +36,8 @@ impl Scratch {
     }
 }
 
-/// What the nodes of one tree are worth at weights and a fixing, kept while the weights change one by one. It takes no
-/// memory.
+/// What the nodes of one tree are worth at weights and a fixing, kept while the weights and the marks change one by one.
+/// It takes no memory.
 #[derive(Drop)]
 pub struct Table {
     /// What each node adds where it is inside, with the best choice below it.
@@ -151,6 +152,33 @@ impl Table {
                 more,
             );
             at = parent;
+        }
+    }
+
+    /// Makes it the table at this fixing, where it was the table at a fixing that may differ at this node alone.
+    ///
+    /// Takes no memory. Time: a pass over the children, and a sort of them, of this node and of each above it, up to one
+    /// that adds as much as before, and must and may be inside as before. No other node is looked at.
+    pub fn renew_mark(
+        &mut self,
+        tree: &Tree,
+        weights: &Weights,
+        fixing: &Fixing,
+        node: u16,
+        scratch: &mut Scratch,
+    )
+        requires node { node < length tree.now }
+        requires weights { length weights.now ≡ length tree.now }
+        requires fixing { length fixing.now ≡ length tree.now }
+        requires before { (before : Marks) × IsTableOf tree.now weights.now before self.old
+            × DifferOnlyAtMark node before fixing.now }
+        ensures { IsTableOf tree.now weights.now fixing.now self.new }
+    {
+        // a tree has at most 200 of them
+        let _nodes = tree.nodes();
+        let mut at = node;
+        while refill(tree, weights, fixing, self, &mut scratch.offers, at) && 0 < at {
+            at = tree.parent(at);
         }
     }
 

@@ -5,9 +5,10 @@ use Rattle.std.proofs.lemmas.List.{length-map, get_or-map, length-replicate, len
 use Rattle.ice_defs.specs.declared.Mark.{Mark}
 use Rattle.ice_defs.specs.declared.Mark.TheVariants.{Free}
 use Rattle.ice_defs.specs.Tree.{Tree}
-use Rattle.ice_defs.specs.Fixing.{Fixing}
+use Rattle.ice_defs.specs.Fixing.{Fixing, mark_of}
 use Rattle.ice_defs.specs.Trade.{tree_of, fixing_of}
 use Rattle.ice_defs.specs.Steps.{with_mark}
+use Rattle.ice_best.specs.Entries.{DifferOnlyAtMark}
 use Rattle.ice_bound.specs.Conditions.{AreFixingsOf}
 
 -- every node free
@@ -38,5 +39,10 @@ marked_fixings ts xs b n m are = record {
   same_length = length-with_mark xs b n m ∙ are.same_length;
   nodes = λ c h. nodes-with_mark xs b n c m ∙ are.nodes c h;
 }
+
+-- and changes no other node's mark
+pub marked_differs : (xs ys : List Fixing) (b n : ℕ) (m : Mark) (y : Fixing) → b < length xs → ys ≡ with_mark xs b n m → y ≡ fixing_of ys b → DifferOnlyAtMark n (fixing_of xs b) y
+marked_differs xs ys b n m y h marked is k ne =
+    sym (ap (λ x. mark_of x k) (is ∙ ap (λ zs. fixing_of zs b) marked ∙ get_or-set_same xs b (set (fixing_of xs b) n m) [] h) ∙ get_or-set_other (fixing_of xs b) n k m Free ne)
 
 pub ruleset fixings = (free_fixings, marked_fixings)

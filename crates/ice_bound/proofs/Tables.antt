@@ -11,7 +11,7 @@ use Rattle.ice_defs.specs.Fixing.{Fixing}
 use Rattle.ice_defs.specs.Greatest.{IsGreatest}
 use Rattle.ice_defs.specs.Trade.{tree_of, weights_of, fixing_of}
 use Rattle.ice_defs.specs.Bound.{Multipliers, net, IsOpen}
-use Rattle.ice_best.specs.Nets.{node_cost, node_net}
+use Rattle.ice_best.specs.Nets.{node_cost, node_net, AreNetWeights}
 use Rattle.ice_best.specs.Entries.{IsTableOf}
 use Rattle.ice_bound.specs.declared.net_table.NetTable.{NetTable}
 use Rattle.ice_bound.specs.Kept.{IsFound, IsNetOf, IsSmallNet}
@@ -70,6 +70,16 @@ small_low (Some v) is = is.0
 pub small_high : (o : Option ℤ) → IsSmallNet o → IfSome o (λ v. v ≤ℤ pos (200 * 2 ^ 90))
 small_high None is = tt
 small_high (Some v) is = is.1
+
+-- ---- one node with another mark
+
+pub marked_table : (t : Tree) (w : Weights) (m : Multipliers) (x y : Fixing) (table marked : NetTable) → marked.nets.weights ≡ table.nets.weights
+    → IsTableOf t marked.nets.weights y marked.table → IsNetTable t w m x table → IsNetTable t w m y marked
+marked_table t w m x y table marked nets entries is = record {
+  few = is.few;
+  nets = subst (AreNetWeights t w 64 m 1) (sym nets) is.nets;
+  entries = entries;
+}
 
 -- ---- one good with another multiplier
 

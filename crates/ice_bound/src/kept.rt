@@ -219,7 +219,9 @@ impl<'a> Kept<'a> {
         }
     }
 
-    /// Gives a node of a bidder's tree another mark. Time: one recursion over that tree.
+    /// Gives a node of a bidder's tree another mark. Time: a pass over the children, and a sort of them, of this node and of
+    /// each above it, up to one that adds as much as before, and must and may be inside as before; and a step for each node
+    /// of the tree, which reads the relaxed set.
     pub fn mark(&mut self, bidder: u8, node: u16, mark: Mark)
         requires bidder { bidder < length self.old.trees }
         requires node { node < length (tree_of self.old.trees bidder) }
@@ -231,13 +233,7 @@ impl<'a> Kept<'a> {
     {
         let trees = self.trees;
         self.marks.mark(bidder, node, mark);
-        self.found.renew(
-            bidder,
-            &trees[bidder as usize],
-            self.weights.of(bidder),
-            &self.m,
-            self.marks.of(bidder),
-        );
+        self.found.renew_mark(bidder, &trees[bidder as usize], self.marks.of(bidder), node);
     }
 
     /// Gives a good another multiplier, from -2^56 to 2^56, and 0 or more where the good isn't exact. Time: one recursion

@@ -5,7 +5,7 @@ ghost use Rattle.ice_defs.specs.Tree.{Tree as Nodes};
 ghost use Rattle.ice_defs.specs.Fixing.{Fixing as Marks};
 ghost use Rattle.ice_defs.specs.Bound.{Multipliers as Numbers};
 ghost use Rattle.ice_best.specs.Nets.{node_net};
-ghost use Rattle.ice_best.specs.Entries.{IsTableOf};
+ghost use Rattle.ice_best.specs.Entries.{IsTableOf, DifferOnlyAtMark};
 ghost use Rattle.ice_bound.specs.Conditions.{AreModest};
 ghost use Rattle.ice_bound.specs.Kept.{IsFound, IsNetOf, IsSmallNet};
 ghost use Rattle.ice_bound.specs.Leaves.{AreLeavesOf};
@@ -17,8 +17,8 @@ use crate::net::NetWeights;
 use ice_best::{Fixing, Scratch, Table};
 use ice_tree::{NodeSet, Tree, Weights};
 
-/// What the nodes of one tree net at multipliers, and its table at these nets and a fixing. They are kept while the
-/// multiplier of one good after another changes.
+/// What the nodes of one tree net at multipliers, and its table at these nets and a fixing. They are kept while one thing
+/// after another changes: the multiplier of a good, or the mark of a node.
 #[derive(Drop)]
 pub(crate) struct NetTable {
     nets: NetWeights,
@@ -107,6 +107,27 @@ impl NetTable {
             self.put(tree, weights, m, fixing, leaf, scratch);
             leaf = leaves.next(leaf);
         }
+    }
+
+    /// Brings it to a fixing that differs in the one that it was made at in the mark of this node alone.
+    pub(crate) fn renew_mark(
+        &mut self,
+        tree: &Tree,
+        fixing: &Fixing,
+        node: u16,
+        scratch: &mut Scratch,
+    )
+        requires nets { length self.old.nets.weights ≡ length tree.now }
+        requires fixing { length fixing.now ≡ length tree.now }
+        requires node { node < length tree.now }
+        requires before { (before : Marks)
+            × IsTableOf tree.now self.old.nets.weights before self.old.table
+            × DifferOnlyAtMark node before fixing.now }
+        ensures nets { self.new.nets.weights ≡ self.old.nets.weights }
+        ensures entries { IsTableOf tree.now self.new.nets.weights fixing.now self.new.table }
+    {
+        self.table
+            .renew_mark(tree, &self.nets.weights, fixing, node, scratch);
     }
 
     /// The greatest net of a set that is satisfied and meets the fixing; None where there is no such set.
