@@ -5,7 +5,8 @@ ghost use Rattle.ice_defs.specs.Sweep.{IsLive};
 ghost use Rattle.ice_bound.specs.Conditions.{AreWeightsOf, AreBoundsOf};
 
 use ice_bound::{Kept, NetSum};
-use ice_subgradient::{Incumbent, Relaxation, pick, polish};
+use ice_relaxation::{Relaxation, pick};
+use ice_subgradient::{Incumbent, polish};
 use ice_tree::{AllWeights, Assignment, Bounds, NodeKind, Tree, TreeFault, TreeMaker};
 use std::alloc::{AllocError, Global};
 use std::test::Fail;

@@ -10,9 +10,8 @@ use crate::sweep::Bounded;
 use crate::workspace::Workspace;
 use ice_best::Mark;
 use ice_bound::{Multipliers, floor_64th};
-use ice_subgradient::{
-    Candidate, Candidates, Evaluated, Incumbent, most_promising, pick, polish, repeat,
-};
+use ice_relaxation::{Candidate, Candidates, pick};
+use ice_subgradient::{Evaluated, Incumbent, most_promising, polish, repeat};
 
 /// So many steps are taken at a child.
 pub(crate) const CHILD_STEPS: u16 = 60;

@@ -12,7 +12,8 @@ use crate::workspace::Workspace;
 use ice_assembly::Part;
 use ice_best::{Fixings, Mark};
 use ice_bound::Multipliers;
-use ice_subgradient::{Candidate, Incumbent};
+use ice_relaxation::Candidate;
+use ice_subgradient::Incumbent;
 use ice_tree::Assignment;
 use std::alloc::{AllocError, Global};
 

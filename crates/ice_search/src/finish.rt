@@ -11,7 +11,7 @@ use crate::progress::Progress;
 use crate::results::{Found, Spent};
 use ice_assembly::write_log;
 use ice_refute::Log;
-use ice_subgradient::Candidate;
+use ice_relaxation::Candidate;
 use std::alloc::{AllocError, Global};
 
 impl<'a> Progress<'a> {

@@ -3,7 +3,7 @@ ghost use Rattle.std.specs.Prelude.{◌≡◌, ◌+◌, ◌≤◌, vec_len, vec_
 
 use crate::workspace::Workspace;
 use ice_bound::Multipliers;
-use ice_subgradient::{Candidate, Candidates};
+use ice_relaxation::{Candidate, Candidates};
 
 /// A search with fewer parts than this, two for each branch, takes the first candidate. In a longer one trials of all
 /// candidates cost less than the branches that they save.

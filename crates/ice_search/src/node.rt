@@ -12,7 +12,7 @@ ghost use Rattle.ice_search.specs.Nodes.{IsSplitNode, HasNoNodeOf, IsSameStandin
 use crate::workspace::Workspace;
 use ice_best::Mark;
 use ice_bound::{Kept, NetSum};
-use ice_subgradient::Candidate;
+use ice_relaxation::Candidate;
 
 /// Whether each bidder still has a set.
 fn is_live(kept: &Kept) -> bool

@@ -8,7 +8,8 @@ ghost use Rattle.ice_search.specs.State.{child_part, with_bound};
 use crate::sweep::Bounded;
 use ice_assembly::{Part, Split};
 use ice_best::Mark;
-use ice_subgradient::{Candidate, Incumbent};
+use ice_relaxation::Candidate;
+use ice_subgradient::Incumbent;
 
 /// A part is swept: its bound falls to the swept one, where that is less.
 pub(crate) fn lower(parts: &mut Vec<Part>, number: u32, swept: Bounded)

@@ -15,7 +15,8 @@ use crate::parts::{is_open, lower, push_children};
 use crate::workspace::Workspace;
 use ice_assembly::Part;
 use ice_best::Mark;
-use ice_subgradient::{Candidate, Incumbent};
+use ice_relaxation::Candidate;
+use ice_subgradient::Incumbent;
 use std::alloc::{AllocError, Global};
 use std::marker::Model;
 

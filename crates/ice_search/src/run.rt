@@ -3,7 +3,7 @@ ghost use Rattle.std.specs.Prelude.{◌≡◌, ◌+◌, ◌*◌, ◌≤◌, leng
 ghost use Rattle.ice_search.specs.Ended.{HasEnded};
 
 use crate::progress::Progress;
-use ice_subgradient::Candidate;
+use ice_relaxation::Candidate;
 use std::alloc::{AllocError, Global};
 
 /// How the turns of a search end.

@@ -9,7 +9,8 @@ use crate::problem::Problem;
 use crate::sides::put_side;
 use ice_assembly::Part;
 use ice_bound::{Desk, Kept, Multipliers};
-use ice_subgradient::{Relaxation, Trial};
+use ice_relaxation::Relaxation;
+use ice_subgradient::Trial;
 use std::alloc::{AllocError, Global};
 use std::marker::Model;
 

@@ -1,4 +1,3 @@
 pub mod Offers
-pub mod Candidates
 pub mod Laws
 pub mod Polished

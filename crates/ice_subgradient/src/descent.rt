@@ -3,7 +3,7 @@ ghost use Rattle.std.specs.Prelude.{◌≡◌};
 
 use crate::course::{Course, Goods};
 use crate::level::Level;
-use crate::relaxation::{Relaxation, Sight};
+use ice_relaxation::{Relaxation, Sight};
 
 /// A descent at one side. It says where to look, and decides nothing.
 #[derive(Drop)]

@@ -4,9 +4,8 @@ ghost use Rattle.ice_bound.specs.Conditions.{AreMultipliersOf};
 
 use crate::course::FARTHEST;
 use crate::polishing::{goods_of, multipliers_of, numbers_of};
-use crate::profile::Profile;
-use crate::relaxation::Relaxation;
 use ice_bound::{Kept, Multipliers};
+use ice_relaxation::{Profile, Relaxation};
 
 /// No fall is followed in fewer steps than this at first.
 const FIRST_REACH: i64 = 64;
@@ -41,38 +40,13 @@ fn crossing(low: Slope, high: Slope) -> i64 {
     whole.max(least).min(most).clamp(0, i128::from(FARTHEST)) as i64
 }
 
-/// The sum where the good has this multiplier.
-fn sum_at(
-    relaxation: &mut Relaxation,
-    profile: &Profile,
-    m: &mut [i64; 32],
-    good: u8,
-    number: i64,
-) -> i128
-    ensures { relaxation.new ≡ relaxation.old }
-{
-    let told = profile.sum_at(number);
-    if profile.others == 0 {
-        return told;
-    }
-    m[usize::from(good % 32)] = number;
-    told.wrapping_add(relaxation.part_at(profile.others, m, good))
-}
-
 /// The sum at so many steps from 0 in a direction, and its rise.
-fn slope_at(
-    relaxation: &mut Relaxation,
-    profile: &Profile,
-    m: &mut [i64; 32],
-    good: u8,
-    direction: i64,
-    at: i64,
-) -> Slope
+fn slope_at(relaxation: &mut Relaxation, profile: &mut Profile, direction: i64, at: i64) -> Slope
     ensures { relaxation.new ≡ relaxation.old }
 {
     let next = direction.wrapping_mul(at.wrapping_add(1));
-    let after = sum_at(relaxation, profile, m, good, next);
-    let sum = sum_at(relaxation, profile, m, good, direction.wrapping_mul(at));
+    let after = relaxation.sum_at(profile, next);
+    let sum = relaxation.sum_at(profile, direction.wrapping_mul(at));
     Slope {
         at,
         sum,
@@ -81,61 +55,41 @@ fn slope_at(
 }
 
 /// Whether the sum falls to this multiplier, which isn't 0, and no farther.
-fn is_least(
-    relaxation: &mut Relaxation,
-    profile: &Profile,
-    m: &mut [i64; 32],
-    good: u8,
-    number: i64,
-) -> bool
+fn is_least(relaxation: &mut Relaxation, profile: &mut Profile, number: i64) -> bool
     ensures { relaxation.new ≡ relaxation.old }
 {
     let step = number.signum();
     if step == 0 {
         return false;
     }
-    let before = sum_at(relaxation, profile, m, good, number.wrapping_sub(step));
-    let after = sum_at(relaxation, profile, m, good, number.wrapping_add(step));
-    let here = sum_at(relaxation, profile, m, good, number);
+    let before = relaxation.sum_at(profile, number.wrapping_sub(step));
+    let after = relaxation.sum_at(profile, number.wrapping_add(step));
+    let here = relaxation.sum_at(profile, number);
     before > here && after >= here
 }
 
 /// The steps from 0 in a direction after which the sum falls no more. They are few where the guess is near.
-fn foot(
-    relaxation: &mut Relaxation,
-    profile: &Profile,
-    m: &mut [i64; 32],
-    good: u8,
-    direction: i64,
-    guess: i64,
-) -> i64
+fn foot(relaxation: &mut Relaxation, profile: &mut Profile, direction: i64, guess: i64) -> i64
     ensures { relaxation.new ≡ relaxation.old }
 {
-    let mut low = slope_at(relaxation, profile, m, good, direction, 0);
+    let mut low = slope_at(relaxation, profile, direction, 0);
     if low.rise >= 0 {
         return 0;
     }
-    let mut high = slope_at(
-        relaxation,
-        profile,
-        m,
-        good,
-        direction,
-        guess.max(FIRST_REACH),
-    );
+    let mut high = slope_at(relaxation, profile, direction, guess.max(FIRST_REACH));
     for _stride in 0..MOST_STRIDES {
         if high.rise >= 0 || high.at >= FARTHEST {
             break;
         }
         low = high;
         let at = high.at.wrapping_mul(2).min(FARTHEST);
-        high = slope_at(relaxation, profile, m, good, direction, at);
+        high = slope_at(relaxation, profile, direction, at);
     }
     for _crossing in 0..MOST_CROSSINGS {
         if high.at.wrapping_sub(low.at) <= 1 {
             break;
         }
-        let here = slope_at(relaxation, profile, m, good, direction, crossing(low, high));
+        let here = slope_at(relaxation, profile, direction, crossing(low, high));
         if here.rise < 0 {
             low = here;
         } else {
@@ -146,24 +100,17 @@ fn foot(
 }
 
 /// The multiplier of the good that makes the sum least, and of several the one nearest to 0.
-fn lowest(
-    relaxation: &mut Relaxation,
-    profile: &Profile,
-    m: &mut [i64; 32],
-    good: u8,
-    exact: bool,
-    guess: i64,
-) -> i64
+fn lowest(relaxation: &mut Relaxation, profile: &mut Profile, exact: bool, guess: i64) -> i64
     ensures { relaxation.new ≡ relaxation.old }
 {
-    if is_least(relaxation, profile, m, good, guess) {
+    if is_least(relaxation, profile, guess) {
         return guess;
     }
-    let up = foot(relaxation, profile, m, good, 1, guess);
+    let up = foot(relaxation, profile, 1, guess);
     if up > 0 || !exact {
         return up;
     }
-    foot(relaxation, profile, m, good, -1, guess.wrapping_neg()).wrapping_neg()
+    foot(relaxation, profile, -1, guess.wrapping_neg()).wrapping_neg()
 }
 
 /// What a sweep will make of zeros, as far as the relaxation shows, in short time where it is near to the guess. Takes no
@@ -174,16 +121,14 @@ pub fn forecast(relaxation: &mut Relaxation, kept: &Kept<'_>, guess: &Multiplier
 {
     let goods = goods_of(kept);
     let guess = numbers_of(guess);
-    let mut m = [0; 32];
     let mut profile = Profile::new();
-    relaxation.stand_at(&m);
+    relaxation.stand_at(&profile);
     for good in 0..goods.count {
         let place = usize::from(good % 32);
         let near = guess[place].clamp(-FARTHEST, FARTHEST);
-        relaxation.fill_profile(&mut profile, &m, good);
-        let number = lowest(relaxation, &profile, &mut m, good, goods.exact[place], near);
-        m[place] = number;
-        relaxation.leave_at(&profile, &m, good);
+        relaxation.fill_profile(&mut profile, good);
+        let number = lowest(relaxation, &mut profile, goods.exact[place], near);
+        relaxation.leave_at(&mut profile, number);
     }
-    multipliers_of(kept, &m)
+    multipliers_of(kept, profile.multipliers())
 }

@@ -11,9 +11,9 @@ ghost use Rattle.ice_subgradient.specs.Polished.{IsSameSide, IsPolished};
 use crate::course::{FARTHEST, Goods};
 use crate::descent::Descent;
 use crate::incumbent::Incumbent;
-use crate::relaxation::Relaxation;
 use crate::trace::Trace;
 use ice_bound::{Kept, Multipliers, NetSum};
+use ice_relaxation::Relaxation;
 
 /// Multipliers, and the sum of the bidders' greatest nets at them, in 64ths.
 #[derive(Drop)]

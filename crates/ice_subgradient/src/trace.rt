@@ -1,10 +1,9 @@
 //! What a descent at a child came to, kept so that its steps need not be taken again.
 ghost use Rattle.std.specs.Prelude.{◌≡◌};
 
-use crate::candidates::Candidates;
 use crate::descent::Descent;
-use crate::relaxation::Relaxation;
 use arrayvec::ArrayVec;
+use ice_relaxation::{Candidates, Relaxation};
 
 /// After so many assignments that came up, a descent is taken as it is.
 const MOST_FINDS: usize = 4;

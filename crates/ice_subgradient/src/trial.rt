@@ -2,14 +2,13 @@
 ghost use Rattle.std.specs.Prelude.{◌≡◌, ◌<◌, ◌≤◌, length};
 ghost use Rattle.ice_bound.specs.Conditions.{AreWeightsOf, AreFixingsOf};
 
-use crate::candidates::{Candidate, Candidates, pick};
 use crate::course::Goods;
 use crate::descent::Descent;
 use crate::polishing::{goods_of, numbers_of};
-use crate::relaxation::Relaxation;
 use crate::trace::Trace;
 use ice_best::{Fixings, Mark};
 use ice_bound::{Kept, NetSum};
+use ice_relaxation::{Candidate, Candidates, Relaxation, pick};
 use ice_tree::{AllWeights, Tree};
 
 /// A child whose sum doesn't fall counts as if it fell by so many 64ths, so that the other child's fall still counts.
@@ -105,8 +104,14 @@ fn try_child(
     requires bidder { candidate.bidder < length trees.now }
     ensures { relaxation.new ≡ relaxation.old }
 {
-    let tried = Some((candidate.node, mark));
-    relaxation.fill(trees, weights, marks, candidate.bidder, tried);
+    relaxation.look_at_child(
+        trees,
+        weights,
+        marks,
+        candidate.bidder,
+        candidate.node,
+        mark,
+    );
     relaxation.clear();
     let mut descent = Descent::from(stand.goods, &stand.m, relaxation, stand.steps);
     let mut trace = Trace::follow(&mut descent, relaxation, stand.value);

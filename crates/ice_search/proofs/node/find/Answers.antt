@@ -2,7 +2,7 @@ use Rattle.std.proofs.Common.{◌≡◌, sym, ◌∙◌, Option, Some, None}
 use Rattle.std.specs.Option.{is_some}
 use Rattle.std.specs.Prelude.{IfNone, false}
 use borrow.Author.Count.{below_more}
-use Rattle.ice_subgradient.specs.declared.candidates.Candidate.{Candidate}
+use Rattle.ice_relaxation.specs.declared.candidates.Candidate.{Candidate}
 use Rattle.ice_search.specs.Nodes.{HasNoNodeOf}
 use Rattle.ice_search.proofs.Splitting.{same_still, none_back}
 use Rattle.ice_search.proofs.node.find.Goals as goal

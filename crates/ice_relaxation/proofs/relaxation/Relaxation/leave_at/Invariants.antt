@@ -1,6 +1,6 @@
 use Rattle.std.proofs.Common.{◌≡◌}
 use Rattle.std.specs.Prelude.{vec_len}
-use Rattle.ice_subgradient.proofs.relaxation.Relaxation.leave_at.Given as goal
+use Rattle.ice_relaxation.proofs.relaxation.Relaxation.leave_at.Given as goal
 
 abbrev pub invariant-loop-tree : goal.invariant-loop-tree
 invariant-loop-tree l = vec_len l.self-inside.trees ≡ l.fn.self

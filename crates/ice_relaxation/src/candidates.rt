@@ -2,7 +2,7 @@
 ghost use Rattle.std.specs.Prelude.{◌≡◌, ◌<◌, ◌≤◌, length, IsTrue};
 ghost use Rattle.std.specs.List.{All};
 ghost use Rattle.ice_bound.specs.Conditions.{AreFixingsOf};
-ghost use Rattle.ice_subgradient.specs.Candidates.{IsFreeAt};
+ghost use Rattle.ice_relaxation.specs.Candidates.{IsFreeAt};
 
 use crate::operations::Rule;
 use crate::relaxation::Relaxation;

@@ -12,11 +12,11 @@ use std::marker::Model;
 
 /// What is seen at multipliers.
 #[derive(Clone, Copy)]
-pub(crate) struct Sight {
+pub struct Sight {
     /// The sum of the greatest nets, in 64ths.
-    pub(crate) total: i128,
-    /// By how much more of each good is bought than sold.
-    pub(crate) excess: [i64; 32],
+    pub total: i128,
+    /// By how many units more of each good is bought than sold.
+    pub excess: [i64; 32],
 }
 
 /// The relaxation of a side: each tree under its marks, made ready to be worked out at many multipliers, and how often
@@ -99,8 +99,28 @@ impl Relaxation {
         self.fill(trees, weights, marks, bidder, None);
     }
 
+    /// Looks at the marks of one tree where one node has another mark. Time: some passes over its nodes.
+    pub fn look_at_child(
+        &mut self,
+        trees: &[Tree],
+        weights: &AllWeights,
+        marks: &Fixings,
+        bidder: u8,
+        node: u16,
+        mark: Mark,
+    )
+        requires few { length trees.now ≤ 40 }
+        requires weights { AreWeightsOf trees.now weights.now }
+        requires marks { AreFixingsOf trees.now marks.now }
+        requires same { self.old ≡ length trees.now }
+        requires bidder { bidder < length trees.now }
+        ensures { self.new ≡ self.old }
+    {
+        self.fill(trees, weights, marks, bidder, Some((node, mark)));
+    }
+
     /// Looks at one tree, of which one node may have another mark.
-    pub(crate) fn fill(
+    fn fill(
         &mut self,
         trees: &[Tree],
         weights: &AllWeights,
@@ -128,7 +148,7 @@ impl Relaxation {
     }
 
     /// Sets the counts of all nodes to 0.
-    pub(crate) fn clear(&mut self)
+    pub fn clear(&mut self)
         ensures { self.new ≡ self.old }
     {
         for tree in self.trees.iter_mut() {
@@ -138,7 +158,7 @@ impl Relaxation {
     }
 
     /// What is seen at the multipliers. The weight is added to the count of each node that is taken.
-    pub(crate) fn evaluate(&mut self, m: &[i64; 32], weight: u32) -> Sight
+    pub fn evaluate(&mut self, m: &[i64; 32], weight: u32) -> Sight
         ensures { self.new ≡ self.old }
     {
         let mut sight = Sight {
@@ -154,37 +174,38 @@ impl Relaxation {
         sight
     }
 
-    /// Works out all trees at the multipliers, and counts nothing.
-    pub(crate) fn stand_at(&mut self, m: &[i64; 32])
+    /// Works out all trees at the profile's multipliers, and counts nothing.
+    pub fn stand_at(&mut self, profile: &Profile)
         ensures { self.new ≡ self.old }
     {
         for tree in self.trees.iter_mut() {
-            tree.evaluate(m);
+            tree.evaluate(&profile.m);
         }
     }
 
-    /// Makes the profile that of a good. Its multiplier is 0, and the rows of the trees stand at these multipliers.
-    pub(crate) fn fill_profile(&mut self, profile: &mut Profile, m: &[i64; 32], good: u8)
+    /// Makes the profile that of a good, whose multiplier is 0. The rows of the trees stand at the profile's multipliers.
+    pub fn fill_profile(&mut self, profile: &mut Profile, good: u8)
         ensures { self.new ≡ self.old }
     {
-        profile.clear();
+        profile.begin(good);
         let mut holders = self.holders[usize::from(good % 32)];
         for _tree in 0..holders.count_ones() {
             let place = holders.trailing_zeros();
             holders &= holders.wrapping_sub(1);
             if let Some(tree) = self.trees.get_mut(place as usize) {
-                if !profile.add(tree, good) {
+                if !profile.tell(tree) {
                     profile.others |= 1 << (place % 64);
                     if tree.is_flat() {
-                        tree.evaluate(m);
+                        tree.evaluate(&profile.m);
                     }
                 }
             }
         }
     }
 
-    /// The sum of the greatest nets of these trees. The multiplier of this good alone may be another than at the last time.
-    pub(crate) fn part_at(&mut self, trees: u64, m: &[i64; 32], good: u8) -> i128
+    /// The sum of the greatest nets of these trees. The multiplier of the profile's good alone may be another than at the
+    /// last time.
+    fn part_at(&mut self, trees: u64, profile: &Profile) -> i128
         ensures { self.new ≡ self.old }
     {
         let mut total: i128 = 0;
@@ -193,24 +214,38 @@ impl Relaxation {
             let place = left.trailing_zeros() as usize;
             left &= left.wrapping_sub(1);
             if let Some(tree) = self.trees.get_mut(place) {
-                total = total.saturating_add(i128::from(tree.evaluate_good(m, good)));
+                let net = tree.evaluate_good(&profile.m, profile.good);
+                total = total.saturating_add(i128::from(net));
             }
         }
         total
     }
 
-    /// Leaves the trees at the multipliers, of which that of the profile's good alone may be another than at the last time:
-    /// the rows of those that the profile tells, and what is above them with the next profile.
-    pub(crate) fn leave_at(&mut self, profile: &Profile, m: &[i64; 32], good: u8)
+    /// The sum of the greatest nets of the trees that may buy or sell the profile's good, at a multiplier of it.
+    pub fn sum_at(&mut self, profile: &mut Profile, multiplier: i64) -> i128
         ensures { self.new ≡ self.old }
     {
-        self.part_at(profile.others, m, good);
-        let mut told = self.holders[usize::from(good % 32)] & !profile.others;
+        let told = profile.sum_at(multiplier);
+        if profile.others == 0 {
+            return told;
+        }
+        profile.put(multiplier);
+        told.saturating_add(self.part_at(profile.others, profile))
+    }
+
+    /// Leaves the profile and the trees at a multiplier of the profile's good: the rows of those that the profile tells, and
+    /// what is above them with the next profile.
+    pub fn leave_at(&mut self, profile: &mut Profile, multiplier: i64)
+        ensures { self.new ≡ self.old }
+    {
+        profile.put(multiplier);
+        self.part_at(profile.others, profile);
+        let mut told = self.holders[usize::from(profile.good % 32)] & !profile.others;
         for _tree in 0..told.count_ones() {
             let place = told.trailing_zeros() as usize;
             told &= told.wrapping_sub(1);
             if let Some(tree) = self.trees.get_mut(place) {
-                tree.renew_rows(m, good);
+                tree.renew_rows(&profile.m, profile.good);
             }
         }
     }

@@ -28,15 +28,19 @@ pub(crate) struct Share {
     end: u8,
 }
 
-/// What the trees that may buy or sell a good add together, as its multiplier moves. Such a sum is worked out in few steps
-/// for each tree that chooses among rows.
+/// Multipliers, and what the trees that may buy or sell one good add together as its multiplier moves. Such a sum is worked
+/// out in few steps for each tree that chooses among rows.
 #[derive(Drop)]
-pub(crate) struct Profile {
+pub struct Profile {
+    /// The multipliers of all goods.
+    pub(crate) m: [i64; 32],
+    /// The good whose multiplier moves.
+    pub(crate) good: u8,
     lines: [Line; 256],
     line_count: u8,
     shares: [Share; 64],
     share_count: u8,
-    /// A bit for each other tree that may buy or sell the good.
+    /// A bit for each tree that may buy or sell the good, and isn't told.
     pub(crate) others: u64,
 }
 
@@ -71,10 +75,12 @@ impl Share {
 }
 
 impl Profile {
-    /// That of no tree.
-    pub(crate) fn new() -> Profile {
+    /// All multipliers 0, and no tree told.
+    pub fn new() -> Profile {
         let none = Line { base: 0, units: 0 };
         Profile {
+            m: [0; 32],
+            good: 0,
             lines: [none; 256],
             line_count: 0,
             shares: [Share::new(none, Rule::Bound, false); 64],
@@ -83,14 +89,25 @@ impl Profile {
         }
     }
 
-    /// Makes it that of no tree.
-    pub(crate) fn clear(&mut self) {
+    /// The multipliers of all goods.
+    pub fn multipliers(&self) -> &[i64; 32] {
+        &self.m
+    }
+
+    /// Begins with a good, of which no tree is told.
+    pub(crate) fn begin(&mut self, good: u8) {
+        self.good = good;
         self.line_count = 0;
         self.share_count = 0;
         self.others = 0;
     }
 
-    /// Adds a row that has the good to the tree that is told next. There is room for some.
+    /// Gives the good another multiplier.
+    pub(crate) fn put(&mut self, multiplier: i64) {
+        self.m[usize::from(self.good % 32)] = multiplier;
+    }
+
+    /// Adds a row that has the good to the tree that is told next. There is room for all rows of that tree.
     pub(crate) fn add_line(&mut self, line: Line) {
         self.lines[usize::from(self.line_count)] = line;
         self.line_count = self.line_count.saturating_add(1).min(MOST_LINES);
@@ -107,9 +124,9 @@ impl Profile {
         self.share_count = self.share_count.saturating_add(1);
     }
 
-    /// Adds what a tree adds as the multiplier of a good moves, where its values stand at 0 of it. False where it can't be
-    /// told so, since it is no choice among rows, or has too many.
-    pub(crate) fn add(&mut self, tree: &Operations, good: u8) -> bool {
+    /// Tells what a tree adds as the multiplier of the good moves, where its values stand at 0 of it. False where it can't
+    /// be told so, since it is no choice among rows, or has too many.
+    pub(crate) fn tell(&mut self, tree: &Operations) -> bool {
         let first = self.line_count;
         if !tree.is_flat()
             || usize::from(first) + usize::from(tree.len()) > usize::from(MOST_LINES)
@@ -117,7 +134,7 @@ impl Profile {
         {
             return false;
         }
-        let share = tree.share(good, self);
+        let share = tree.share(self.good, self);
         self.add_share(share, first);
         true
     }
@@ -136,7 +153,7 @@ impl Profile {
         }
     }
 
-    /// What the trees add together at a multiplier.
+    /// What the trees that are told add together at a multiplier of the good.
     pub(crate) fn sum_at(&self, multiplier: i64) -> i128 {
         let mut sum: i128 = 0;
         for place in 0..self.share_count {

@@ -1,0 +1,13 @@
+//! The relaxation of a side: what its trees net together at many multipliers, worked out quickly, and the nodes that it
+//! shows as worth a branch. It guides the steps of a search and decides nothing: what it says is measured and not proved.
+#![tactic(auto)]
+
+mod candidates;
+mod openness;
+mod operations;
+mod profile;
+mod relaxation;
+
+pub use candidates::{Candidate, Candidates, pick};
+pub use profile::Profile;
+pub use relaxation::{Relaxation, Sight};
