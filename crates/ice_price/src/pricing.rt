@@ -1,5 +1,5 @@
 //! Prices of an exchange for the provisional sets of its bidders.
-ghost use Rattle.std.specs.Prelude.{◌≡◌, ◌<◌, length, IfOk, IfErr, IfSome};
+ghost use Rattle.std.specs.Prelude.{◌≡◌, ◌<◌, length, IfOk, IfErr, IfSome, IsTrue};
 ghost use Rattle.ice_defs.specs.Exchange.{trees_of};
 ghost use Rattle.ice_defs.specs.Weighing.{weighted_weights};
 ghost use Rattle.ice_rows.specs.Laws.{AreSatisfied};
@@ -12,11 +12,11 @@ use crate::ends::{PoolMember, PriceEnd, Stop};
 use crate::stages::StageAt;
 use crate::turn::run_stage;
 use crate::work::RunWork;
-use ice_cuts::{Work, cut_prices};
+use ice_cuts::{GivenUp, Work, cut_prices};
 use ice_pricing::{Pricing, Provisional, Scratch, weighted_values};
 use ice_trade::Exchange;
 use ice_tree::{Assignment, Bounds};
-use std::alloc::Global;
+use std::alloc::{AllocError, Global};
 
 /// The end of a run that stopped in this stage with this pool.
 fn end_of(stop: Stop, at: &StageAt, pool: Vec<PoolMember>, trade: &Provisional<'_>) -> PriceEnd
@@ -29,25 +29,31 @@ fn end_of(stop: Stop, at: &StageAt, pool: Vec<PoolMember>, trade: &Provisional<'
     }
 }
 
-/// The prices that cutting planes find, where they pass all tests.
-fn cut(alloc: Global, trade: &Provisional<'_>) -> Option<Pricing>
-    ensures { IfSome result (IsPriced trade.now) }
+/// Whether the prices that cutting planes found pass all tests.
+fn is_proper(pricing: &Pricing, trade: &Provisional<'_>) -> bool
+    ensures { IsTrue result → IsPriced trade.now pricing.now }
 {
-    let pricing = cut_prices(alloc, trade, &mut Work::none()).ok()?;
-    if pricing.prices.goods() != trade.goods() {
-        return None;
+    pricing.prices.goods() == trade.goods()
+        && pricing.accuracy.is_limited()
+        && pricing.balance.is_limited()
+        && pricing.passes(trade, &mut Scratch::new())
+}
+
+/// The prices that cutting planes find, where they pass all tests. Where their memory runs short nothing else is tried: the
+/// stated run may give other prices, and the same files would not give the same journal.
+fn cut(alloc: Global, trade: &Provisional<'_>) -> Result<Option<Pricing>, AllocError>
+    ensures { IfOk result (λ found. IfSome found (IsPriced trade.now)) }
+{
+    match cut_prices(alloc, trade, &mut Work::none()) {
+        Ok(pricing) if is_proper(&pricing, trade) => Ok(Some(pricing)),
+        Err(GivenUp::NoMemory) => Err(AllocError),
+        _ => Ok(None),
     }
-    if !pricing.accuracy.is_limited() || !pricing.balance.is_limited() {
-        return None;
-    }
-    if !pricing.passes(trade, &mut Scratch::new()) {
-        return None;
-    }
-    Some(pricing)
 }
 
 /// The prices of a provisional trade as `price` gives them, but by the stated run of pricing alone: they are those that it
-/// ends with. What it takes is added to `work`: neither count falls, and prices come with at least one turn a stage.
+/// ends with. What it takes is added to `work`: neither count falls, and prices come with at least one turn a stage. How
+/// many pivots are counted is in no clause.
 pub fn run_prices(
     alloc: Global,
     trade: &Provisional<'_>,
@@ -87,8 +93,8 @@ pub fn run_prices(
 /// each show it, as `check_pricing` tests.
 ///
 /// They are sought by cutting planes first. What these find is given only where it passes all tests; else the stated run
-/// of pricing takes their place. `Limit` comes only where that ends at a limit: a program is too wide or takes too many pivots, 200
-/// sets don't suffice, or a denominator or a weight is above 2^32. `NoMemory` comes at any time.
+/// of pricing takes their place. `Limit` comes only where that ends at a limit: a program is too wide or takes too many
+/// pivots, 200 sets don't suffice, or a denominator or a weight is above 2^32. `NoMemory` comes at any time.
 pub fn price(
     alloc: Global,
     exchange: &Exchange,
@@ -105,7 +111,7 @@ pub fn price(
 {
     let weights = weighted_values(alloc, exchange, bounds)?;
     let trade = Provisional::of(exchange, &weights, sets);
-    match cut(alloc, &trade) {
+    match cut(alloc, &trade)? {
         Some(pricing) => Ok(pricing),
         None => run_prices(alloc, &trade, &mut RunWork::none()),
     }
