@@ -8,8 +8,8 @@ use std::alloc::{AllocError, Global};
 /// The variables on the right, an equation for each variable on the left, one for the objective, and the cuts whose
 /// multipliers are among the variables.
 ///
-/// Each price has an endless small cost of its own: of equal points the one with the least sum of prices is sought, and
-/// almost no pivot gains nothing.
+/// Each price has an infinitesimal cost of its own, a perturbation: of equal points the one with the least sum of prices is
+/// sought, and almost no pivot gains nothing.
 #[derive(Drop)]
 pub(crate) struct Dictionary {
     goods: u8,

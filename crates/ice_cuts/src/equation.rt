@@ -15,8 +15,8 @@ pub(crate) enum Variable {
     Objective,
 }
 
-/// A variable by those on the right: `den` times it is `main`, and `small` times an endless small number, and the sum
-/// of each coefficient times its variable. `den` is above 0, and all numbers are in lowest terms.
+/// A variable by those on the right: `den` times it is `main`, and `small` times an infinitesimal, and the sum of each
+/// coefficient times its variable. `den` is above 0, and all numbers are in lowest terms.
 #[derive(Drop)]
 pub(crate) struct Equation {
     pub(crate) variable: Variable,

@@ -7,8 +7,8 @@ use crate::numbers::product;
 use crate::work::{GivenUp, MOST_PIVOTS, Work};
 use std::mem;
 
-/// How far the variable of an equation lets the entering one rise: `main`, and `small` times an endless small number,
-/// over `by`.
+/// How far the variable of an equation lets the entering one rise: `main`, and `small` times an infinitesimal, over
+/// `by`.
 #[derive(Clone, Copy)]
 struct Ratio {
     place: usize,
