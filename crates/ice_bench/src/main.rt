@@ -14,25 +14,23 @@ use crate::draws::Draws;
 use std::env::Env;
 use std::{env, io};
 
+// What is printed where the words are others.
+const USAGE: &str = "words: best, add, mul, cmp, read, solve or programs, and a number of calls";
+
 // The words behind the program's name.
 fn words<R: Env + AllocGlobal>(rt: &R) -> io::Result<Vec<String>> {
-    let mut words = Vec::new(rt.alloc());
-    let mut all = env::args(rt)?;
-    let _program = all.next();
-    for word in all {
-        words.push(word)?;
-    }
-    Ok(words)
+    Ok(env::args(rt)?.skip(1).collect(rt.alloc())?)
 }
 
-// The checksum of so many calls of the operation with this name.
-fn checksum(name: &str, calls: u32) -> u64 {
+// The checksum of so many calls of the operation with this name; None where there is no such operation.
+fn checksum(name: &str, calls: u32) -> Option<u64> {
     match name {
-        "best" => sets::best_calls(calls),
-        "add" => fractions::additions(calls),
-        "mul" => fractions::multiplications(calls),
-        "read" => records::bytes_read(calls),
-        _ => fractions::comparisons(calls),
+        "best" => Some(sets::best_calls(calls)),
+        "add" => Some(fractions::additions(calls)),
+        "mul" => Some(fractions::multiplications(calls)),
+        "cmp" => Some(fractions::comparisons(calls)),
+        "read" => Some(records::bytes_read(calls)),
+        _ => None,
     }
 }
 
@@ -59,14 +57,17 @@ fn print_programs<R: Print + AllocGlobal>(rt: &R, programs: u32) -> io::Result<(
 fn main(rt: HostRuntime) -> io::Result<()> {
     let words = words(&rt)?;
     let [name, calls] = words.as_slice() else {
-        return println!(rt;
-            "words: best, add, mul, cmp, read, solve or programs, and a number of calls"
-        );
+        return println!(rt; "{USAGE}");
     };
-    let calls = calls.parse::<u32>().unwrap_or(0);
+    let Ok(calls) = calls.parse::<u32>() else {
+        return println!(rt; "{USAGE}");
+    };
     match name.as_str() {
         "solve" => print_solved(&rt, calls),
         "programs" => print_programs(&rt, calls),
-        name => println!(rt; "{}", checksum(name, calls)),
+        name => match checksum(name, calls) {
+            Some(sum) => println!(rt; "{sum}"),
+            None => println!(rt; "{USAGE}"),
+        },
     }
 }

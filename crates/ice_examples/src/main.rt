@@ -13,13 +13,7 @@ use std::{env, io};
 
 // The words behind the program's name.
 fn words<R: Env + AllocGlobal>(rt: &R) -> io::Result<Vec<String>> {
-    let mut words = Vec::new(rt.alloc());
-    let mut all = env::args(rt)?;
-    let _program = all.next();
-    for word in all {
-        words.push(word)?;
-    }
-    Ok(words)
+    Ok(env::args(rt)?.skip(1).collect(rt.alloc())?)
 }
 
 // The lower values of the nodes, which are the true ones.

@@ -8,29 +8,27 @@ mod measured;
 mod provisional;
 mod searches;
 
-use crate::measured::measured;
+use crate::measured::{Part, measured};
 use ice_read::read_exchange;
 use ice_trade::Exchange;
 use std::alloc::{AllocError, Global};
 use std::env::Env;
 use std::{env, fs, io};
 
+// What is printed where the words are others.
+const USAGE: &str =
+    "words: cuts, run, sets or searches, the path of an exchange file, and how many times";
+
 // The words behind the program's name.
 fn words<R: Env + AllocGlobal>(rt: &R) -> io::Result<Vec<String>> {
-    let mut words = Vec::new(rt.alloc());
-    let mut all = env::args(rt)?;
-    let _program = all.next();
-    for word in all {
-        words.push(word)?;
-    }
-    Ok(words)
+    Ok(env::args(rt)?.skip(1).collect(rt.alloc())?)
 }
 
 // The line of the last of so many times.
 fn line_of(
     alloc: Global,
     exchange: &Exchange,
-    part: &str,
+    part: Part,
     times: u32,
 ) -> Result<String, AllocError> {
     for _time in 1..times {
@@ -44,11 +42,10 @@ fn main(rt: HostRuntime) -> io::Result<()> {
     let (part, path, times) = match words.as_slice() {
         [part, path] => (part, path, Ok(1)),
         [part, path, times] => (part, path, times.parse()),
-        _ => {
-            return println!(rt;
-                "words: cuts, run, sets or searches, the path of an exchange file, and how many times"
-            );
-        }
+        _ => return println!(rt; "{USAGE}"),
+    };
+    let Some(part) = Part::named(part.as_str()) else {
+        return println!(rt; "{USAGE}");
     };
     let Ok(times) = times else {
         return println!(rt; "no number of times");
@@ -57,7 +54,7 @@ fn main(rt: HostRuntime) -> io::Result<()> {
     let Ok(exchange) = read_exchange(rt.alloc(), bytes.as_slice()) else {
         return println!(rt; "no exchange file");
     };
-    match line_of(rt.alloc(), &exchange, part.as_str(), times) {
+    match line_of(rt.alloc(), &exchange, part, times) {
         Ok(line) => println!(rt; "{line}"),
         Err(_end) => println!(rt; "no memory is left"),
     }

@@ -55,9 +55,35 @@ fn by_run(alloc: Global, trade: &Provisional<'_>) -> Result<String, AllocError> 
     format!(in alloc; "turns {turns} pivots {pivots} {text}")
 }
 
+/// A part of a settlement.
+#[derive(Clone, Copy, PartialEq, Eq)]
+pub enum Part {
+    /// The prices of the provisional sets, by cutting planes.
+    Cuts,
+    /// The prices of the provisional sets, by the stated run.
+    Run,
+    /// The provisional sets.
+    Sets,
+    /// The best assignment at lower values, and its rival.
+    Searches,
+}
+
+impl Part {
+    /// The part of this name.
+    pub fn named(name: &str) -> Option<Part> {
+        match name {
+            "cuts" => Some(Part::Cuts),
+            "run" => Some(Part::Run),
+            "sets" => Some(Part::Sets),
+            "searches" => Some(Part::Searches),
+            _ => None,
+        }
+    }
+}
+
 /// What this part of the exchange's first settlement finds, with its work.
-pub fn measured(alloc: Global, exchange: &Exchange, part: &str) -> Result<String, AllocError> {
-    if part == "searches" {
+pub fn measured(alloc: Global, exchange: &Exchange, part: Part) -> Result<String, AllocError> {
+    if part == Part::Searches {
         return searched(alloc, exchange);
     }
     let weights = weighted_values(alloc, exchange, exchange.bounds())?;
@@ -68,8 +94,8 @@ pub fn measured(alloc: Global, exchange: &Exchange, part: &str) -> Result<String
     };
     let trade = Provisional::of(exchange, &weights, &sets);
     match part {
-        "cuts" => by_cuts(alloc, &trade),
-        "run" => by_run(alloc, &trade),
-        _ => String::from_str(alloc, "sets"),
+        Part::Cuts => by_cuts(alloc, &trade),
+        Part::Run => by_run(alloc, &trade),
+        Part::Sets | Part::Searches => String::from_str(alloc, "sets"),
     }
 }
