@@ -201,13 +201,13 @@ class TreeDrawing:
         )
 
 
-def trades(view: View, number: int) -> str:
-    """What a bidder buys and sells, as markup."""
+def trades(view: View, units: list[int]) -> str:
+    """What is bought and sold, as markup: the units bought of each good, less those sold."""
     said = []
     for word, sign in (("buys", 1), ("sells", -1)):
         goods = [
             (f"{numbers.whole(count * sign)} " if count * sign > 1 else "") + text(good.name)
-            for count, good in zip(view.units[number], view.journal.goods)
+            for count, good in zip(units, view.journal.goods)
             if count * sign > 0
         ]
         said += [tag("span", f'{word} {", ".join(goods)}', class_=word[:-1])] if goods else []
@@ -232,9 +232,23 @@ def reason(view: View, number: int) -> str:
     return tag("p", f"{words}.", class_="soft")
 
 
+def provisional(view: View, number: int) -> str:
+    """The set that a bidder would get, where the session waits for bids."""
+    group = view.journal.last.group("provisional")
+    if group is None:
+        return ""
+    bits = group.sets[number]
+    units = view.journal.bidders[number].units(bits, len(view.journal.goods))
+    nodes = [str(node) for node, bit in enumerate(bits) if bit == "1"]
+    where = f" (node{'s' * (len(nodes) > 1)} {', '.join(nodes)})" if nodes else ""
+    says = f"Its provisional set, by which bids are judged: {trades(view, units)}{where}."
+    return tag("p", says, class_="soft")
+
+
 def card(view: View, number: int) -> str:
     """One bidder: its trade, its payment and its tree."""
-    bidder, says, why = view.journal.bidders[number], trades(view, number), ""
+    bidder, says = view.journal.bidders[number], trades(view, view.units[number])
+    why = provisional(view, number)
     if view.journal.payments:
         payment = view.journal.payments[number].payment
         says += f', {"receives" if payment < 0 else "pays"} <b>{exact(abs(payment))}</b>'

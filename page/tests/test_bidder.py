@@ -83,6 +83,19 @@ class OneBidder(unittest.TestCase):
         self.assertEqual(facts["it receives"][0], "15.5 (31/2)")
         self.assertNotIn("it pays", facts)
 
+    def test_its_provisional_set(self):
+        lines = AIRPORT.splitlines()
+        begun = next(number for number, line in enumerate(lines) if line.startswith("submit "))
+        journal = "".join(f"{line}\n" for line in lines[:begun] + ["end open"])
+        for name, says in (
+            ("Meridian", "buys dep-0630, dep-0700, arr-2215 (nodes 0, 1, 2, 4)."),
+            ("Polar-Cargo", "no trade."),
+        ):
+            cards = page_of(journal, "--bidder", name).root.all("article")
+            self.assertIn(f"Its provisional set, by which bids are judged: {says}", cards[0].text)
+            self.assertNotIn("Its provisional set", page_of(AIRPORT, "--bidder", name).root.text)
+        self.assertEqual(page_of(journal).root.text.count("Its provisional set"), len(NAMES))
+
     def test_nothing_of_the_others(self):
         for name in NAMES:
             page = page_of(AIRPORT, "--bidder", name, "--checked", "yes 32 0/1")
