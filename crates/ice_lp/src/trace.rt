@@ -51,6 +51,7 @@ fn run(alloc: Global, dictionary: &mut Dictionary, pivots: &mut u32) -> Result<O
     ensures stopped { IfErr result (IsEnd (end_from 2000 0 dictionary.old)) }
     ensures counted_low { pivots.old ≤ pivots.new }
     ensures counted_high { pivots.new ≤ pivots.old + 2000 }
+    ensures counted_all { IfErr result (λ e. e ≡ LpEnd.Pivots → pivots.new ≡ pivots.old + 2000) }
 {
     let mut left: u32 = 2000;
     'turns: loop {
@@ -86,6 +87,7 @@ pub fn solve(alloc: Global, program: &Program, pivots: &mut u32) -> Result<LpAns
     ensures stopped { IfErr result (IsEnd (trace_end program.now)) }
     ensures counted_low { pivots.old ≤ pivots.new }
     ensures counted_high { pivots.new ≤ pivots.old + 2000 }
+    ensures counted_all { IfErr result (λ e. e ≡ LpEnd.Pivots → pivots.new ≡ pivots.old + 2000) }
 {
     let _ = program.costs();
     let mut dictionary = first(alloc, program)?;
