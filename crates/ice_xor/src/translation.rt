@@ -6,7 +6,7 @@ ghost use Rattle.ice_trade.specs.Parts.{with_bidder};
 ghost use Rattle.ice_xor.specs.FlatBids.{translated, translated_bidder};
 ghost use Rattle.ice_xor.specs.Lawful.{IsFlatBidder};
 ghost use Rattle.ice_xor.specs.Translating.{tree_refusal, or_later, translate_refusal};
-ghost use Rattle.ice_xor.specs.Faults.{IsTranslateFault, IsRefusedBy};
+ghost use Rattle.ice_xor.specs.Faults.{IsTranslateFault, IsRefusedBy, TellsSaleOf, TellsItsSale};
 
 use crate::bidders::FlatBidder;
 use crate::building::tree_of;
@@ -25,6 +25,7 @@ fn add_bidder(exchange: &mut ExchangeMaker, bidder: &FlatBidder) -> Result<(), M
         (or_later (tree_refusal (length exchange.old.goods) bidder.now)
         (bidder_refusal (length exchange.old.goods) exchange.old.bidders
         (translated_bidder bidder.now))) }
+    ensures sale { IfErr result (TellsSaleOf (length exchange.old.goods) bidder.now) }
 {
     let (tree, bounds) = match tree_of(exchange.goods(), bidder) {
         Ok(made) => made,
@@ -48,6 +49,7 @@ pub fn translate(alloc: Global, flat: &FlatExchange) -> Result<Exchange, Transla
     ensures lawful { IfOk result IsExchange }
     ensures allowed { IfOk result (λ exchange. translate_refusal flat.now ≡ None) }
     ensures refused { IfErr result (IsTranslateFault (translate_refusal flat.now)) }
+    ensures sale { IfErr result (TellsItsSale flat.now) }
 {
     let Ok(mut exchange) = flat.goods.without_bidders(alloc) else {
         return Err(TranslateFault::NoMemory);
