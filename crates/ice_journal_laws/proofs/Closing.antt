@@ -79,7 +79,7 @@ payment_line vickrey worth cut p h = record {
 
 -- ---- the payments so far
 
-abbrev no_payment : Payment
+abbrev pub no_payment : Payment
 no_payment = record { name = []; vickrey = pos 0; discount = whole (pos 0); payment = whole (pos 0) }
 
 abbrev pub payment_at : List Payment → ℕ → Payment

@@ -4,12 +4,14 @@ use Rattle.std.specs.Prelude.{Some, option_map, ◌-ℤ◌, slice_index_or}
 use Rattle.std.specs.Str.{bytes_eq}
 use Rattle.std.proofs.lemmas.Bool.{eqb-true, eqb-false}
 use Rattle.std.proofs.lemmas.Option.{none-some}
-use Rattle.std.proofs.lemmas.List.{append_assoc, map-append}
+use Rattle.std.proofs.lemmas.List.{append_assoc, map-append, get_or-map, length-map}
 use Rattle.std.proofs.lemmas.Slice.Eq.{bytes_eq-Decides}
 use Rattle.ice_defs.specs.Set.{value}
 use Rattle.ice_defs.specs.Trade.{Assignment, set_of, weights_of}
 use Rattle.ice_defs.specs.Weighing.{lower_weights}
-use Rattle.ice_defs.specs.Fraction.{IsFraction}
+use Rattle.ice_defs.specs.Fraction.{Fraction, whole, IsFraction, Equals, less}
+use Rattle.ice_defs.specs.Cut.{cut_down}
+use Rattle.ice_frac.proofs.Fractions.{Equals-trans, Equals-less, proper_less}
 use Rattle.ice_defs.specs.Exchange.{names_of}
 use Rattle.ice_defs.specs.Session.{Proved, Settlement, Going, Payment, Closed}
 use Rattle.ice_journal.specs.Records.{Record, Version, session_kind, closed_end}
@@ -26,7 +28,7 @@ use Rattle.ice_journal_laws.specs.Stops.{all_going_records}
 use Rattle.ice_journal_laws.proofs.Grouping.{of_same, Tells, tells_more}
 use Rattle.ice_journal_laws.proofs.Regretting.{some_bidder}
 use Rattle.ice_journal_laws.proofs.Past.{settled_right}
-use Rattle.ice_journal_laws.proofs.Closing.{threshold_line, payment_line, IsPaid, ArePaid, none_paid, paid_more, closed_right}
+use Rattle.ice_journal_laws.proofs.Closing.{threshold_line, payment_line, IsPaid, ArePaid, none_paid, paid_more, no_payment, payment_at, closed_right}
 use Rattle.ice_journal_laws.proofs.Sessions.{Past, Settled, WithoutEach, without_text, payment_text, unended_records, IsAt, IsStanding}
 
 -- ---- what is written
@@ -95,6 +97,19 @@ module _ (perturbed : PerturbedGivesRegret) (before : List Record) (s : State) (
       test = h.settled.test;
       regret_is = h.settled.regret_is;
       surplus_is = refl;
+      sets_are = h.settled.sets_are;
+      cut_is = refl;
+      paid = λ i l.
+          let there : i < length payments = omega (arith, l, length-map payments (λ (p : Payment). p.payment)) in
+          let one = h.paid.each i there in
+          let at = get_or-map (λ (p : Payment). p.payment) payments i no_payment (whole (pos 0)) there in (
+            final_worth s i,
+            slice_index_or (vickreys s) i (pos 0),
+            subst (λ (f : Fraction). Equals f (less (whole (final_worth s i)) (cut_down s.cut (slice_index_or (vickreys s) i (pos 0))))) (sym at)
+                (Equals-trans (payment_at payments i).payment (less (whole (final_worth s i)) (payment_at payments i).discount) (less (whole (final_worth s i)) (cut_down s.cut (slice_index_or (vickreys s) i (pos 0))))
+                (proper_less (final_worth s i) (payment_at payments i).discount one.discount_proper) one.line.payment
+                (Equals-less (whole (final_worth s i)) (payment_at payments i).discount (whole (final_worth s i)) (cut_down s.cut (slice_index_or (vickreys s) i (pos 0))) refl one.line.discount)),
+          );
     },
     subst (Tells before s) (last_text (all_going_records 0 past) s.number (record { settlement = x; withouts = ps; cut = s.cut; surplus = s.surplus; payments = payments })) h.tells,
   )

@@ -96,6 +96,10 @@ module _ (lawful : SectionIsLawful) (described : SectionRecords) (refutes : LogR
       exchange = refl;
       regret = ended.regret_is;
       surplus = ended.surplus_is;
+      bounds = earlier.after;
+      final = ended.sets_are;
+      cut = ended.cut_is;
+      paid = ended.paid;
     },
   )
 

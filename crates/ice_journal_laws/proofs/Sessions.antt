@@ -16,7 +16,8 @@ use Rattle.ice_defs.specs.Fraction.{Fraction, IsFraction}
 use Rattle.ice_defs.specs.Exchange.{Exchange, trees_of, exact_of, names_of}
 use Rattle.ice_defs.specs.declared.Group.TheVariants.{Final, Rival, Provisional, Without}
 use Rattle.ice_defs.specs.Session.{Proved, Settlement, Going, Payment, Closed, closes}
-use Rattle.ice_defs.specs.Right.{IsBestFound, IsGoing, IsClosed}
+use Rattle.ice_defs.specs.Right.{IsBestFound, IsGoing, IsClosed, payments_of}
+use Rattle.ice_journal_laws.specs.Theorems.{ArePaidByCut}
 use Rattle.ice_journal.specs.Records.{Record, Version, session_kind, closed_end}
 use Rattle.ice_journal.specs.Records as line
 use Rattle.ice_section.specs.Section.{no_section}
@@ -67,12 +68,15 @@ pub record AreWithout (ex : Exchange) (bounds : List Bounds) (withouts : List �
   pub values : map (λ p. p.value) ps ≡ withouts
   pub best : AllByRecursion (λ p. IsBestWithout (trees_of ex) (exact_of ex) (lower_weights bounds) p.0 (p.1).value) (zip (numbers_below (length ps)) ps)
 
--- a closed settlement, with the end's regret and surplus
-pub record HasEnded (ex : Exchange) (number : ℕ) (bounds : List Bounds) (regret : ℤ) (surplus : Fraction) (c : Closed) : Type 0 where
+-- a closed settlement, with the end's final sets, regret, cut and surplus
+pub record HasEnded (ex : Exchange) (number : ℕ) (bounds : List Bounds) (final : Assignment) (regret : ℤ) (cut surplus : Fraction) (c : Closed) : Type 0 where
   pub closed : IsClosed ex bounds c
   pub test : closes ex.settings number c.settlement.regret ≡ true
   pub regret_is : c.settlement.regret ≡ regret
   pub surplus_is : c.surplus ≡ surplus
+  pub sets_are : c.settlement.final.sets ≡ final
+  pub cut_is : c.cut ≡ cut
+  pub paid : ArePaidByCut c.cut (payments_of c)
 
 -- the same by the state
 abbrev pub Opened : State → List Going → Type 0
@@ -94,7 +98,7 @@ abbrev pub WithoutEach : State → ℕ → List Proved → Type 0
 WithoutEach s bidder ps = AreWithout (exchange_at s) s.bounds s.withouts bidder ps
 
 abbrev pub Ended : State → Closed → Type 0
-Ended s c = HasEnded (exchange_at s) s.number s.bounds s.regret s.surplus c
+Ended s c = HasEnded (exchange_at s) s.number s.bounds s.final.sets s.regret s.cut s.surplus c
 
 abbrev pub Priced : State → Type 0
 Priced s = ArePrices (goods_at s) (settings_at s).cap s.prices

@@ -1,13 +1,14 @@
 -- Why a checked journal may be trusted: the theorems of the checker, as statements.
-use Rattle.std.specs.Prelude.{◌≡◌, List, ◌∷◌, ℤ}
+use Rattle.std.specs.Prelude.{ℕ, ◌<◌, ◌≡◌, List, ◌∷◌, length, ℤ}
 use Rattle.std.specs.List.{AllByRecursion}
 use Rattle.ice_defs.specs.Trade.{IsFeasible, total_value}
 use Rattle.ice_defs.specs.Weighing.{lower_weights}
-use Rattle.ice_defs.specs.Fraction.{Fraction}
+use Rattle.ice_defs.specs.Fraction.{Fraction, whole, Equals, less, fraction_at}
+use Rattle.ice_defs.specs.Cut.{cut_down}
 use Rattle.ice_defs.specs.Exchange.{trees_of, exact_of, opening_bounds}
 use Rattle.ice_defs.specs.Lawful.{IsExchange}
 use Rattle.ice_defs.specs.Session.{Assigned, Regretted, Session}
-use Rattle.ice_defs.specs.Right.{IsSettled, IsRight}
+use Rattle.ice_defs.specs.Right.{IsSettled, IsRight, final_bounds, payments_of}
 use Rattle.ice_defs.specs.Headline.{Headline}
 use Rattle.ice_journal.specs.Records.{Record, Kind, assign_kind, regret_kind, session_kind}
 use Rattle.ice_journal.specs.Records as line
@@ -67,13 +68,21 @@ DoneIsRegretted = (journal : List Record) (s : State) → AllByRecursion IsRecor
 abbrev pub ChecksGiveRegret : Type 0
 ChecksGiveRegret = (journal : List Record) → HasKind regret_kind journal → AllByRecursion IsRecord journal → Checks journal → (r : Regretted) × Says journal (regretted_records r) × IsRightRegret r
 
--- where the records of a session lead to its end, they state the end's exchange and a right session, with the end's regret and surplus
+-- each payment is a whole number less a discount, which the cut leaves of another whole number
+abbrev pub ArePaidByCut : Fraction → List Fraction → Type 0
+ArePaidByCut cut payments = (i : ℕ) → i < length payments → (worth vickrey : ℤ) × Equals (fraction_at payments i) (less (whole worth) (cut_down cut vickrey))
+
+-- where the records of a session lead to its end, they state the end's exchange and a right session, with the end's regret, surplus, bounds, final sets and cut
 pub record IsSessionAt (journal : List Record) (s : State) (x : Session) : Type 0 where
   pub says : Says journal (session_records x)
   pub right : IsRight x
   pub exchange : x.exchange ≡ exchange_at s
   pub regret : x.closed.settlement.regret ≡ s.regret
   pub surplus : x.closed.surplus ≡ s.surplus
+  pub bounds : final_bounds x ≡ s.bounds
+  pub final : x.closed.settlement.final.sets ≡ s.final.sets
+  pub cut : x.closed.cut ≡ s.cut
+  pub paid : ArePaidByCut x.closed.cut (payments_of x.closed)
 
 abbrev pub IsSession : List Record → State → Type 0
 IsSession journal s = (x : Session) × IsSessionAt journal s x
