@@ -4,7 +4,7 @@ ghost use Rattle.std.specs.Int.{int_max};
 ghost use Rattle.ice_defs.specs.Set.{weight_of, value};
 ghost use Rattle.ice_best.specs.Nets.{AreAtMostTrillion};
 ghost use Rattle.ice_defs.specs.Sum.{sum_below};
-ghost use Rattle.ice_rows.specs.Sums.{AreZero, wanted_in};
+ghost use Rattle.ice_rows.specs.Sums.{AreZero, units_in, wanted_in};
 ghost use Rattle.ice_rows.specs.Sizes.{IsSizedWithin};
 ghost use Rattle.ice_certificate.specs.Bounded.{AddsRow};
 
@@ -152,18 +152,29 @@ impl RowSums {
     }
 
     /// The weights' sum.
-    pub(crate) fn weight(&self) -> u64
+    pub fn weight(&self) -> u64
         ensures { result ≡ self.now.weight }
     {
         self.weight
     }
 
     /// What the rows are worth by weight.
-    pub(crate) fn worth(&self) -> i128
+    pub fn worth(&self) -> i128
         ensures value { result ≡ self.now.worth }
         ensures low { neg_ℤ (pos (2 ^ 89)) ≤ℤ result }
         ensures high { result ≤ℤ pos (2 ^ 89) }
+        ensures sized { IsSizedWithin (self.now.weight * 2 ^ 49) result }
     {
         self.worth
+    }
+
+    /// The units of a good, a number below 32, that the rows ask for by weight.
+    pub fn units_of(&self, good: u8) -> i128
+        requires { good < 32 }
+        ensures value { result ≡ units_in self.now good }
+        ensures low { neg_ℤ (pos (2 ^ 59)) ≤ℤ result }
+        ensures high { result ≤ℤ pos (2 ^ 59) }
+    {
+        self.units[good as usize]
     }
 }

@@ -47,7 +47,7 @@ impl CertificateRow {
 
 impl Certificate {
     /// The sums of the rows. None exactly where one of them is no row of the trade.
-    fn sums(&self, trade: &Provisional<'_>) -> Option<RowSums>
+    pub fn sums(&self, trade: &Provisional<'_>) -> Option<RowSums>
         requires { IsLimited self.now }
         ensures sums { let t = trade.now in
             IfSome result (λ s. AllByRecursion (IsRow t.trees t.weights t.sets) self.now.rows
@@ -67,7 +67,7 @@ impl Certificate {
 
     /// Whether the rows show that no prices within the cap have a violation below `violation` over the denominator of
     /// these prices. Takes no memory.
-    pub(crate) fn passes_accuracy(
+    pub fn passes_accuracy(
         &self,
         trade: &Provisional<'_>,
         prices: &Prices,
