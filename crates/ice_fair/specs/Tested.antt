@@ -1,0 +1,38 @@
+-- Prices that pass the tests of fair prices.
+use Rattle.std.specs.Prelude.{ℕ, ◌<◌, ◌≤◌, ◌≡◌, ◌^◌, List, length, ℤ}
+use Rattle.std.specs.List.{AllByRecursion}
+use Rattle.ice_defs.specs.Prices.{Prices, ArePrices}
+use Rattle.ice_defs.specs.Fraction.{Fraction}
+use Rattle.ice_defs.specs.Rows.{IsRow, Certificate, PassesAccuracy, HasCommonDivisor}
+use Rattle.ice_fair_laws.specs.Fair.{PaidTrade, FairCertificate, IsDistance, HasViolationOf, PassesFairness, total_held}
+use Rattle.ice_fair_laws.specs.Whole.{IsEven}
+use Rattle.ice_fair_laws.specs.Laws.{violation_of}
+
+-- a denominator from 1 to 2^24, two numbers a bidder and at most 200 rows of weights, all at most 2^24
+pub record IsFairLimited (bidders : ℕ) (c : FairCertificate) : Type 0 where
+  pub positive : 0 < c.den
+  pub den_fits : c.den ≤ 2 ^ 24
+  pub low_count : length c.low ≡ bidders
+  pub high_count : length c.high ≡ bidders
+  pub low_fits : AllByRecursion (λ n. n ≤ 2 ^ 24) c.low
+  pub high_fits : AllByRecursion (λ n. n ≤ 2 ^ 24) c.high
+  pub few : length c.rows ≤ 200
+  pub weights_fit : AllByRecursion (λ row. row.weight ≤ 2 ^ 24) c.rows
+
+pub record PassesFairTests (t : PaidTrade) (p : Prices) (violation : ℤ) (accuracy : Certificate) (distance : Fraction) (c : FairCertificate) : Type 0 where
+  pub within : ArePrices t.goods t.cap p
+  pub lowest : ¬ HasCommonDivisor p
+  pub violates : HasViolationOf t p violation
+  pub accurate : PassesAccuracy t.trees t.weights t.sets t.goods t.cap p violation accuracy
+  pub distance_is : IsDistance t p distance
+  pub fairness : PassesFairness t c (violation_of p violation) distance
+
+-- the numbers of both lists with the rows of a certificate
+abbrev pub numbers_of : Certificate → List ℕ → List ℕ → FairCertificate
+numbers_of c low high = record { den = c.den; low = low; high = high; rows = c.rows }
+
+-- all that the fairness test asks for of lists of the right length, as whole numbers
+pub record IsTested (t : PaidTrade) (c : FairCertificate) (p : Prices) (x : ℤ) (n : ℕ) (a : ℕ → ℤ) (g : ℤ) : Type 0 where
+  pub rows : AllByRecursion (IsRow t.trees t.weights t.sets) c.rows
+  pub numbers : total_held c ≤ c.den
+  pub even : IsEven t c p x n a g

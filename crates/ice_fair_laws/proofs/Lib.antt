@@ -1,0 +1,11 @@
+pub mod Linear
+pub mod Overs
+pub mod Held
+pub mod Nearest
+pub mod Wholes
+pub mod Small
+pub mod Points
+pub mod Fairs
+pub mod FairColumns
+pub mod FairCertified
+pub mod Turns
