@@ -1,0 +1,4 @@
+pub mod Puts
+pub mod Gathers
+pub mod Named
+pub mod Judged

@@ -1,0 +1,13 @@
+//! Private statements: what a closed session's journal says to one of its bidders.
+#![tactic(auto)]
+
+mod gathering;
+mod judging;
+mod lines;
+mod putting;
+#[cfg(test)]
+mod tests;
+
+pub use ice_pieces::Rule;
+pub use judging::{StatementEnd, judge};
+pub use putting::put_statement;

@@ -1,0 +1,17 @@
+pub mod Shown
+pub mod Walking
+pub mod Describing
+pub mod Accepting
+pub mod Parting
+pub mod Stating
+pub mod Tested
+pub mod Deciding
+pub mod Spelling
+pub mod Answering
+pub mod Ranging
+pub mod Whole
+pub mod Gathered
+pub mod Meaning
+pub mod Beginning
+pub mod Worked
+pub mod Proved

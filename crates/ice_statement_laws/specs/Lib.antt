@@ -1,0 +1,7 @@
+pub mod Statement
+pub mod Audit
+pub mod Own
+pub mod Parts
+pub mod Texts
+pub mod Laws
+pub mod Gathering
