@@ -1,0 +1,4 @@
+pub mod Proposals
+pub mod Bidders
+pub mod Sessions
+pub mod Laws

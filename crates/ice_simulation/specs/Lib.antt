@@ -1,0 +1,4 @@
+pub mod TruthFile
+pub mod Faults
+pub mod Rounds
+pub mod Laws
