@@ -1,3 +1,4 @@
+//! The bid of one bidder in a round.
 ghost use Rattle.std.specs.Prelude.{◌≡◌};
 ghost use Rattle.ice_bid.specs.Bids.{AreValues, IsBid};
 

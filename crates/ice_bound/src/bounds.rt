@@ -77,7 +77,7 @@ impl Room {
 /// No feasible assignment that meets the fixings is worth more than an `AtMost`, and after `Dead` there is none.
 ///
 /// There are at most 40 trees. Each weight is at most 100,000,000,000 in size, and no multiplier of a good that isn't
-/// exact is negative. Takes no memory. Time: one recursion over each tree.
+/// exact is negative. Takes no memory. Time: one pass over each tree.
 pub fn bound(
     trees: &[Tree],
     weights: &AllWeights,

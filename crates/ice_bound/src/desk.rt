@@ -13,8 +13,11 @@ use std::alloc::{AllocError, Global};
 /// are exact.
 #[derive(Drop)]
 pub struct Desk {
+    /// The side that `bound_here` looks at.
     pub marks: Fixings,
+    /// The sides that a log has left open, each by the bidder and the node at which it was split.
     pub sides: Vec<(u8, u16)>,
+    /// Room for the multipliers and the nets of a tree.
     pub room: Room,
     ghost roomy: { 2000 ≤ vec_capacity sides },
 }

@@ -236,8 +236,9 @@ impl<'a> Kept<'a> {
         self.found.renew_mark(bidder, &trees[bidder as usize], self.marks.of(bidder), node);
     }
 
-    /// Gives a good another multiplier, from -2^56 to 2^56, and 0 or more where the good isn't exact. Time: one recursion
-    /// over each tree that has a leaf of the good and whose relaxed set may change with it.
+    /// Gives a good another multiplier, from -2^56 to 2^56, and 0 or more where the good isn't
+    /// exact. Time: in each tree that has a leaf of the good, one pass over the leaves of it and
+    /// the nodes above them.
     pub fn multiplier(&mut self, good: u8, number: i64)
         requires good { good < length self.old.exact }
         requires number { IsMultiplier (is_exact self.old.exact good) number }
@@ -258,9 +259,10 @@ impl<'a> Kept<'a> {
         );
     }
 
-    /// Whether the sum of the bidders' greatest nets would be at least this where the good's multiplier was one more, or one
-    /// less. No bidder is dead, and the multiplier stays in its range. What is kept stays. Time: a pass over the trees that
-    /// have a leaf of the good, and one recursion over each of them until the answer is known.
+    /// Whether the sum of the bidders' greatest nets would be at least this where the good's
+    /// multiplier was one more, or one less. No bidder is dead, and the multiplier stays in its
+    /// range. What is kept stays: the table of a tree with a leaf of the good is moved to that
+    /// multiplier and back, tree by tree until the answer is known.
     pub fn reaches_beside(&mut self, good: u8, rises: bool, least: i128) -> bool
         requires good { good < length self.old.exact }
         requires live { IsLive self.old.trees self.old.marks }
@@ -289,7 +291,8 @@ impl<'a> Kept<'a> {
         beside.reaches(least, &mut found.tables, &mut *found.scratch)
     }
 
-    /// Gives all goods these multipliers. Time: one recursion over each tree, unless they are those that are kept.
+    /// Gives all goods these multipliers. Time: one pass over each tree, unless they are those that
+    /// are kept.
     pub fn put_multipliers(&mut self, m: &Multipliers)
         requires { AreMultipliersOf self.old.exact m.now }
         ensures trees { self.new.trees ≡ self.old.trees }
@@ -306,7 +309,7 @@ impl<'a> Kept<'a> {
             .renew_all(self.trees, self.weights, &self.m, &self.marks);
     }
 
-    /// Takes these marks and multipliers in the place of all others. Time: one recursion over each tree.
+    /// Takes these marks and multipliers in the place of all others. Time: one pass over each tree.
     pub fn put_side(&mut self, marks: &Fixings, m: &Multipliers)
         requires marks { AreFixingsOf self.old.trees marks.now }
         requires multipliers { AreMultipliersOf self.old.exact m.now }

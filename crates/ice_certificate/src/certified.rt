@@ -131,10 +131,12 @@ impl RowSums {
         times_den(den_of(prices), self.worth()) - 100 * times_top(den, top(prices))
     }
 
-    /// Whether the rows pass the accuracy test of a certificate with the denominator `den`, from 1 on: the weights
-    /// sum to at most `den`, and what the rows are worth by weight, less what their wanted units cost at the cap,
-    /// is the violation by `den`. Then no prices of so many goods, at most 32, within the cap have a violation
-    /// below `violation` over the prices' denominator. The cap is at most 1,000,000,000. Takes no memory.
+    /// Whether the sums pass the accuracy test of a certificate with the denominator `den`, from 1 on:
+    /// the weights sum to at most `den`, and `den` times the violation is what the rows are worth by
+    /// weight, less what their wanted units cost at the cap in hundredths, times the denominator of the
+    /// prices. Where these are the sums of rows, no prices of so many goods, at most 32, within the cap
+    /// have a violation below `violation` over that denominator. The cap is at most 1,000,000,000.
+    /// Takes no memory.
     pub fn pass_accuracy(
         &self,
         goods: u8,

@@ -15,6 +15,7 @@ use ice_tree::Bounds;
 pub struct DueRegret<'a> {
     /// Its number, from 0.
     pub number: u8,
+    /// The exchange of the session.
     pub exchange: &'a Exchange,
     /// The bounds of each bidder in it.
     pub bounds: &'a [Bounds],

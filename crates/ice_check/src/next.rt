@@ -1,3 +1,4 @@
+//! What a checker awaits behind the section of the exchange.
 use ice_defs::Group;
 
 /// What comes next in a journal whose exchange is complete.

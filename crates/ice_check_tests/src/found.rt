@@ -1,3 +1,4 @@
+//! Answers of the checker in short.
 use ice_pieces::{Answer, Rule};
 
 /// An answer in short: a surplus is its numerator and its denominator.

@@ -1,3 +1,4 @@
+//! Journals with one line changed, and what the checker answers.
 use crate::found::{Change, Found};
 use crate::samples::{ASSIGN, NEAR, REGRET, RIVALS};
 use crate::sessions::{

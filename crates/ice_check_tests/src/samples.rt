@@ -1,3 +1,4 @@
+//! The journals that are changed.
 /// The lines of a journal of kind assign: a seller of a unit at 10, and a buyer of it at 20 to 30.
 pub const ASSIGN: [&str; 11] = [
     "ice 1 assign",

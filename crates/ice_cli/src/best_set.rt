@@ -16,8 +16,11 @@ use ice_tree::NodeSet;
 /// A bidder's best set at prices: its net, at weighted values and times the prices' denominator.
 #[derive(Drop)]
 pub struct BestSet {
+    /// The bidder's name.
     pub name: Name,
+    /// The net of the set.
     pub net: i128,
+    /// The set, one bit a node.
     pub set: NodeSet,
     ghost has_bits: { IsBits set },
 }

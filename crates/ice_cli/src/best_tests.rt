@@ -1,3 +1,4 @@
+//! Tests of `best`.
 use crate::serve::serve;
 use ice_edge::{MemShelf, MemSink, Shelf, Status};
 use std::alloc::Global;

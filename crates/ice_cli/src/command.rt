@@ -7,31 +7,39 @@ use ice_line::natural;
 
 /// A command, with the names of its files.
 pub enum Command<'a> {
+    /// `check JOURNAL`
     Check {
         journal: &'a str,
     },
+    /// `best EXCHANGE PRICES`
     Best {
         exchange: &'a str,
         prices: &'a str,
     },
+    /// `regret EXCHANGE`
     Regret {
         exchange: &'a str,
     },
+    /// `xor FILE`
     Xor {
         file: &'a str,
     },
+    /// `replay JOURNAL N`
     Replay {
         journal: &'a str,
         /// The number of a settlement, at most 20.
         number: u8,
     },
+    /// `gen NUMBER`
     Gen {
         number: u32,
     },
+    /// `run EXCHANGE ROUND..`, with up to 20 round files
     Run {
         exchange: &'a str,
         rounds: &'a [String],
     },
+    /// `migrate JOURNAL`
     Migrate {
         journal: &'a str,
     },

@@ -1,3 +1,4 @@
+//! Tests of exchange files in JSON, by what `best` writes of them.
 use crate::serve::serve;
 use ice_edge::{MemShelf, MemSink, Status};
 use std::alloc::Global;

@@ -1,3 +1,4 @@
+//! Tests of words and of `check`.
 use crate::serve::serve;
 use ice_edge::{MemShelf, MemSink, Status};
 use std::alloc::Global;

@@ -1,3 +1,4 @@
+//! A shelf whose files lie in memory.
 ghost use Rattle.std.specs.Prelude.{◌≡◌, ◌==◌, ◌≤◌, length, map, IfOk, IfErr, Err, IsErrOf, OnOk, OnErr, Some, None, MatchOption};
 ghost use Rattle.std.specs.List.{list_any};
 ghost use Rattle.ice_edge.specs.Told.{IsLater, AreTold, IsLonger, FaultRose, OverlongRose};

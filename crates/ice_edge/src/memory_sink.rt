@@ -1,3 +1,4 @@
+//! A sink that keeps in memory what it takes.
 ghost use Rattle.std.specs.Prelude.{◌≡◌, ℕ, ◌≤◌, ◌↔◌, ◌++◌, length, IfOk, OnOk, OnErr, IsErr, IsTrue, Some};
 ghost use Rattle.ice_edge.specs.Edge.{Rose, Appends, AppendsFront};
 ghost use Rattle.ice_edge.specs.MemorySink.{taken_of, is_due as due, empty_sink, with_planned, is_next_failing, after_put};
@@ -9,7 +10,9 @@ use std::marker::Model;
 /// A put that is to fail: its number, from 1 on, and how many bytes of its piece it takes at most.
 #[derive(Clone, Copy, Debug)]
 pub struct PlannedFault {
+    /// The number of the put, from 1 on.
     pub call: u64,
+    /// How many bytes of its piece it takes at most.
     pub taken: usize,
 }
 

@@ -1,3 +1,4 @@
+//! Where files come from.
 ghost use Rattle.std.specs.Prelude.{◌≡◌, ◌≤◌, length, IfOk, IsErrOf, OnOk};
 ghost use Rattle.ice_edge.specs.Told.{Told, IsLater, AreTold, IsLonger, FaultRose, OverlongRose};
 
@@ -6,8 +7,11 @@ use std::alloc::{AllocError, Global};
 /// Why a file could not be fetched.
 #[derive(Clone, Copy, Debug, PartialEq, Eq)]
 pub enum FetchFault {
+    /// The file could not be read.
     Failed,
+    /// It has more bytes than the limit.
     TooLong,
+    /// Memory ran out.
     NoMemory,
 }
 

@@ -18,7 +18,9 @@ use std::alloc::{AllocError, Global};
 /// A generated exchange, and for each of its bidders the true values, as bounds whose lower and upper values are equal.
 #[derive(Drop)]
 pub struct Generated {
+    /// The exchange, with its opening bounds.
     pub exchange: Exchange,
+    /// The true values of each bidder, in the order of the exchange.
     pub truth: Vec<Bounds>,
 }
 

@@ -1,3 +1,4 @@
+//! Fractions in lowest terms, read.
 ghost use Rattle.std.specs.Prelude.{◌≡◌, ℕ, ◌<◌, ◌≤◌, ◌^◌, ◌++◌, ◌∷◌, pos, neg_ℤ, IsTrue, ◌↔◌, MatchOption, Contains, option_map, unsigned_abs};
 ghost use Rattle.std.specs.Int.{IsGcd};
 ghost use Rattle.ice_journal.specs.Reading.{Finds};

@@ -1,3 +1,4 @@
+//! The words and numbers of single fields, read.
 ghost use Rattle.std.specs.Prelude.{◌≡◌, ℕ, ◌-◌, ◌≤◌, ◌^◌, ◌++◌, ◌∷◌, [], length, map, codes, decimal, pos, negsuc, neg_ℤ, IsTrue, ◌↔◌, MatchOption, unsigned_abs, Contains, option_map, FitsSigned, ◌≤ℤ◌};
 ghost use Rattle.std.specs.Fmt.{signed_decimal};
 ghost use Rattle.std.specs.Int.{IsGcd};

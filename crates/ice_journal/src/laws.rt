@@ -1,3 +1,4 @@
+//! Laws of records and of the bytes of journals.
 ghost use Rattle.std.specs.Prelude.{◌≡◌, ℕ, List, ◌∷◌, Result};
 ghost use Rattle.ice_journal.specs.Records.{Kind, Record, version_1};
 ghost use Rattle.ice_journal.specs.Records as line;

@@ -1,3 +1,4 @@
+//! What records say.
 use arrayvec::ArrayVec;
 use ice_defs::{NodeKind, Verdict};
 use ice_set::NodeSet;
@@ -6,46 +7,67 @@ use ice_terms::{Name, Prices, Settings};
 /// The version of a journal.
 #[derive(Clone, Copy, Debug, PartialEq, Eq)]
 pub enum Version {
+    /// Version 1, in which each leaf has all its multipliers.
     One,
+    /// Version 2, in which a leaf has those that differ from the leaf before it.
     Two,
 }
 
 /// What a journal or a file in line form is of.
 #[derive(Clone, Copy, Debug, PartialEq, Eq)]
 pub enum Kind {
+    /// An assignment.
     Assign,
+    /// The regret of an assignment.
     Regret,
+    /// A session.
     Session,
+    /// An exchange, as a file.
     Exchange,
+    /// Prices, as a file.
     Prices,
 }
 
 /// The last word of a journal or a file.
 #[derive(Clone, Copy, Debug, PartialEq, Eq)]
 pub enum EndWord {
+    /// The end of an assignment.
     Assign,
+    /// The end of an exchange file.
     Exchange,
+    /// The end of a prices file.
     Prices,
+    /// The end of a regret.
     Regret,
+    /// The session closed.
     Closed,
+    /// The session waits for a round of bids.
     Open,
+    /// The branches were used up.
     Spent,
+    /// The pricing came to a limit.
     Limit,
 }
 
 /// Where a pricing run ended before its prices were found.
 #[derive(Clone, Copy, Debug, PartialEq, Eq)]
 pub enum Stage {
+    /// While the violation was made least.
     Accuracy,
+    /// While the greatest price was made least.
     Balance,
 }
 
 /// Why a pricing run ended before its prices were found.
 #[derive(Clone, Copy, Debug, PartialEq, Eq)]
 pub enum LimitKind {
+    /// A number didn't fit in 128 bits.
     Wide,
+    /// More than 2,000 pivots would have been needed.
     Pivots,
+    /// A set was to be added to 200.
     Rows,
+    /// A denominator or a weight was above 2^32.
     Den,
 }
 
@@ -53,14 +75,18 @@ pub enum LimitKind {
 /// from -2^56 to 2^56.
 #[derive(Clone, Copy, Default)]
 pub struct Change {
+    /// The good's number.
     pub good: u8,
+    /// Its multiplier, in 64ths.
     pub multiplier: i64,
 }
 
 /// A fraction in lowest terms: a numerator of at most 10^18 in size, over a denominator from 1 to 1,000.
 #[derive(Clone, Copy)]
 pub struct LowestFraction {
+    /// The numerator.
     pub num: i64,
+    /// The denominator.
     pub den: u16,
 }
 

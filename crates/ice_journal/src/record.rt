@@ -1,3 +1,4 @@
+//! A record, read from its text.
 ghost use Rattle.std.specs.Prelude.{◌∷◌, [], codes, option_map};
 ghost use Rattle.ice_line.specs.Reading.{Reads};
 ghost use Rattle.ice_journal.specs.Reading.{Finds, FindsAfter};

@@ -1,3 +1,4 @@
+//! Each form of record, read from the fields behind its first word.
 ghost use Rattle.std.specs.Prelude.{◌∷◌, [], codes};
 ghost use Rattle.ice_journal.specs.Reading.{FindsAfter};
 

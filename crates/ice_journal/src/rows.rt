@@ -1,3 +1,4 @@
+//! The fields behind the first word of a record, by their form.
 ghost use Rattle.std.specs.Prelude.{◌≡◌, ℕ, ◌-◌, ◌≤◌, ◌^◌, ◌++◌, ◌∷◌, [], length, map, codes, decimal, pos, negsuc, neg_ℤ, IsTrue, ◌↔◌, option_map, ◌≤ℤ◌};
 ghost use Rattle.std.specs.Fmt.{signed_decimal};
 ghost use Rattle.std.specs.List.{AllByRecursion};
@@ -20,7 +21,7 @@ use ice_line::{Fields, integer, natural};
 use ice_set::NodeSet;
 use ice_terms::{Name, Prices, Settings};
 
-// The greatest size of a value of a node, of a total, and of a multiplier, and the greatest denominator.
+// The greatest size of a value of a node and of a total, and the greatest denominator.
 const VALUE: i64 = 1_000_000_000;
 
 const TOTAL: i64 = 400_000_000_000_000;

@@ -1,3 +1,4 @@
+//! The first words of records.
 ghost use Rattle.std.specs.Prelude.{◌≡◌, ◌<◌, length};
 ghost use Rattle.ice_line.specs.Reading.{Reads};
 ghost use Rattle.ice_journal.specs.Words.{word_text};

@@ -1,3 +1,4 @@
+//! What the checker answers.
 use crate::rule::Rule;
 use ice_frac::Frac;
 use std::fmt::{self, Debug, Formatter, Write};
@@ -39,5 +40,6 @@ pub enum CheckEnd {
     Unended { line: u64 },
     /// Every line is a record, and the first is no head of a kind that is checked, or there is no line.
     OtherKind,
+    /// Memory ran out.
     NoMemory,
 }

@@ -1,3 +1,4 @@
+//! The fields of a line.
 ghost use Rattle.std.specs.Prelude.{◌≡◌, ◌∷◌, [], ◌↔◌, IsTrue, MatchOption};
 ghost use Rattle.ice_line.specs.Fields as cut;
 

@@ -1,3 +1,4 @@
+//! Numbers, by their one decimal spelling.
 ghost use Rattle.std.specs.Prelude.{◌≡◌, ℕ, ◌+◌, ◌*◌, ◌^◌, ◌<◌, ◌≤◌, List, [], ◌∷◌, ◌++◌, length, decimal, ℤ, pos, negsuc, ◌≤ℤ◌, ◌<ℤ◌, unsigned_abs, FitsSigned, MatchOption};
 ghost use Rattle.std.specs.Int.{IsInRange, w128};
 ghost use Rattle.std.specs.Fmt.{signed_decimal};

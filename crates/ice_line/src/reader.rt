@@ -1,3 +1,4 @@
+//! The lines of bytes.
 ghost use Rattle.std.specs.Prelude.{◌≡◌, ℕ, ◌<◌, ◌≤◌, ◌&&◌, [], ◌∷◌, ◌++◌, length, Contains, MatchOption, nat_le};
 ghost use Rattle.std.specs.List.{list_all};
 ghost use Rattle.ice_line.specs.Lines.{is_line_byte, BeginsWithLine, NextLine};

@@ -1,3 +1,4 @@
+//! A line, written field by field.
 ghost use Rattle.std.specs.Prelude.{◌≡◌, ℕ, ◌+◌, ◌<◌, ◌≤◌, [], ◌++◌, ◌∷◌, length, decimal, map};
 ghost use Rattle.std.specs.Fmt.{signed_decimal};
 ghost use Rattle.ice_line.specs.Writing.{with_field, bit_byte, slashed};
@@ -31,7 +32,8 @@ impl LineWriter {
         }
     }
 
-    /// Appends a field, after a space where it is not the first. A field has at least one byte.
+    /// Appends a field, after a space where bytes stand before it. The line then has at most 8,192
+    /// bytes. Behind an empty field the caller appends the bytes itself.
     pub fn word(&mut self, text: &[u8])
         requires { length self.old + length text.now < 8192 }
         ensures field { self.new ≡ with_field self.old text.now }

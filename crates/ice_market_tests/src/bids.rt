@@ -1,3 +1,4 @@
+//! Tests of bids.
 use ice_bid::{Bid, Name};
 use std::test::Fail;
 

@@ -1,3 +1,4 @@
+//! Tests of exchanges and their maker.
 ghost use Rattle.std.specs.Prelude.{◌≡◌, ◌≤◌, IfOk, length};
 ghost use Rattle.ice_defs.specs.Lawful.{IsLimitedTree, AreBounds};
 ghost use Rattle.ice_tree.specs.Making.{IsLeaf};

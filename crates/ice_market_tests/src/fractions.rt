@@ -1,3 +1,4 @@
+//! Tests of fractions.
 use ice_frac::{Frac, Wide};
 use std::cmp::Ordering;
 

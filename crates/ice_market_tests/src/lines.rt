@@ -1,3 +1,4 @@
+//! Tests of lines and the spelling of numbers.
 use ice_line::{Fields, LineFault, LineReader, LineWriter, integer, natural, number, split_line};
 use std::test::Fail;
 

@@ -1,3 +1,4 @@
+//! Tests of Threshold payments.
 use ice_frac::Frac;
 use ice_threshold::threshold;
 

@@ -1,3 +1,4 @@
+//! Tests of packed sets.
 use ice_set::NodeSet;
 
 #[test]

@@ -1,3 +1,4 @@
+//! Tests of names, settings and prices.
 use ice_terms::{Name, Prices, Settings};
 use std::test::Fail;
 

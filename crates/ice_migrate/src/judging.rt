@@ -22,8 +22,10 @@ pub enum Unfit {
     Unended { line: u64 },
     /// Every line is a record, and the first is no head of a regret or a session journal in version 1, or there is no line.
     OtherKind,
-    /// The first failed test of the journal, but for that of a stop: its line and its rule.
+    /// The first failed test of the journal, but for that of a stop: its line and its rule. At a stop
+    /// it is the first record behind it that may not stand in its place, or the want of one at the end.
     FailsTest { line: u64, rule: Rule },
+    /// Memory ran out.
     NoMemory,
 }
 

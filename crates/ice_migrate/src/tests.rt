@@ -1,3 +1,4 @@
+//! Tests of what is judged and written.
 use crate::gathered::Gathered;
 use crate::judging::{Unfit, judge};
 use crate::packing::put_packed;

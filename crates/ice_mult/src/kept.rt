@@ -147,7 +147,9 @@ fn sweep_kept(
 /// Moves the multipliers of kept bounds to what one sweep makes of them: see `improve`. The bounds are kept of these trees
 /// at these weights. The guess of the outcome changes the time alone.
 ///
-/// Time: where the guess of a good is right, two looks at those trees whose sets may change with it, or fewer.
+/// Time: each good's multiplier that changes moves the tables of all trees with a leaf of the good.
+/// Beside that, two looks at those trees where the guess of a good is right, or fewer; where it is
+/// wrong, a look for each halving of what is left of the good's range.
 pub fn improve_kept(
     trees: &[Tree],
     weights: &AllWeights,

@@ -12,7 +12,9 @@ use ice_tree::{NodeSet, Tree, Weights};
 /// what its units cost so many times.
 #[derive(Drop)]
 pub struct BestAtPrices {
+    /// The set, one bit a node.
     pub set: NodeSet,
+    /// Its net.
     pub net: i128,
 }
 

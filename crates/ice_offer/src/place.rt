@@ -4,7 +4,9 @@ use ice_defs::Verdict;
 /// A list of rows.
 #[derive(Clone, Copy)]
 pub enum CertificateList {
+    /// The rows that show the accuracy of the prices.
     Accuracy,
+    /// The rows that show their balance.
     Balance,
 }
 

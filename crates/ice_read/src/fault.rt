@@ -10,7 +10,9 @@ use thiserror::Error;
 #[derive(Debug, Drop, Error)]
 #[error("{place}: {cause}")]
 pub struct ReadFault {
+    /// Where it is: member names and indices from the file's top.
     pub place: Place,
+    /// Why the file is refused.
     pub cause: ReadCause,
 }
 

@@ -13,7 +13,9 @@ use ice_tree::Tree;
 /// A node of a bidder's tree.
 #[derive(Clone, Copy, Debug, Default, PartialEq, Eq)]
 pub struct Candidate {
+    /// The bidder's number.
     pub bidder: u8,
+    /// The number of the node in its tree.
     pub node: u16,
 }
 

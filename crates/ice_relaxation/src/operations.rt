@@ -112,7 +112,7 @@ pub(crate) fn bit_of(good: u8) -> u32 {
     1 << (good % 32)
 }
 
-/// A number of children, which fits in a byte.
+/// A number of children or of a node, as a byte. Both are at most 200; a greater one is made 255.
 fn byte(number: u16) -> u8 {
     number.min(255) as u8
 }

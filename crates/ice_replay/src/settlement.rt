@@ -6,7 +6,9 @@ use ice_tree::Bounds;
 /// A bidder's name, and its bounds in a settlement.
 #[derive(Drop)]
 pub struct BidderBounds {
+    /// The bidder's name.
     pub name: Name,
+    /// Its bounds.
     pub bounds: Bounds,
 }
 
@@ -19,6 +21,7 @@ pub struct Replay {
     pub bidders: Vec<BidderBounds>,
     /// The value of its final sets, at lower values.
     pub final_value: i64,
+    /// Its regret.
     pub regret: i64,
     /// Its prices, where the session states them.
     pub prices: Option<Prices>,
@@ -37,5 +40,6 @@ pub enum ReplayEnd {
     No { line: u64, rule: Rule },
     /// The session states no regret of this settlement.
     NoSettlement,
+    /// Memory ran out.
     NoMemory,
 }

@@ -43,9 +43,9 @@ fn count_branches(log: &Log) -> u32
     count
 }
 
-/// `search` from multipliers for the first bound, one for each good, and with candidates, which are looked at where they
-/// are feasible and meet the start: those of a search before. They change the time, which best assignment is found, and
-/// the log.
+/// `search` from multipliers for the first bound, one for each good, and with candidates, which are
+/// looked at where they are feasible and meet the start: those of a search before. They change the
+/// time, which best assignment is found, the log, and whether the branches suffice.
 pub fn search_from(
     alloc: Global,
     exchange: &Exchange,

@@ -1,3 +1,4 @@
+//! The forms of records, each with what its fields may be.
 use crate::fields::Field::{self, Characters, Number, OneOf, Word};
 use crate::fields::Limits;
 

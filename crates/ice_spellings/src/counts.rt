@@ -1,3 +1,4 @@
+//! Records that end with a list: how many items it may have.
 use crate::cases::{MULTIPLIER, NUMERATOR, OWNED, VALUE};
 use crate::fields::Limits;
 use crate::texts::{is_no_record, is_record, with_fields};

@@ -1,3 +1,4 @@
+//! What a field may be, and what it may not be.
 use crate::cases::{CLOSED, Case, LISTS};
 use crate::texts::{cycled, is_no_record, is_record, joined};
 use std::alloc::Global;

@@ -1,3 +1,4 @@
+//! What records are read as.
 use ice_defs::{NodeKind, Verdict};
 use ice_journal::{
     Change, EndWord, Kind, LimitKind, Line, LowestFraction, Stage, Version, read_record,

@@ -1,3 +1,4 @@
+//! Each form of record at its limits and past them.
 use crate::cases::{CLOSED, Case, LISTS};
 use crate::texts::{is_no_record, is_record, joined};
 use std::process::Abort;

@@ -1,3 +1,4 @@
+//! Whole sessions, line by line.
 use crate::texts::{is_record, joined};
 use ice_journal::{LinesEnd, read_lines};
 use std::test::Fail;

@@ -1,3 +1,4 @@
+//! Whether a text is the spelling of a record.
 ghost use Rattle.std.specs.Prelude.{◌<◌, length};
 
 use ice_journal::{read_record, write_record};

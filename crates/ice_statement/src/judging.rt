@@ -24,6 +24,7 @@ pub enum StatementEnd {
     FailsTest { line: u64, rule: Rule },
     /// The journal is closed and passes every test, and no bidder has the name.
     NoBidder,
+    /// Memory ran out.
     NoMemory,
 }
 

@@ -1,3 +1,4 @@
+//! Tests of what is judged and put.
 use crate::judging::{StatementEnd, judge};
 use crate::putting::put_statement;
 use ice_edge::{MemSink, SinkFault};

@@ -11,7 +11,9 @@ use ice_tree::Assignment;
 /// A feasible assignment, one set for each bidder, and what it is worth.
 #[derive(Drop)]
 pub struct Incumbent {
+    /// One satisfied set for each bidder.
     pub sets: Assignment,
+    /// What they are worth at the search's weights.
     pub value: i128,
 }
 

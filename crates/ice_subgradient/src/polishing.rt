@@ -18,7 +18,9 @@ use ice_relaxation::Relaxation;
 /// Multipliers, and the sum of the bidders' greatest nets at them, in 64ths.
 #[derive(Drop)]
 pub struct Evaluated {
+    /// The multipliers, one for each good.
     pub m: Multipliers,
+    /// The sum, in 64ths.
     pub total: i128,
 }
 
@@ -131,7 +133,7 @@ fn go_on(kept: &mut Kept<'_>, incumbent: &mut Incumbent, least: &mut Evaluated, 
 ///
 /// Every bidder has a satisfied set that meets its fixing, and the relaxation should be that of the same side: how small
 /// the sum gets rests on it, and nothing else does. Takes no memory. Time: each step works out the relaxation once; the
-/// beginning, the end and each assignment that comes up take one recursion over each tree.
+/// beginning, the end and each assignment that comes up take one pass over each tree.
 pub fn polish(
     kept: &mut Kept<'_>,
     incumbent: &mut Incumbent,
@@ -160,7 +162,7 @@ pub fn polish(
 }
 
 /// What `polish` does, where a trial has taken the steps: looks where it looked. What multipliers are kept afterwards does
-/// not matter. Takes no memory. Time: one recursion over each tree at the beginning and for each look.
+/// not matter. Takes no memory. Time: one pass over each tree at the beginning and for each look.
 pub fn repeat(kept: &mut Kept<'_>, incumbent: &mut Incumbent, trace: &Trace) -> Evaluated
     requires live { IsLive kept.old.trees kept.old.marks }
     requires sets { length incumbent.old.sets ≡ length kept.old.trees }

@@ -1,3 +1,4 @@
+//! Prices of goods.
 ghost use Rattle.std.specs.Prelude.{◌≡◌, ℕ, ◌<◌, ◌≤◌, length, slice_index_or, ℤ, pos, IfSome, IfNone};
 ghost use Rattle.ice_terms.specs.Terms.{ArePriceTerms, is_numerator};
 ghost use Rattle.std.specs.List.{list_all};

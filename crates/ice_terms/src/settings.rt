@@ -1,3 +1,4 @@
+//! The settings of a session.
 ghost use Rattle.ice_terms.specs.Made.{IsMade};
 ghost use Rattle.ice_defs.specs.Exchange as exchange;
 
@@ -16,7 +17,8 @@ pub struct Settings {
     pub improve: i64,
     /// How many rounds a session has at most, from 0 to 20.
     pub rounds: u8,
-    /// How many branches one search may take, from 0 to 50,000.
+    /// How many branches all searches of a session, or of a regret, may take together, from 0 to
+    /// 50,000.
     pub branches: u32,
 }
 

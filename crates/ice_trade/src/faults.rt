@@ -54,6 +54,8 @@ impl MakeFault {
 /// The least good whose units don't balance in an assignment, and their sum: units bought less units sold.
 #[derive(Clone, Copy, Debug, PartialEq, Eq)]
 pub struct TradeFault {
+    /// The good's number.
     pub good: u8,
+    /// What is bought less what is sold.
     pub excess: i64,
 }

@@ -74,6 +74,8 @@ impl BoundsFault {
 /// The least node at fault in a set that isn't satisfied, and the first rule that it breaks.
 #[derive(Clone, Copy, Debug, PartialEq, Eq)]
 pub struct SatFault {
+    /// The node's number.
     pub node: u16,
+    /// The rule.
     pub rule: SatRule,
 }

@@ -17,7 +17,9 @@ use std::alloc::{AllocError, Global};
 /// Units of one good in a package, by the good's number: bought units are positive, and sold ones negative.
 #[derive(Clone, Copy, PartialEq, Eq, Debug)]
 pub struct GoodUnits {
+    /// The good's number.
     pub good: u8,
+    /// The units, from -1,000 to 1,000 and not 0.
     pub amount: i16,
 }
 
