@@ -13,7 +13,7 @@ use Rattle.ice_defs.proofs.Sums.{sum_below-same, sum_below-le, sum_below-add, su
 use Rattle.ice_bound.specs.declared.answer.Bound.{Bound}
 use Rattle.ice_bound.specs.declared.answer.Bound.TheVariants.{Dead, AtMost}
 use Rattle.ice_bound.specs.Multipliers.{multiplier_of}
-use Rattle.ice_bound.specs.Conditions.{AreMultipliersOf}
+use Rattle.ice_defs.specs.Conditions.{AreMultipliersOf}
 use Rattle.ice_bound.specs.Answer.{IsAnswer, IsAboveAll}
 use Rattle.ice_bound.specs.Laws.{BoundIsSound, DeadHasNone}
 use Rattle.ice_defs.proofs.Products.{sum_below-times, times_not_positive}

@@ -9,7 +9,7 @@ use Rattle.ice_defs.specs.Fixing.{Fixing, mark_of}
 use Rattle.ice_defs.specs.Trade.{tree_of, fixing_of}
 use Rattle.ice_defs.specs.Steps.{with_mark}
 use Rattle.ice_best.specs.Entries.{DifferOnlyAtMark}
-use Rattle.ice_bound.specs.Conditions.{AreFixingsOf}
+use Rattle.ice_defs.specs.Conditions.{AreFixingsOf}
 
 -- every node free
 pub free_fixings : (ts : List Tree) → AreFixingsOf ts (map (λ t. replicate (length t) Free) ts)

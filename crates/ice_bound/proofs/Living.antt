@@ -10,7 +10,7 @@ use Rattle.ice_defs.specs.Lawful.{AreBounds, IsBidder, IsExchange}
 use Rattle.ice_defs.specs.Steps.{Side}
 use Rattle.ice_defs.specs.Sweep.{IsLive}
 use Rattle.ice_defs.specs.Trade.{tree_of}
-use Rattle.ice_bound.specs.Conditions.{AreBoundsOf}
+use Rattle.ice_defs.specs.Conditions.{AreBoundsOf}
 
 -- no bidder of a live side is dead
 pub live_not_dead : (ts : List Tree) (side : Side) (b : ℕ) → IsLive ts side → b < length ts → ¬ IsDead ts side b

@@ -11,7 +11,7 @@ use Rattle.ice_defs.specs.Lawful.{AreBounds}
 use Rattle.ice_defs.specs.Weighing.{weighted, weighted_list, perturbed_list, lower_weights, weighted_weights, perturbed_weights}
 use Rattle.ice_tree.proofs.Filling.{length-weighted_list, get_or-weighted_list, length-perturbed_list, get_or-perturbed_list, weights_of-lower, weights_of-weighted, weights_of-perturbed, length-lower, length-weighted, length-perturbed}
 use Rattle.ice_tree.specs.Alike.{AreAlike}
-use Rattle.ice_bound.specs.Conditions.{AreModest, AreWeightsOf, AreBoundsOf}
+use Rattle.ice_defs.specs.Conditions.{AreModest, AreWeightsOf, AreBoundsOf}
 use Rattle.ice_defs.proofs.Products.{times-low, times-high}
 
 -- weights of 0 for the trees are alike with their bounds

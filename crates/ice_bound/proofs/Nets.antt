@@ -8,7 +8,7 @@ use Rattle.ice_defs.specs.Greatest.{IsGreatest}
 use Rattle.ice_defs.specs.Bound.{Multipliers, net, IsOpen}
 use Rattle.ice_best.specs.Nets.{net_at_rates, AreAtMostTrillion, AreNetWeights, AreRates}
 use Rattle.ice_best.proofs.NetValues as at_rates
-use Rattle.ice_bound.specs.Conditions.{AreModest}
+use Rattle.ice_defs.specs.Conditions.{AreModest}
 use Rattle.ice_bound.specs.Multipliers.{AreInRange}
 
 pub value-nets : (t : Tree) (w : Weights) (m : Multipliers) (nets : Weights) (s : NodeSet) → AreNetWeights t w 64 m 1 nets → length s ≡ length t → value s nets ≡ net t w m s

@@ -8,7 +8,7 @@ use Rattle.ice_defs.specs.Sweep.{IsLive}
 use Rattle.ice_defs.specs.Trade.{Assignment, tree_of, set_of, weights_of, fixing_of}
 use Rattle.ice_defs.specs.Bound.{Multipliers, net, IsOpen}
 use Rattle.ice_bound.specs.Multipliers.{multiplier_of}
-use Rattle.ice_bound.specs.Conditions.{AreWeightsOf, AreFixingsOf}
+use Rattle.ice_defs.specs.Conditions.{AreWeightsOf, AreFixingsOf}
 use Rattle.ice_bound.specs.Leaves.{AreLeaves}
 use Rattle.ice_bound.specs.declared.leaves.Leaves.{Leaves}
 use Rattle.ice_bound.specs.declared.net_table.NetTable.{NetTable}

@@ -2,7 +2,7 @@
 ghost use Rattle.std.specs.Prelude.{◌≡◌, ◌≤◌, length, IfOk, IfErr, pos, ◌+ℤ◌, ◌*ℤ◌, ◌≤ℤ◌, ◌<ℤ◌};
 ghost use Rattle.ice_defs.specs.Bound.{IsNetSum};
 ghost use Rattle.ice_bound.specs.Answer.{IsFirstDead, IsAnswer, IsAboveAll};
-ghost use Rattle.ice_bound.specs.Conditions.{AreWeightsOf, AreFixingsOf, AreMultipliersOf};
+ghost use Rattle.ice_defs.specs.Conditions.{AreWeightsOf, AreFixingsOf, AreMultipliersOf};
 
 use crate::answer::Bound;
 use crate::desk::Desk;

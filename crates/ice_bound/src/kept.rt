@@ -9,7 +9,7 @@ ghost use Rattle.ice_defs.specs.Log.{IsMultiplier};
 ghost use Rattle.ice_defs.specs.Steps.{with_mark};
 ghost use Rattle.ice_defs.specs.Trade.{tree_of, set_of, is_exact, total_value};
 ghost use Rattle.ice_bound.specs.Answer.{IsAnswer, IsAboveAll};
-ghost use Rattle.ice_bound.specs.Conditions.{AreWeightsOf, AreFixingsOf, AreMultipliersOf};
+ghost use Rattle.ice_defs.specs.Conditions.{AreWeightsOf, AreFixingsOf, AreMultipliersOf};
 ghost use Rattle.ice_bound.specs.Kept.{IsNetAnswer, IsSumOfNets, AreRelaxedSets, IsSmallNet, IsSumOf, net_of, AreTotalUnits};
 
 use crate::answer::{Bound, NetSum};

@@ -6,7 +6,7 @@ ghost use Rattle.ice_defs.specs.Fixing.{Fixing as Marks};
 ghost use Rattle.ice_defs.specs.Bound.{Multipliers as Numbers};
 ghost use Rattle.ice_best.specs.Nets.{node_net};
 ghost use Rattle.ice_best.specs.Entries.{IsTableOf, DifferOnlyAtMark};
-ghost use Rattle.ice_bound.specs.Conditions.{AreModest};
+ghost use Rattle.ice_defs.specs.Conditions.{AreModest};
 ghost use Rattle.ice_bound.specs.Kept.{IsFound, IsNetOf, IsSmallNet};
 ghost use Rattle.ice_bound.specs.Leaves.{AreLeavesOf};
 ghost use Rattle.ice_bound.specs.Tables.{IsNetTable, DifferOnlyIn};

@@ -2,7 +2,7 @@
 ghost use Rattle.std.specs.Prelude.{◌≡◌, length, IsTrue, IfOk};
 ghost use Rattle.ice_defs.specs.Lawful.{AreBounds};
 ghost use Rattle.ice_defs.specs.Sweep.{IsLive};
-ghost use Rattle.ice_bound.specs.Conditions.{AreWeightsOf, AreBoundsOf};
+ghost use Rattle.ice_defs.specs.Conditions.{AreWeightsOf, AreBoundsOf};
 
 use ice_bound::{Kept, NetSum};
 use ice_relaxation::{Relaxation, pick};

@@ -2,7 +2,7 @@
 ghost use Rattle.std.specs.Prelude.{◌≡◌, ◌<◌, ◌≤◌, [], ◌∷◌, length, sum, false, IfOk};
 ghost use Rattle.std.specs.List.{AllByRecursion};
 ghost use Rattle.ice_defs.specs.Lawful.{AreBounds};
-ghost use Rattle.ice_bound.specs.Conditions.{AreWeightsOf, AreBoundsOf};
+ghost use Rattle.ice_defs.specs.Conditions.{AreWeightsOf, AreBoundsOf};
 ghost use Rattle.ice_refute.specs.Code.{CountsGoods, step_of};
 ghost use Rattle.ice_refute.specs.Waiting.{nodes_of};
 

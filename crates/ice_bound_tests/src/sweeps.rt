@@ -2,7 +2,7 @@
 ghost use Rattle.std.specs.Prelude.{◌≡◌, ◌<◌, ◌≤◌, [], ◌∷◌, length, true, false, pos, IfOk};
 ghost use Rattle.ice_defs.specs.Lawful.{AreBounds};
 ghost use Rattle.ice_defs.specs.Trade.{tree_of};
-ghost use Rattle.ice_bound.specs.Conditions.{AreWeightsOf, AreBoundsOf, AreFixingsOf};
+ghost use Rattle.ice_defs.specs.Conditions.{AreWeightsOf, AreBoundsOf, AreFixingsOf};
 
 use ice_best::{Fixings, Mark};
 use ice_bound::{Desk, Kept, Multipliers};

@@ -14,7 +14,7 @@ use Rattle.ice_defs.specs.Exchange.{Bidder, Exchange, trees_of, exact_of}
 use Rattle.ice_defs.specs.Lawful.{IsBidder, IsExchange}
 use Rattle.ice_defs.specs.Group.{free_side, start_of, group_weights}
 use Rattle.ice_tree.specs.Alike.{AreAlike, AreChosen, HasSetPerTree}
-use Rattle.ice_bound.specs.Conditions.{AreBoundsOf, AreWeightsOf}
+use Rattle.ice_defs.specs.Conditions.{AreBoundsOf, AreWeightsOf}
 use Rattle.ice_bound.proofs.Fixings.{free_fixings}
 use Rattle.ice_bound.proofs.Modest.{lower_modest, weighted_modest, perturbed_modest}
 use Rattle.ice_trade.proofs.Weighted.{length-trees}

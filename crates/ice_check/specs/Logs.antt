@@ -11,7 +11,7 @@ use Rattle.ice_defs.specs.Group.{free_side}
 use Rattle.ice_defs.specs.declared.Group.{Group}
 use Rattle.ice_defs.specs.declared.Group.TheVariants.{Without}
 use Rattle.ice_defs.specs.Trade.{fixing_of}
-use Rattle.ice_bound.specs.Conditions.{AreWeightsOf}
+use Rattle.ice_defs.specs.Conditions.{AreWeightsOf}
 use Rattle.ice_bound.specs.Multipliers.{IsInRange}
 use Rattle.ice_refute.specs.Waiting.{nodes_of, first_side}
 use Rattle.ice_refute.specs.Passing.{PassesAt}

@@ -3,7 +3,7 @@ ghost use Rattle.std.specs.Prelude.{◌≡◌, ◌<◌, ◌≤◌, ◌↔◌, []
 ghost use Rattle.ice_defs.specs.Exchange.{trees_of, exact_of};
 ghost use Rattle.ice_defs.specs.Lawful.{IsExchange};
 ghost use Rattle.ice_defs.specs.Group.{group_weights};
-ghost use Rattle.ice_bound.specs.Conditions.{AreBoundsOf};
+ghost use Rattle.ice_defs.specs.Conditions.{AreBoundsOf};
 ghost use Rattle.ice_tree.specs.Alike.{HasSetPerTree};
 ghost use Rattle.ice_refute.specs.Code.{step_of, CountsGoods};
 ghost use Rattle.ice_refute.specs.Waiting.{nodes_of};

@@ -2,7 +2,7 @@
 ghost use Rattle.std.specs.Prelude.{◌≡◌, ◌<◌, ◌≤◌, ℕ, [], length, IfOk, IsTrue, ◌↔◌};
 ghost use Rattle.ice_defs.specs.Exchange.{trees_of};
 ghost use Rattle.ice_defs.specs.Lawful.{IsExchange};
-ghost use Rattle.ice_bound.specs.Conditions.{AreWeightsOf};
+ghost use Rattle.ice_defs.specs.Conditions.{AreWeightsOf};
 ghost use Rattle.ice_check.specs.Stating.{next_tree, with_next, SatisfiesNext, IsBalance};
 ghost use Rattle.ice_tree.specs.Alike.{HasSetPerTree};
 ghost use Rattle.ice_defs.specs.Set.{IsSatisfied};

@@ -10,7 +10,7 @@ use Rattle.ice_defs.specs.declared.Group.TheVariants.{Assign, Final, Rival, Prov
 use Rattle.ice_defs.specs.Tree.{Tree}
 use Rattle.ice_defs.specs.Group.{free_side, start_of}
 use Rattle.ice_defs.specs.Exchange.{trees_of, exact_of}
-use Rattle.ice_bound.specs.Conditions.{AreFixingsOf}
+use Rattle.ice_defs.specs.Conditions.{AreFixingsOf}
 use Rattle.ice_bound.proofs.Fixings.{free_fixings, marked_fixings}
 use Rattle.ice_refute.specs.Waiting.{nodes_of, free_count}
 use Rattle.ice_refute.proofs.Kept.{free_count-le, nodes_of-with_mark}

@@ -3,7 +3,7 @@ ghost use Rattle.std.specs.Prelude.{◌≡◌, ◌<◌, ◌≤◌, ◌^◌, ℤ,
 ghost use Rattle.ice_defs.specs.Bound.{IsNetSum};
 ghost use Rattle.ice_defs.specs.Sweep.{IsLive, SweepsBelow, Sweeps};
 ghost use Rattle.ice_defs.specs.Trade.{is_exact};
-ghost use Rattle.ice_bound.specs.Conditions.{AreWeightsOf};
+ghost use Rattle.ice_defs.specs.Conditions.{AreWeightsOf};
 ghost use Rattle.ice_bound.specs.Multipliers.{multiplier_of};
 ghost use Rattle.ice_mult.specs.Foot.{IsAllowed, Falls, Rests, IsFoot, toward};
 ghost use Rattle.ice_mult.specs.Moved.{AreAlike, IsMoved, MayMove, IsSumWith, IsSettled, IsKeptOf};

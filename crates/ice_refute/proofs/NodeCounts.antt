@@ -4,7 +4,7 @@ use Rattle.std.proofs.lemmas.List.{length-map, length-replicate}
 use Rattle.ice_defs.specs.declared.Mark.TheVariants.{Free}
 use Rattle.ice_defs.specs.Tree.{Tree}
 use Rattle.ice_defs.specs.Fixing.{Fixing}
-use Rattle.ice_bound.specs.Conditions.{AreFixingsOf}
+use Rattle.ice_defs.specs.Conditions.{AreFixingsOf}
 use Rattle.ice_refute.specs.Waiting.{nodes_of}
 
 get_or-nodes_of : {X : Type 0} (lists : List (List X)) (b : ℕ) → get_or (nodes_of lists) b 0 ≡ length (get_or lists b [])

@@ -6,7 +6,7 @@ use Rattle.ice_defs.specs.Set.{Weights}
 use Rattle.ice_defs.specs.Trade.{Assignment, IsFeasible, MeetsAll, total_value}
 use Rattle.ice_defs.specs.Steps.{Step, Side, branch_count, sides_after, placed}
 use Rattle.ice_defs.specs.Log.{Passes}
-use Rattle.ice_bound.specs.Conditions.{AreFixingsOf}
+use Rattle.ice_defs.specs.Conditions.{AreFixingsOf}
 use Rattle.ice_refute.specs.Code.{CountsGoods}
 use Rattle.ice_refute.specs.Waiting.{free_count}
 

@@ -2,7 +2,7 @@
 ghost use Rattle.std.specs.Prelude.{◌≡◌, ◌≤◌, ◌↔◌, length, sum, true, IsOk, IfOk, OnOk, IfErr};
 ghost use Rattle.std.specs.List.{AllByRecursion};
 ghost use Rattle.ice_defs.specs.Log.{Passes};
-ghost use Rattle.ice_bound.specs.Conditions.{AreWeightsOf};
+ghost use Rattle.ice_defs.specs.Conditions.{AreWeightsOf};
 ghost use Rattle.ice_refute.specs.Code.{CountsGoods};
 ghost use Rattle.ice_refute.specs.Faults.{IsLogFault};
 ghost use Rattle.ice_refute.specs.Waiting.{nodes_of, open_sides, AreKept};

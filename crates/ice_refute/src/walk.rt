@@ -1,7 +1,7 @@
 //! A walk through a log, step by step.
 ghost use Rattle.std.specs.Prelude.{◌≡◌, ◌<◌, ◌≤◌, ◌↔◌, [], ◌∷◌, length, sum, IsTrue, IfOk, OnOk, IfErr, OnErr};
 ghost use Rattle.ice_defs.specs.Steps.{sides_after};
-ghost use Rattle.ice_bound.specs.Conditions.{AreWeightsOf};
+ghost use Rattle.ice_defs.specs.Conditions.{AreWeightsOf};
 ghost use Rattle.ice_refute.specs.Code.{step_of, CountsGoods};
 ghost use Rattle.ice_refute.specs.Passing.{PassesAt, HasFault};
 ghost use Rattle.ice_refute.specs.Waiting.{nodes_of, first_side};

@@ -4,7 +4,7 @@ ghost use Rattle.ice_defs.specs.Exchange.{trees_of, exact_of};
 ghost use Rattle.ice_defs.specs.Steps.{branch_count};
 ghost use Rattle.ice_defs.specs.Trade.{IsBestOfAll};
 ghost use Rattle.ice_defs.specs.Weighing.{lower_weights};
-ghost use Rattle.ice_bound.specs.Conditions.{AreBoundsOf};
+ghost use Rattle.ice_defs.specs.Conditions.{AreBoundsOf};
 ghost use Rattle.ice_search.specs.Results.{IsFoundBy, IsEnd};
 ghost use Rattle.ice_regret.specs.Regretted.{lower_search};
 

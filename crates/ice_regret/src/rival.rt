@@ -3,7 +3,7 @@ ghost use Rattle.std.specs.Prelude.{◌≡◌, ◌+◌, ◌≤◌, IfOk, IfErr};
 ghost use Rattle.ice_defs.specs.Exchange.{trees_of, exact_of};
 ghost use Rattle.ice_defs.specs.Steps.{branch_count};
 ghost use Rattle.ice_defs.specs.Trade.{IsFeasible};
-ghost use Rattle.ice_bound.specs.Conditions.{AreBoundsOf};
+ghost use Rattle.ice_defs.specs.Conditions.{AreBoundsOf};
 ghost use Rattle.ice_search.specs.Results.{IsEnd};
 ghost use Rattle.ice_regret.specs.Regretted.{IsRegretOf, rival_search};
 

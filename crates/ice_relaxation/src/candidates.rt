@@ -1,7 +1,7 @@
 //! Nodes to split a side at.
 ghost use Rattle.std.specs.Prelude.{◌≡◌, ◌<◌, ◌≤◌, length, IsTrue};
 ghost use Rattle.std.specs.List.{All};
-ghost use Rattle.ice_bound.specs.Conditions.{AreFixingsOf};
+ghost use Rattle.ice_defs.specs.Conditions.{AreFixingsOf};
 ghost use Rattle.ice_relaxation.specs.Candidates.{IsFreeAt};
 
 use crate::operations::Rule;

@@ -1,6 +1,6 @@
 //! The relaxation of a side, worked out quickly: what the steps of a search are guided by.
 ghost use Rattle.std.specs.Prelude.{◌≡◌, ◌<◌, ◌≤◌, length, IfOk};
-ghost use Rattle.ice_bound.specs.Conditions.{AreWeightsOf, AreFixingsOf};
+ghost use Rattle.ice_defs.specs.Conditions.{AreWeightsOf, AreFixingsOf};
 
 use crate::openness::Openness;
 use crate::operations::{Operations, bit_of};

@@ -2,7 +2,7 @@
 use Rattle.std.specs.Prelude.{ℕ, suc, ◌<◌, ◌≤◌, ◌≡◌, false, List, length, replicate}
 use Rattle.ice_defs.specs.Bounds.{Bounds}
 use Rattle.ice_defs.specs.Exchange.{Exchange, trees_of}
-use Rattle.ice_bound.specs.Conditions.{AreBoundsOf}
+use Rattle.ice_defs.specs.Conditions.{AreBoundsOf}
 use Rattle.ice_verdicts.specs.Judges.{Round, IsRoundOf}
 
 -- the exchange, the bidders' bounds, the settlement that comes next, and the branches left for it and those after it

@@ -5,7 +5,7 @@ ghost use Rattle.ice_defs.specs.Right.{own_values};
 ghost use Rattle.ice_defs.specs.Set.{value};
 ghost use Rattle.ice_defs.specs.Trade.{set_of, weights_of, IsFeasible, total_value};
 ghost use Rattle.ice_defs.specs.Weighing.{lower_weights};
-ghost use Rattle.ice_bound.specs.Conditions.{AreBoundsOf};
+ghost use Rattle.ice_defs.specs.Conditions.{AreBoundsOf};
 ghost use Rattle.ice_tree.specs.Alike.{AreChosen};
 ghost use Rattle.ice_threshold.specs.Limits.{IsValueLimit};
 ghost use Rattle.ice_vickrey.specs.Economy.{economy_at};

@@ -3,7 +3,7 @@ ghost use Rattle.std.specs.Prelude.{◌≡◌, ◌+◌, ◌≤◌, false, IsTrue
 ghost use Rattle.ice_defs.specs.Exchange.{trees_of};
 ghost use Rattle.ice_defs.specs.Session.{closes as closing};
 ghost use Rattle.ice_defs.specs.Steps.{branch_count};
-ghost use Rattle.ice_bound.specs.Conditions.{AreWeightsOf};
+ghost use Rattle.ice_defs.specs.Conditions.{AreWeightsOf};
 ghost use Rattle.ice_search.specs.Results.{IsFoundBy, IsEnd};
 ghost use Rattle.ice_price.specs.Ends.{IsPriced};
 ghost use Rattle.ice_round.specs.Kept.{session_at, IsKept};

@@ -24,7 +24,7 @@ use Rattle.ice_threshold.specs.Laws.{PassesCut}
 use Rattle.ice_threshold.specs.Limits.{IsShort}
 use Rattle.ice_threshold.proofs.CutTest.{least_passes}
 use Rattle.ice_threshold.proofs.OneCut.{AreCutDown-length, AreCutDown-at, AreCutDown-sum}
-use Rattle.ice_bound.specs.Conditions.{AreBoundsOf, AreWeightsOf}
+use Rattle.ice_defs.specs.Conditions.{AreBoundsOf, AreWeightsOf}
 use Rattle.ice_bound.proofs.Modest.{lower_modest}
 use Rattle.ice_trade.proofs.Weighted.{length-trees, length-names}
 use Rattle.ice_journal.specs.Ranges.{IsFractionField}

@@ -12,7 +12,7 @@ use Rattle.ice_defs.specs.Group.{start_of, group_weights}
 use Rattle.ice_defs.specs.Exchange.{Exchange, trees_of, exact_of}
 use Rattle.ice_defs.specs.Lawful.{IsExchange}
 use Rattle.ice_defs.specs.Session.{Proved}
-use Rattle.ice_bound.specs.Conditions.{AreBoundsOf, AreWeightsOf}
+use Rattle.ice_defs.specs.Conditions.{AreBoundsOf, AreWeightsOf}
 use Rattle.ice_bound.proofs.Modest.{lower_modest, weighted_modest, perturbed_modest}
 use Rattle.ice_search.specs.Results.{AreWritten}
 use Rattle.ice_journal.specs.Records.{Record, version_2}

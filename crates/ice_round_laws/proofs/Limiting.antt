@@ -14,7 +14,7 @@ use Rattle.ice_defs.specs.Lawful.{IsExchange}
 use Rattle.ice_defs.specs.Session.{Going, Proved, Settlement, closes}
 use Rattle.ice_defs.specs.Right.{bounds_after_rounds}
 use Rattle.ice_defs.proofs.Lists.{all-append}
-use Rattle.ice_bound.specs.Conditions.{AreBoundsOf, AreWeightsOf}
+use Rattle.ice_defs.specs.Conditions.{AreBoundsOf, AreWeightsOf}
 use Rattle.ice_bound.proofs.Modest.{weighted_modest}
 use Rattle.ice_search.specs.Results.{proved_found}
 use Rattle.ice_search.specs.declared.results.Found.{Found}

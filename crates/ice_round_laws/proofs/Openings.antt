@@ -13,7 +13,7 @@ use Rattle.ice_defs.specs.Exchange.{Good, trees_of, exact_of}
 use Rattle.ice_defs.specs.Lawful.{IsExchange}
 use Rattle.ice_defs.specs.Session.{standings}
 use Rattle.ice_terms.specs.Terms.{ArePriceTerms}
-use Rattle.ice_bound.specs.Conditions.{AreBoundsOf, AreWeightsOf}
+use Rattle.ice_defs.specs.Conditions.{AreBoundsOf, AreWeightsOf}
 use Rattle.ice_bound.proofs.Modest.{weighted_modest}
 use Rattle.ice_search.specs.Results.{proved_found}
 use Rattle.ice_pricing.specs.Provisional.{IsProvisional}

@@ -7,7 +7,7 @@ use Rattle.ice_defs.specs.declared.Group.TheVariants.{Final, Rival}
 use Rattle.ice_defs.specs.Group.{empty_sets}
 use Rattle.ice_defs.specs.Exchange.{trees_of, exact_of, IsBetween}
 use Rattle.ice_defs.specs.Lawful.{IsExchange}
-use Rattle.ice_bound.specs.Conditions.{AreBoundsOf, AreWeightsOf}
+use Rattle.ice_defs.specs.Conditions.{AreBoundsOf, AreWeightsOf}
 use Rattle.ice_bound.proofs.Modest.{lower_modest, perturbed_modest}
 use Rattle.ice_search.specs.Results.{proved_found}
 use Rattle.ice_search.specs.declared.results.Found.{Found}

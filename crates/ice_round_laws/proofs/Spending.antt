@@ -17,7 +17,7 @@ use Rattle.ice_defs.specs.Lawful.{IsExchange}
 use Rattle.ice_defs.specs.Session.{Going}
 use Rattle.ice_defs.specs.Right.{bounds_after_rounds}
 use Rattle.ice_defs.proofs.Lists.{all-append}
-use Rattle.ice_bound.specs.Conditions.{AreBoundsOf, AreWeightsOf}
+use Rattle.ice_defs.specs.Conditions.{AreBoundsOf, AreWeightsOf}
 use Rattle.ice_bound.proofs.Modest.{lower_modest, weighted_modest, perturbed_modest}
 use Rattle.ice_search.specs.Results.{proved_found, proved_spent}
 use Rattle.ice_search.specs.declared.results.Found.{Found}

@@ -20,7 +20,7 @@ use Rattle.ice_defs.specs.Lawful.{IsBidder, IsExchange}
 use Rattle.ice_defs.proofs.Products.{times-le}
 use Rattle.ice_defs.proofs.Multiples.{times_keep}
 use Rattle.ice_frac.proofs.Ring.{cancel_le}
-use Rattle.ice_bound.specs.Conditions as bound
+use Rattle.ice_defs.specs.Conditions as bound
 use Rattle.ice_trade.proofs.Weighted.{length-trees}
 use Rattle.ice_rows.specs.Sizes.{IsSizedWithin}
 use Rattle.ice_rows.proofs.Weighted.{total_weight}

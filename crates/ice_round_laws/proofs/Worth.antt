@@ -8,7 +8,7 @@ use Rattle.ice_defs.specs.Set.{Weights}
 use Rattle.ice_defs.specs.Trade.{Assignment, tree_of, set_of, IsFeasible, total_value}
 use Rattle.ice_defs.specs.Exchange.{Bidder, Exchange, trees_of, exact_of, IsBetween}
 use Rattle.ice_defs.specs.Lawful.{IsExchange}
-use Rattle.ice_bound.specs.Conditions.{AreWeightsOf}
+use Rattle.ice_defs.specs.Conditions.{AreWeightsOf}
 use Rattle.ice_search.proofs.Ranges.{total_low, total_high}
 use Rattle.ice_journal.specs.Ranges.{IsTotal}
 

@@ -7,7 +7,7 @@ use Rattle.ice_defs.specs.Trade.{Assignment, set_of}
 use Rattle.ice_defs.specs.Bound.{Multipliers}
 use Rattle.ice_defs.specs.Steps.{Side}
 use Rattle.ice_defs.specs.Sweep.{IsLive}
-use Rattle.ice_bound.specs.Conditions.{AreMultipliersOf}
+use Rattle.ice_defs.specs.Conditions.{AreMultipliersOf}
 use Rattle.ice_searching.specs.Parts.{Part}
 use Rattle.ice_searching.specs.Searching.{AreOpen}
 use Rattle.ice_searching.proofs.Stepping.{search_begins}

@@ -4,7 +4,7 @@ use Rattle.std.proofs.lemmas.List.{length-map}
 use Rattle.ice_defs.specs.Steps.{Side, with_mark}
 use Rattle.ice_defs.specs.Trade.{fixing_of}
 use Rattle.ice_defs.specs.Log.{IsFreeNode}
-use Rattle.ice_bound.specs.Conditions.{AreFixingsOf, AreMultipliersOf}
+use Rattle.ice_defs.specs.Conditions.{AreFixingsOf, AreMultipliersOf}
 use Rattle.ice_searching.specs.Parts.{side_at}
 use Rattle.ice_searching.proofs.Marked.{side_is_below, sides_are_fixings}
 use Rattle.ice_assembly.specs.declared.part.Part.{Part}

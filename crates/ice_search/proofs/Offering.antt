@@ -4,7 +4,7 @@ use Rattle.std.specs.Prelude.{sum_by}
 use Rattle.std.proofs.lemmas.Int.{ints, by_lt_z}
 use Rattle.ice_defs.specs.Trade.{IsFeasible, total_value}
 use Rattle.ice_defs.specs.Sweep.{IsLive, IsSweptBound}
-use Rattle.ice_bound.specs.Conditions.{AreWeightsOf}
+use Rattle.ice_defs.specs.Conditions.{AreWeightsOf}
 use Rattle.ice_bound.specs.Kept.{Standing, AreRelaxedSets}
 use Rattle.ice_searching.specs.Nodes.{HasNoNode, AreOpenSets}
 use Rattle.ice_searching.proofs.Single.{node_is_there}

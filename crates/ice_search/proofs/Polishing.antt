@@ -2,7 +2,7 @@
 use Rattle.std.proofs.Common.{◌≡◌, sym, subst}
 use Rattle.std.specs.Prelude.{pos, ◌+ℤ◌, ◌*ℤ◌, ◌≤ℤ◌, ◌<ℤ◌}
 use Rattle.ice_defs.specs.Steps.{Side}
-use Rattle.ice_bound.specs.Conditions.{AreMultipliersOf}
+use Rattle.ice_defs.specs.Conditions.{AreMultipliersOf}
 use Rattle.ice_bound.specs.Kept.{Standing}
 use Rattle.ice_subgradient.specs.declared.incumbent.Incumbent.{Incumbent}
 use Rattle.ice_subgradient.specs.declared.polishing.Evaluated.{Evaluated}

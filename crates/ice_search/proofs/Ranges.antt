@@ -8,7 +8,7 @@ use Rattle.ice_defs.specs.Tree.{Tree}
 use Rattle.ice_defs.specs.Set.{NodeSet, Weights, has, weight_of, value}
 use Rattle.ice_defs.specs.Trade.{Assignment, tree_of, set_of, weights_of, total_value}
 use Rattle.ice_defs.proofs.Sums.{sum_below-le, sum_below-low, sum_below-high, sum_below-front}
-use Rattle.ice_bound.specs.Conditions.{AreModest, AreWeightsOf}
+use Rattle.ice_defs.specs.Conditions.{AreModest, AreWeightsOf}
 
 term_low : (b : Bool) (z : ℤ) → neg_ℤ (pos 100000000000) ≤ℤ z → neg_ℤ (pos 100000000000) ≤ℤ cond b z (pos 0)
 term_low true z low = low

@@ -7,7 +7,7 @@ use Rattle.ice_defs.specs.Steps.{Side, with_mark}
 use Rattle.ice_defs.specs.Log.{IsFreeNode}
 use Rattle.ice_defs.specs.Sweep.{IsLive}
 use Rattle.ice_bound.specs.Answer.{IsFirstDead}
-use Rattle.ice_bound.specs.Conditions.{AreFixingsOf}
+use Rattle.ice_defs.specs.Conditions.{AreFixingsOf}
 use Rattle.ice_bound.specs.Kept.{Standing}
 use Rattle.ice_refute.proofs.Kept.{with_mark-back}
 use Rattle.ice_search.specs.Nodes.{IsSplitNode, IsSameStanding}

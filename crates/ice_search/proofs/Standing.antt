@@ -8,7 +8,7 @@ use Rattle.ice_defs.specs.Bound.{Multipliers, IsBound, IsNetSum}
 use Rattle.ice_defs.specs.Steps.{Side, with_mark}
 use Rattle.ice_defs.specs.Log.{IsFreeNode}
 use Rattle.ice_defs.specs.Sweep.{Sweeps}
-use Rattle.ice_bound.specs.Conditions.{AreFixingsOf}
+use Rattle.ice_defs.specs.Conditions.{AreFixingsOf}
 use Rattle.ice_refute.proofs.Kept.{with_mark-back}
 
 -- the same sum and the same bound by other names

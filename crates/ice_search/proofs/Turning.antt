@@ -12,7 +12,7 @@ use Rattle.ice_defs.specs.Trade.{Assignment, MeetsAll}
 use Rattle.ice_defs.specs.Bound.{Multipliers}
 use Rattle.ice_defs.specs.Steps.{Side, with_mark}
 use Rattle.ice_defs.specs.Sweep.{IsLive, IsSweptBound}
-use Rattle.ice_bound.specs.Conditions.{AreFixingsOf, AreMultipliersOf}
+use Rattle.ice_defs.specs.Conditions.{AreFixingsOf, AreMultipliersOf}
 use Rattle.ice_searching.specs.Parts.{Part, no_part, part_at, side_at, split_at}
 use Rattle.ice_searching.specs.Searching.{IsPart, AreOpen, IsNext}
 use Rattle.ice_searching.proofs.Ending.{split_is_earned}

@@ -7,7 +7,7 @@ use Rattle.ice_defs.specs.Bound.{Multipliers, IsBound}
 use Rattle.ice_defs.specs.Steps.{Side}
 use Rattle.ice_defs.specs.Sweep.{Sweeps, all_zero}
 use Rattle.ice_defs.specs.Exchange.{Exchange, trees_of, exact_of}
-use Rattle.ice_bound.specs.Conditions.{AreWeightsOf, AreFixingsOf}
+use Rattle.ice_defs.specs.Conditions.{AreWeightsOf, AreFixingsOf}
 use Rattle.ice_searching.specs.Parts.{Part}
 use Rattle.ice_searching.specs.Searching.{IsSearch, IsIncumbent}
 

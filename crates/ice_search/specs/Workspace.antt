@@ -2,7 +2,7 @@
 use Rattle.std.specs.Prelude.{ℕ, ◌≡◌, Bool, List, length}
 use Rattle.ice_defs.specs.Fixing.{Fixing}
 use Rattle.ice_defs.specs.Steps.{Side}
-use Rattle.ice_bound.specs.Conditions.{AreFixingsOf, AreMultipliersOf}
+use Rattle.ice_defs.specs.Conditions.{AreFixingsOf, AreMultipliersOf}
 use Rattle.ice_bound.specs.Kept.{Standing}
 use Rattle.ice_subgradient.specs.declared.incumbent.Incumbent.{Incumbent}
 use Rattle.ice_subgradient.specs.Offers.{IsOffered}

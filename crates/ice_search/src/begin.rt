@@ -1,6 +1,6 @@
 //! The beginning of a search.
 ghost use Rattle.std.specs.Prelude.{◌≡◌, length, IfOk};
-ghost use Rattle.ice_bound.specs.Conditions.{AreMultipliersOf};
+ghost use Rattle.ice_defs.specs.Conditions.{AreMultipliersOf};
 ghost use Rattle.ice_defs.specs.declared.Mark.TheVariants.{Free};
 ghost use Rattle.ice_assembly.specs.Code.{part_of};
 ghost use Rattle.ice_search.specs.Instance.{IsInstance, IsIncumbentOf};

@@ -4,7 +4,7 @@ ghost use Rattle.ice_defs.specs.Bound.{IsOpen};
 ghost use Rattle.ice_defs.specs.Exchange.{trees_of, exact_of};
 ghost use Rattle.ice_defs.specs.Fixing.{Agrees, Meets};
 ghost use Rattle.ice_defs.specs.Trade.{IsFeasible, MeetsAll};
-ghost use Rattle.ice_bound.specs.Conditions.{AreFixingsOf};
+ghost use Rattle.ice_defs.specs.Conditions.{AreFixingsOf};
 ghost use Rattle.ice_search.specs.Instance.{IsIncumbentOf};
 
 use crate::problem::Problem;

@@ -3,7 +3,7 @@ ghost use Rattle.std.specs.Prelude.{◌≡◌, ◌<◌, length, pos, ◌+ℤ◌,
 ghost use Rattle.ice_defs.specs.Log.{IsFreeNode};
 ghost use Rattle.ice_defs.specs.Steps.{with_mark};
 ghost use Rattle.ice_defs.specs.Sweep.{IsLive};
-ghost use Rattle.ice_bound.specs.Conditions.{AreFixingsOf, AreMultipliersOf};
+ghost use Rattle.ice_defs.specs.Conditions.{AreFixingsOf, AreMultipliersOf};
 ghost use Rattle.ice_search.specs.Workspace.{IsPolishedAt};
 
 use crate::sweep::Bounded;

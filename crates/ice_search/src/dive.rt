@@ -2,7 +2,7 @@
 ghost use Rattle.std.specs.Prelude.{◌≡◌, ◌<◌, ◌⊎◌, length, IfOk, ◌≤ℤ◌};
 ghost use Rattle.ice_defs.specs.Log.{IsFreeNode};
 ghost use Rattle.ice_assembly.specs.Code.{parts_of};
-ghost use Rattle.ice_bound.specs.Conditions.{AreFixingsOf, AreMultipliersOf};
+ghost use Rattle.ice_defs.specs.Conditions.{AreFixingsOf, AreMultipliersOf};
 ghost use Rattle.ice_search.specs.Instance.{IsSearchOf, IsIncumbentOf};
 
 use crate::candidates::consider;

@@ -3,7 +3,7 @@ ghost use Rattle.std.specs.Prelude.{◌≡◌, ◌+◌, ◌^◌, ◌<◌, ◌≤
 ghost use Rattle.ice_defs.specs.Exchange.{trees_of, exact_of};
 ghost use Rattle.ice_defs.specs.Steps.{Step as PlainStep, branch_count};
 ghost use Rattle.ice_defs.specs.Trade.{IsFeasible, MeetsAll, IsBest};
-ghost use Rattle.ice_bound.specs.Conditions.{AreWeightsOf, AreFixingsOf, AreMultipliersOf};
+ghost use Rattle.ice_defs.specs.Conditions.{AreWeightsOf, AreFixingsOf, AreMultipliersOf};
 ghost use Rattle.ice_refute.specs.Code.{step_of};
 ghost use Rattle.ice_search.specs.Instance.{instance_of};
 ghost use Rattle.ice_search.specs.Results.{IsFoundBy, IsEnd};

@@ -5,7 +5,7 @@ ghost use Rattle.ice_defs.specs.Log.{IsFreeNode};
 ghost use Rattle.ice_defs.specs.Steps.{with_mark};
 ghost use Rattle.ice_defs.specs.Sweep.{IsLive};
 ghost use Rattle.ice_defs.specs.Trade.{tree_of};
-ghost use Rattle.ice_bound.specs.Conditions.{AreFixingsOf};
+ghost use Rattle.ice_defs.specs.Conditions.{AreFixingsOf};
 ghost use Rattle.ice_searching.specs.Nodes.{HasNoNode};
 ghost use Rattle.ice_search.specs.Nodes.{IsSplitNode, HasNoNodeOf, IsSameStanding};
 

@@ -2,7 +2,7 @@
 ghost use Rattle.std.specs.Prelude.{◌≡◌, ◌≤◌, length, IfSome};
 ghost use Rattle.ice_defs.specs.Exchange.{trees_of, exact_of};
 ghost use Rattle.ice_defs.specs.Trade.{IsFeasible, MeetsAll, total_value};
-ghost use Rattle.ice_bound.specs.Conditions.{AreWeightsOf, AreFixingsOf};
+ghost use Rattle.ice_defs.specs.Conditions.{AreWeightsOf, AreFixingsOf};
 ghost use Rattle.ice_search.specs.Instance.{instance_of};
 
 use crate::candidates::is_feasible;

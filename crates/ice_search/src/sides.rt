@@ -1,6 +1,6 @@
 //! The side of a part: the marks along the parts above it.
 ghost use Rattle.std.specs.Prelude.{◌≡◌, ◌<◌, length};
-ghost use Rattle.ice_bound.specs.Conditions.{AreFixingsOf};
+ghost use Rattle.ice_defs.specs.Conditions.{AreFixingsOf};
 ghost use Rattle.ice_searching.specs.Parts.{side_at};
 ghost use Rattle.ice_assembly.specs.Code.{parts_of};
 ghost use Rattle.ice_search.specs.Instance.{IsSearchOf};

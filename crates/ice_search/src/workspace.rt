@@ -1,6 +1,6 @@
 //! The workspace of a search: the side that is looked at, with its kept bounds, and the room that sweeps need.
 ghost use Rattle.std.specs.Prelude.{◌≡◌, ◌<◌, length, IfOk, List, Bool};
-ghost use Rattle.ice_bound.specs.Conditions.{AreMultipliersOf};
+ghost use Rattle.ice_defs.specs.Conditions.{AreMultipliersOf};
 ghost use Rattle.ice_searching.specs.Parts.{side_at};
 ghost use Rattle.ice_assembly.specs.Code.{parts_of};
 ghost use Rattle.ice_search.specs.Instance.{IsSearchOf};

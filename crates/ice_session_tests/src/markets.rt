@@ -1,7 +1,7 @@
 //! Worked exchanges, in line form.
 ghost use Rattle.std.specs.Prelude.{IfOk};
 ghost use Rattle.ice_defs.specs.Exchange.{trees_of};
-ghost use Rattle.ice_bound.specs.Conditions.{AreWeightsOf, AreFixingsOf};
+ghost use Rattle.ice_defs.specs.Conditions.{AreWeightsOf, AreFixingsOf};
 
 use ice_best::Fixings;
 use ice_section::read_exchange_lines;

@@ -1,7 +1,7 @@
 //! What a search answers, in numbers.
 ghost use Rattle.std.specs.Prelude.{◌≤◌};
 ghost use Rattle.ice_defs.specs.Exchange.{trees_of};
-ghost use Rattle.ice_bound.specs.Conditions.{AreWeightsOf};
+ghost use Rattle.ice_defs.specs.Conditions.{AreWeightsOf};
 
 use crate::markets::{free, lower};
 use ice_refute::{Log, Step};

@@ -1,7 +1,7 @@
 //! Both ways to prices, on generated exchanges.
 ghost use Rattle.std.specs.Prelude.{IfOk};
 ghost use Rattle.ice_defs.specs.Exchange.{trees_of};
-ghost use Rattle.ice_bound.specs.Conditions.{AreWeightsOf};
+ghost use Rattle.ice_defs.specs.Conditions.{AreWeightsOf};
 ghost use Rattle.ice_tree.specs.Alike.{HasWeightPerNode};
 ghost use Rattle.ice_pricing.specs.Provisional.{AreModest};
 

@@ -2,7 +2,7 @@
 use Rattle.std.specs.Prelude.{◌≡◌, length, ℤ, ◌≤ℤ◌}
 use Rattle.ice_defs.specs.Bound.{IsNetSum}
 use Rattle.ice_defs.specs.Trade.{total_value}
-use Rattle.ice_bound.specs.Conditions.{AreMultipliersOf}
+use Rattle.ice_defs.specs.Conditions.{AreMultipliersOf}
 use Rattle.ice_bound.specs.Kept.{Standing}
 use Rattle.ice_subgradient.specs.declared.incumbent.Incumbent.{Incumbent}
 use Rattle.ice_subgradient.specs.declared.polishing.Evaluated.{Evaluated}

@@ -1,6 +1,6 @@
 //! What a sweep will make of zeros, as far as the relaxation shows.
 ghost use Rattle.std.specs.Prelude.{◌≡◌};
-ghost use Rattle.ice_bound.specs.Conditions.{AreMultipliersOf};
+ghost use Rattle.ice_defs.specs.Conditions.{AreMultipliersOf};
 
 use crate::course::FARTHEST;
 use crate::polishing::{goods_of, multipliers_of, numbers_of};

@@ -3,7 +3,7 @@ ghost use Rattle.std.specs.Prelude.{◌≡◌, ◌<◌, ◌≤◌, ◌^◌, leng
 ghost use Rattle.ice_defs.specs.Bound.{IsNetSum};
 ghost use Rattle.ice_defs.specs.Sweep.{IsLive};
 ghost use Rattle.ice_defs.specs.Trade.{total_value};
-ghost use Rattle.ice_bound.specs.Conditions.{AreMultipliersOf};
+ghost use Rattle.ice_defs.specs.Conditions.{AreMultipliersOf};
 ghost use Rattle.ice_bound.specs.Kept.{Standing};
 ghost use Rattle.ice_subgradient.specs.Offers.{AreCovered, IsOffered};
 ghost use Rattle.ice_subgradient.specs.Polished.{IsSameSide, IsPolished};

@@ -1,6 +1,6 @@
 //! Trials: the candidates for a branch are compared by what the bounds of both children fall to.
 ghost use Rattle.std.specs.Prelude.{◌≡◌, ◌<◌, ◌≤◌, length};
-ghost use Rattle.ice_bound.specs.Conditions.{AreWeightsOf, AreFixingsOf};
+ghost use Rattle.ice_defs.specs.Conditions.{AreWeightsOf, AreFixingsOf};
 
 use crate::course::Goods;
 use crate::descent::Descent;

@@ -1,7 +1,7 @@
 -- The bounds of a round are bounds of the exchange's trees.
 use Rattle.std.proofs.Common.{length, ◌∙◌, sym, arith}
 use Rattle.ice_defs.specs.Exchange.{Exchange, trees_of}
-use Rattle.ice_bound.specs.Conditions.{AreBoundsOf}
+use Rattle.ice_defs.specs.Conditions.{AreBoundsOf}
 use Rattle.ice_trade.proofs.Weighted.{length-trees}
 use Rattle.ice_verdicts.specs.Judges.{Round, IsRoundOf}
 

@@ -6,7 +6,7 @@ use Rattle.ice_defs.specs.Weighing.{lower_weights}
 use Rattle.ice_defs.specs.declared.Group.TheVariants.{Without}
 use Rattle.ice_defs.specs.Group.{start_of, empty_sets}
 use Rattle.ice_defs.specs.Exchange.{Exchange, trees_of, exact_of}
-use Rattle.ice_bound.specs.Conditions.{AreBoundsOf}
+use Rattle.ice_defs.specs.Conditions.{AreBoundsOf}
 use Rattle.ice_search.specs.Instance.{Instance, instance_of}
 
 pub record Economy : Type 0 where

@@ -4,7 +4,7 @@ ghost use Rattle.ice_defs.specs.Exchange.{trees_of, exact_of};
 ghost use Rattle.ice_defs.specs.Steps.{branch_count};
 ghost use Rattle.ice_defs.specs.Weighing.{lower_weights};
 ghost use Rattle.ice_defs.specs.Trade.{IsFeasible, IsBestOfAll, total_value};
-ghost use Rattle.ice_bound.specs.Conditions.{AreBoundsOf};
+ghost use Rattle.ice_defs.specs.Conditions.{AreBoundsOf};
 ghost use Rattle.ice_search.specs.Results.{IsEnd};
 ghost use Rattle.ice_vickrey.specs.Economy.{economy_at, without_search};
 ghost use Rattle.ice_vickrey.specs.Marginals.{IsMarginalOf};

@@ -3,7 +3,7 @@ ghost use Rattle.std.specs.Prelude.{◌≡◌, ◌+◌, ◌≤◌, IfOk, IfErr};
 ghost use Rattle.ice_defs.specs.Exchange.{trees_of, exact_of};
 ghost use Rattle.ice_defs.specs.Trade.{IsFeasible, IsBestOfAll, total_value};
 ghost use Rattle.ice_defs.specs.Weighing.{lower_weights};
-ghost use Rattle.ice_bound.specs.Conditions.{AreBoundsOf};
+ghost use Rattle.ice_defs.specs.Conditions.{AreBoundsOf};
 ghost use Rattle.ice_vickrey.specs.Economy.{economy_at};
 ghost use Rattle.ice_vickrey.specs.Marginals.{AreMarginals, IsDiscountEnd, branches_of};
 

@@ -1,6 +1,6 @@
 //! Where a search may begin: multipliers and assignments of searches before. What they say decides nothing.
 ghost use Rattle.std.specs.Prelude.{◌≤◌, length};
-ghost use Rattle.ice_bound.specs.Conditions.{AreMultipliersOf};
+ghost use Rattle.ice_defs.specs.Conditions.{AreMultipliersOf};
 
 use crate::marginal::Marginal;
 use ice_bound::Multipliers;

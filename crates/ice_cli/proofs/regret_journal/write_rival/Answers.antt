@@ -2,7 +2,7 @@ use Rattle.std.proofs.Common.{◌++◌, sym, subst, List}
 use Rattle.ice_edge.specs.declared.status.Status.TheVariants.{Done, Spent, NoMemory}
 use Rattle.ice_defs.specs.Bounds.{Bounds}
 use Rattle.ice_defs.specs.Exchange.{trees_of, opening_bounds}
-use Rattle.ice_bound.specs.Conditions.{AreBoundsOf}
+use Rattle.ice_defs.specs.Conditions.{AreBoundsOf}
 use Rattle.ice_bound.proofs.Living.{opening_are_bounds}
 use Rattle.ice_search.specs.Results.{IsSpentBy}
 use Rattle.ice_regret.specs.Regretted.{rival_search, IsRegretOf}

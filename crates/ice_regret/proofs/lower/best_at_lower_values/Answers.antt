@@ -8,7 +8,7 @@ use Rattle.ice_defs.specs.Weighing.{lower_weights}
 use Rattle.ice_defs.specs.Exchange.{trees_of, exact_of}
 use Rattle.ice_defs.proofs.EmptySets.{empty_feasible}
 use Rattle.ice_defs.proofs.Starts.{meets_free_side}
-use Rattle.ice_bound.specs.Conditions.{AreWeightsOf}
+use Rattle.ice_defs.specs.Conditions.{AreWeightsOf}
 use Rattle.ice_bound.proofs.Modest.{lower_modest}
 use Rattle.ice_search.specs.Instance.{Instance, instance_of}
 use Rattle.ice_search.specs.Results.{IsFoundBy, IsEnd}

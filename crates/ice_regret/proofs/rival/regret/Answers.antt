@@ -9,7 +9,7 @@ use Rattle.ice_defs.specs.Group.{free_side}
 use Rattle.ice_defs.specs.Searched.{IsFound}
 use Rattle.ice_defs.specs.Weighing.{perturbed_weights}
 use Rattle.ice_defs.specs.Exchange.{trees_of, exact_of}
-use Rattle.ice_bound.specs.Conditions.{AreWeightsOf}
+use Rattle.ice_defs.specs.Conditions.{AreWeightsOf}
 use Rattle.ice_bound.proofs.Modest.{perturbed_modest}
 use Rattle.ice_search.specs.Instance.{instance_of}
 use Rattle.ice_search.specs.Results.{IsFoundBy}

@@ -2,7 +2,7 @@ use Rattle.std.proofs.Common.{List, map, replicate, length, sym, ◌∙◌, subs
 use Rattle.ice_defs.specs.declared.Mark.TheVariants.{Free}
 use Rattle.ice_defs.specs.Tree.{Tree}
 use Rattle.ice_defs.specs.Exchange.{trees_of}
-use Rattle.ice_bound.specs.Conditions.{AreFixingsOf}
+use Rattle.ice_defs.specs.Conditions.{AreFixingsOf}
 use Rattle.ice_bound.proofs.Fixings.{free_fixings}
 use Rattle.ice_session_tests.proofs.markets.free.Goals as goal
 

@@ -4,7 +4,7 @@ use Rattle.ice_defs.specs.Set.{Weights}
 use Rattle.ice_defs.specs.Bounds.{Bounds}
 use Rattle.ice_defs.specs.Exchange.{trees_of, opening_bounds}
 use Rattle.ice_tree.specs.Alike.{AreAlike}
-use Rattle.ice_bound.specs.Conditions.{AreWeightsOf}
+use Rattle.ice_defs.specs.Conditions.{AreWeightsOf}
 use Rattle.ice_bound.proofs.Living.{opening_are_bounds}
 use Rattle.ice_bound.proofs.Modest.{zeros_alike, lower_modest}
 use Rattle.ice_session_tests.proofs.markets.lower.Goals as goal

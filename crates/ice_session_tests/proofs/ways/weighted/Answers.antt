@@ -2,7 +2,7 @@ use Rattle.std.proofs.Common.{sym, ◌∙◌, ap, subst, List}
 use Rattle.ice_defs.specs.Bounds.{Bounds}
 use Rattle.ice_defs.specs.Exchange.{trees_of, opening_bounds}
 use Rattle.ice_defs.specs.Weighing.{weighted_weights}
-use Rattle.ice_bound.specs.Conditions.{AreWeightsOf}
+use Rattle.ice_defs.specs.Conditions.{AreWeightsOf}
 use Rattle.ice_bound.proofs.Living.{opening_are_bounds}
 use Rattle.ice_bound.proofs.Modest.{weighted_modest}
 use Rattle.ice_pricing.specs.Bounding.{AreBoundsOf}

@@ -2,7 +2,7 @@ use Rattle.std.proofs.Common.{rules, subst}
 use Rattle.std.proofs.lemmas.Int.{to_z-of_z}
 use mir.Syntax.{w128}
 use mir.Val.{SFits}
-use Rattle.ice_bound.specs.Conditions.{AreMultipliersOf}
+use Rattle.ice_defs.specs.Conditions.{AreMultipliersOf}
 use Rattle.ice_subgradient.specs.Polished.{IsSameSide}
 use Rattle.ice_subgradient.proofs.Stepping.{still_live, same_again, one_more}
 use Rattle.ice_subgradient.proofs.polishing.go_on.Goals as goal

@@ -7,7 +7,7 @@ use Rattle.std.proofs.Common.{List}
 use Rattle.ice_defs.specs.Exchange.{Exchange, trees_of, exact_of}
 use Rattle.ice_defs.specs.Lawful.{IsExchange}
 use Rattle.ice_defs.specs.Group.{group_weights}
-use Rattle.ice_bound.specs.Conditions.{AreBoundsOf}
+use Rattle.ice_defs.specs.Conditions.{AreBoundsOf}
 use Rattle.ice_check.specs.declared.next.Next.TheVariants as coming
 use Rattle.ice_tree.specs.Alike.{HasSetPerTree}
 use Rattle.ice_check.specs.Logs.{IsWalkOf}

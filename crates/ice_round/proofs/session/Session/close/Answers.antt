@@ -3,7 +3,7 @@ use Rattle.ice_defs.specs.Trade.{total_value}
 use Rattle.ice_defs.specs.Bounds.{Bounds}
 use Rattle.ice_defs.specs.Weighing.{lower_weights}
 use Rattle.ice_defs.specs.Exchange.{trees_of}
-use Rattle.ice_bound.specs.Conditions.{AreBoundsOf}
+use Rattle.ice_defs.specs.Conditions.{AreBoundsOf}
 use Rattle.ice_vickrey.specs.Economy.{economy_at}
 use Rattle.ice_vickrey.specs.Marginals.{AreMarginals, IsSpentWithout, IsDiscountEnd}
 use Rattle.ice_vickrey.specs.declared.marginal.Marginal.{Marginal}

@@ -1,7 +1,7 @@
 use Rattle.std.proofs.Common.{◌≡◌, ◌∙◌, ap, sym, subst}
 use Rattle.ice_defs.specs.Weighing.{weighted_weights}
 use Rattle.ice_defs.specs.Exchange.{Settings, trees_of}
-use Rattle.ice_bound.specs.Conditions.{AreWeightsOf}
+use Rattle.ice_defs.specs.Conditions.{AreWeightsOf}
 use Rattle.ice_bound.proofs.Modest.{weighted_modest}
 use Rattle.ice_verdicts.proofs.Bounded.{round_bounds}
 use Rattle.ice_round.proofs.session.Session.provisional_sets.Goals as goal

@@ -1,7 +1,7 @@
 use Rattle.std.proofs.Common.{sym, subst, List}
 use Rattle.ice_defs.specs.Bounds.{Bounds}
 use Rattle.ice_defs.specs.Exchange.{trees_of}
-use Rattle.ice_bound.specs.Conditions.{AreBoundsOf}
+use Rattle.ice_defs.specs.Conditions.{AreBoundsOf}
 use Rattle.ice_search.specs.Results.{IsEnd}
 use Rattle.ice_regret.specs.Regretted.{IsRegretOf, rival_search}
 use Rattle.ice_round.specs.Kept.{session_at}

@@ -6,7 +6,7 @@ use Rattle.std.proofs.lemmas.List.{length-map}
 use Rattle.ice_defs.specs.declared.Mark.TheVariants.{Must, Never}
 use Rattle.ice_defs.specs.Steps.{Side, with_mark}
 use Rattle.ice_defs.specs.Sweep.{IsLive}
-use Rattle.ice_bound.specs.Conditions.{AreFixingsOf, AreMultipliersOf}
+use Rattle.ice_defs.specs.Conditions.{AreFixingsOf, AreMultipliersOf}
 use Rattle.ice_searching.specs.Parts as parts
 use Rattle.ice_searching.specs.Parts.{part_at, split_at}
 use Rattle.ice_searching.specs.Searching.{IsNext}

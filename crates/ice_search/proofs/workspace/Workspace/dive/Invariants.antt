@@ -1,5 +1,5 @@
 use Rattle.std.proofs.Common.{◌≡◌, length}
-use Rattle.ice_bound.specs.Conditions.{AreMultipliersOf}
+use Rattle.ice_defs.specs.Conditions.{AreMultipliersOf}
 use Rattle.ice_search.proofs.workspace.Workspace.dive.Given as goal
 
 abbrev pub invariant-loop-level : goal.invariant-loop-level

@@ -1,7 +1,7 @@
 use Rattle.std.proofs.Common.{ap, sym, ◌∙◌, ◌≡◌, subst}
 use Rattle.ice_defs.specs.Steps.{with_mark}
 use Rattle.ice_defs.specs.Log.{IsFreeNode}
-use Rattle.ice_bound.specs.Conditions.{AreFixingsOf}
+use Rattle.ice_defs.specs.Conditions.{AreFixingsOf}
 use Rattle.ice_search.proofs.Splitting.{live_there}
 use Rattle.ice_search.proofs.Standing.{taken_back}
 use Rattle.ice_search.proofs.Polishing.{polished_there}

@@ -12,7 +12,7 @@ use Rattle.ice_defs.specs.Group.{free_side, start_of, empty_sets}
 use Rattle.ice_defs.specs.Searched.{IsFound}
 use Rattle.ice_defs.specs.Exchange.{trees_of, exact_of}
 use Rattle.ice_defs.proofs.EmptySets.{empty_feasible}
-use Rattle.ice_bound.specs.Conditions.{AreWeightsOf, AreFixingsOf}
+use Rattle.ice_defs.specs.Conditions.{AreWeightsOf, AreFixingsOf}
 use Rattle.ice_bound.proofs.Modest.{lower_modest}
 use Rattle.ice_bound.proofs.Fixings.{free_fixings, marked_fixings}
 use Rattle.ice_search.specs.Instance.{instance_of}
