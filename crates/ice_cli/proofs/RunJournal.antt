@@ -23,9 +23,9 @@ use Rattle.ice_search.specs.declared.results.Spent as results
 use Rattle.ice_regret.specs.declared.lead.Regret.{Regret}
 use Rattle.ice_price.specs.declared.ends.PriceLimit.{PriceLimit}
 use Rattle.ice_round.specs.SessionAt.{SessionAt, RoundAt}
-use Rattle.ice_round.specs.Searches.{settlement_of}
-use Rattle.ice_round.specs.Shown.{closed_of, IsClosing}
-use Rattle.ice_round.specs.declared.settled.Closing.{Closing}
+use Rattle.ice_settled.specs.Shown.{settlement_of, closed_of}
+use Rattle.ice_round.specs.Shown.{IsClosing}
+use Rattle.ice_settled.specs.declared.settled.Closing.{Closing}
 use Rattle.ice_write_session.specs.Records.{closing_records, spent_records, limit_records}
 use Rattle.ice_round_laws.specs.Running.{IsRunning, IsInRound}
 use Rattle.ice_round_laws.specs.Stops.{StopsRound, no_file, file_refused, file_unread}

@@ -29,11 +29,12 @@ use Rattle.ice_regret.specs.declared.lead.Regret.{Regret}
 use Rattle.ice_price.specs.declared.ends.PriceLimit.{PriceLimit}
 use Rattle.ice_vickrey.specs.declared.marginal.Marginal.{Marginal}
 use Rattle.ice_round.specs.SessionAt.{SessionAt, RoundAt, session_after}
-use Rattle.ice_round.specs.Shown.{going_of, IsClosing, IsOpening}
+use Rattle.ice_settled.specs.Shown.{going_of}
+use Rattle.ice_round.specs.Shown.{IsClosing, IsOpening}
 use Rattle.ice_round.specs.Ends.{IsHaltOf, IsSpentAt, IsLimitAt}
-use Rattle.ice_round.specs.declared.settled.Closing.{Closing}
-use Rattle.ice_round.specs.declared.settled.Opening.{Opening}
-use Rattle.ice_round.specs.declared.settled.Halt.{Halt}
+use Rattle.ice_settled.specs.declared.settled.Closing.{Closing}
+use Rattle.ice_settled.specs.declared.settled.Opening.{Opening}
+use Rattle.ice_settled.specs.declared.settled.Halt.{Halt}
 use Rattle.ice_write_session.specs.Records.{opening_records, closing_records, halted_records, halt_records, spent_records, limit_records}
 use Rattle.ice_write_session.proofs.Halts.{halts_before_final, halts_before_rival, halts_before_without, halts_before_provisional, halts_at_prices}
 use Rattle.ice_write_session.proofs.Lawful.{opening_are_records, closing_are_records, halt_are_records, spent_are_records, limit_are_records}

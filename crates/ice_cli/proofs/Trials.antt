@@ -29,11 +29,10 @@ use Rattle.ice_search.specs.declared.results.Spent as results
 use Rattle.ice_search.specs.Results.{proved_found}
 use Rattle.ice_price.specs.declared.ends.PriceLimit.{PriceLimit}
 use Rattle.ice_round.specs.SessionAt.{SessionAt}
-use Rattle.ice_round.specs.Searches.{settlement_of}
-use Rattle.ice_round.specs.Shown.{going_of}
+use Rattle.ice_settled.specs.Shown.{settlement_of, going_of}
 use Rattle.ice_round.specs.Ends.{IsHaltOf, IsSpentAt, IsLimitAt}
-use Rattle.ice_round.specs.declared.settled.Opening.{Opening}
-use Rattle.ice_round.specs.declared.settled.Halt.{Halt}
+use Rattle.ice_settled.specs.declared.settled.Opening.{Opening}
+use Rattle.ice_settled.specs.declared.settled.Halt.{Halt}
 use Rattle.ice_write_session.specs.Records.{opening_records, halt_records, spent_records, limit_records}
 use Rattle.ice_write_session.specs.Writable.{IsWritableOpening}
 use Rattle.ice_write.proofs.Loops.{bytes_flat}

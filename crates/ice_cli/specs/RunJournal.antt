@@ -17,7 +17,7 @@ use Rattle.ice_regret.specs.declared.lead.Regret.{Regret}
 use Rattle.ice_price.specs.declared.ends.PriceLimit.{PriceLimit}
 use Rattle.ice_round.specs.SessionAt.{SessionAt, RoundAt}
 use Rattle.ice_round.specs.Shown.{IsClosing}
-use Rattle.ice_round.specs.declared.settled.Closing.{Closing}
+use Rattle.ice_settled.specs.declared.settled.Closing.{Closing}
 use Rattle.ice_write_session.specs.Records.{closing_records, spent_records, limit_records}
 use Rattle.ice_round_laws.specs.Running.{IsRunning, IsInRound}
 use Rattle.ice_round_laws.specs.Laws.{sought_records}

@@ -18,7 +18,7 @@ use crate::run_journal::{bound_of, put_begin, put_halted, put_limited};
 use ice_bid::Bid;
 use ice_edge::{Sink, SinkFault};
 use ice_price::PriceLimit;
-use ice_round::Halt;
+use ice_settled::Halt;
 use ice_rules::Verdict;
 use ice_search::Spent;
 use ice_trade::Exchange;

@@ -20,8 +20,8 @@ use Rattle.ice_vickrey.specs.declared.marginal.Marginal.{Marginal}
 use Rattle.ice_round.specs.SessionAt.{SessionAt, IsSessionAt}
 use Rattle.ice_round.specs.Searches.{economy_of, IsSettlementOf}
 use Rattle.ice_round.specs.Paying.{discounts_of, ArePaymentsOf}
-use Rattle.ice_round.specs.Shown.{payments_of, closed_of}
-use Rattle.ice_round.specs.declared.settled.Closing.{Closing}
+use Rattle.ice_settled.specs.Shown.{payments_of, closed_of}
+use Rattle.ice_settled.specs.declared.settled.Closing.{Closing}
 
 -- ---- the values without each bidder
 

@@ -14,8 +14,9 @@ use Rattle.ice_search.specs.Results.{proved_found, IsFoundBy}
 use Rattle.ice_price.specs.Ends.{IsPriced}
 use Rattle.ice_round.specs.SessionAt.{SessionAt}
 use Rattle.ice_round.specs.Searches.{provisional_search, IsSettlementOf}
-use Rattle.ice_round.specs.Shown.{going_of, priced_trade}
-use Rattle.ice_round.specs.declared.settled.Opening.{Opening}
+use Rattle.ice_settled.specs.Shown.{going_of}
+use Rattle.ice_round.specs.Shown.{priced_trade}
+use Rattle.ice_settled.specs.declared.settled.Opening.{Opening}
 use Rattle.ice_round.proofs.Settling.{best_found}
 
 pub going_is : (s : SessionAt) (o : Opening) → IsSettlementOf s o.best o.regret → IsFoundBy (provisional_search s) o.provisional → IsPriced (priced_trade s o) o.pricing

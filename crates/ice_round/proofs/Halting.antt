@@ -14,7 +14,7 @@ use Rattle.ice_vickrey.specs.declared.marginal.Marginal.{Marginal}
 use Rattle.ice_round.specs.SessionAt.{SessionAt}
 use Rattle.ice_round.specs.Searches.{final_search, provisional_search, settlement_branches, IsSettlementOf}
 use Rattle.ice_round.specs.Ends.{IsSpentAt, at_final, at_rival, at_provisional, IsLimitAt, IsStoppedAt}
-use Rattle.ice_round.specs.declared.settled.Halt.{Halt}
+use Rattle.ice_settled.specs.declared.settled.Halt.{Halt}
 
 module _ (s : SessionAt) (h : Halt) (best : Option Found) (regret : Option Regret) (provisional : Option Found) (ms : List Marginal)
     (a : h.best ≡ best) (b : h.regret ≡ regret) (c : h.provisional ≡ provisional) (d : h.marginals.items ≡ ms) where

@@ -19,7 +19,7 @@ use Rattle.ice_vickrey.specs.declared.marginal.Marginal.{Marginal}
 use Rattle.ice_round.specs.SessionAt.{SessionAt}
 use Rattle.ice_round.specs.Searches.{final_search, provisional_search, economy_of, settlement_branches, IsSettlementOf}
 use Rattle.ice_round.specs.Shown.{IsClosing, IsOpening}
-use Rattle.ice_round.specs.declared.settled.Halt.{Halt}
+use Rattle.ice_settled.specs.declared.settled.Halt.{Halt}
 use Rattle.ice_round.specs.declared.settled.Settled.{Settled}
 use Rattle.ice_round.specs.declared.settled.Settled.TheVariants as settled
 

@@ -5,14 +5,14 @@ use Rattle.ice_defs.specs.Steps.{branch_count}
 use Rattle.ice_defs.specs.Weighing.{lower_weights, weighted_weights}
 use Rattle.ice_defs.specs.Group.{free_side, empty_sets}
 use Rattle.ice_defs.specs.Exchange.{Exchange, trees_of}
-use Rattle.ice_defs.specs.Session.{Settlement}
 use Rattle.ice_defs.specs.Right.{IsSettled}
 use Rattle.ice_search.specs.Instance.{Instance, instance_of}
-use Rattle.ice_search.specs.Results.{proved_found, IsFoundBy}
+use Rattle.ice_search.specs.Results.{IsFoundBy}
 use Rattle.ice_search.specs.declared.results.Found.{Found}
-use Rattle.ice_regret.specs.Regretted.{IsRegretOf, proved_rival}
+use Rattle.ice_regret.specs.Regretted.{IsRegretOf}
 use Rattle.ice_regret.specs.declared.lead.Regret.{Regret}
 use Rattle.ice_vickrey.specs.Economy.{Economy}
+use Rattle.ice_settled.specs.Shown.{settlement_of}
 use Rattle.ice_round.specs.SessionAt.{SessionAt}
 
 -- with all nodes free, from the empty sets
@@ -30,10 +30,6 @@ provisional_search s = empty_search s.exchange (weighted_weights s.exchange.sett
 -- the market at lower values, with the value of its final sets
 abbrev pub economy_of : SessionAt → Found → Economy
 economy_of s best = record { exchange = s.exchange; bounds = s.bounds; total = best.value }
-
--- the final sets, their rival and the regret
-abbrev pub settlement_of : Found → Regret → Settlement
-settlement_of best regret = record { final = proved_found best; rival = proved_rival regret; regret = regret.amount }
 
 -- the final sets by the first search, their regret by the second, and both are right
 pub record IsSettlementOf (s : SessionAt) (best : Found) (r : Regret) : Type 0 where

@@ -10,4 +10,4 @@ mod settled;
 
 pub use in_round::InRound;
 pub use ready::Ready;
-pub use settled::{Closing, Halt, Opening, Settled};
+pub use settled::Settled;

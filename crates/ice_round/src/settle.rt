@@ -14,11 +14,12 @@ ghost use Rattle.ice_round.specs.Ends.{IsHaltOf, IsStoppedAt, IsSettledAs};
 use crate::in_round::InRound;
 use crate::payments::pay;
 use crate::session::Session;
-use crate::settled::{Closing, Halt, Opening, Settled};
+use crate::settled::Settled;
 use ice_best::Fixings;
 use ice_price::{PriceEnd, price};
 use ice_regret::{Regret, closes, regret};
 use ice_search::{Found, SearchEnd, search};
+use ice_settled::{Closing, Halt, Opening};
 use ice_tree::{AllWeights, Assignment};
 use ice_vickrey::{DiscountEnd, Marginal, discounts};
 

@@ -35,8 +35,9 @@ use Rattle.ice_journal_laws.specs.Tests.{IsThresholdLine}
 use Rattle.ice_journal_laws.specs.ShowingSession.{AreShownWithout, vickreys_by, worth_of, AreShownPayments, IsShownClosed}
 use Rattle.ice_round.specs.SessionAt.{SessionAt}
 use Rattle.ice_round.specs.Searches.{economy_of}
-use Rattle.ice_round.specs.Shown.{payments_of, closed_of, IsClosing}
-use Rattle.ice_round.specs.declared.settled.Closing.{Closing}
+use Rattle.ice_settled.specs.Shown.{payments_of, closed_of}
+use Rattle.ice_round.specs.Shown.{IsClosing}
+use Rattle.ice_settled.specs.declared.settled.Closing.{Closing}
 use Rattle.ice_round.proofs.Settling.{final_rich}
 use Rattle.ice_write_session.specs.Writable.{IsWritable, AreWritableWithout, IsWritablePayment, IsWritableClosing}
 use Rattle.ice_round_laws.proofs.Worth.{worth_is_total}

@@ -46,7 +46,7 @@ use Rattle.ice_journal_laws.proofs.CarriedSpentSession.{unpacks_goings, unpacks_
 use Rattle.ice_journal_laws.proofs.CarriedStops as stop
 use Rattle.ice_journal_laws.proofs.CarriedVersions.{Unpacks, unpacks_join, unpacks_group, plain_record, whole_says}
 use Rattle.ice_round.specs.SessionAt.{SessionAt}
-use Rattle.ice_round.specs.Searches.{settlement_of}
+use Rattle.ice_settled.specs.Shown.{settlement_of}
 use Rattle.ice_round.specs.Ends.{IsLimitAt, at_pricing}
 use Rattle.ice_write_session.specs.Records.{member_record, limit_records}
 use Rattle.ice_write_session.specs.Writable.{IsWritableLimit}

@@ -21,8 +21,9 @@ use Rattle.ice_journal_laws.specs.Showing.{IsShown}
 use Rattle.ice_journal_laws.specs.ShowingSession.{AreShownVerdicts, IsShownPricing, IsShownGoing}
 use Rattle.ice_journal_laws.specs.Earning.{EarnsGoing}
 use Rattle.ice_round.specs.SessionAt.{SessionAt, RoundAt}
-use Rattle.ice_round.specs.Shown.{going_of, priced_trade, IsOpening}
-use Rattle.ice_round.specs.declared.settled.Opening.{Opening}
+use Rattle.ice_settled.specs.Shown.{going_of}
+use Rattle.ice_round.specs.Shown.{priced_trade, IsOpening}
+use Rattle.ice_settled.specs.declared.settled.Opening.{Opening}
 use Rattle.ice_write_session.specs.Writable.{IsWritable, IsWritableOpening}
 use Rattle.ice_round_laws.proofs.Worth.{worth_is_total}
 use Rattle.ice_round_laws.proofs.Found.{found_shown, found_earned, found_worth, found_writable}

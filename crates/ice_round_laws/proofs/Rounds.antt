@@ -26,8 +26,9 @@ use Rattle.ice_journal_laws.specs.Positions.{settlement_branches, going_branches
 use Rattle.ice_journal_laws.proofs.Past.{IsPast, past_more}
 use Rattle.ice_verdicts.specs.Judges.{Round, bidders_in, IsAfter}
 use Rattle.ice_round.specs.SessionAt.{SessionAt, RoundAt, session_after}
-use Rattle.ice_round.specs.Shown.{going_of, IsOpening}
-use Rattle.ice_round.specs.declared.settled.Opening.{Opening}
+use Rattle.ice_settled.specs.Shown.{going_of}
+use Rattle.ice_round.specs.Shown.{IsOpening}
+use Rattle.ice_settled.specs.declared.settled.Opening.{Opening}
 use Rattle.ice_round.proofs.GoingOn.{more_rounds}
 use Rattle.ice_write_session.specs.Records.{opening_records}
 use Rattle.ice_round_laws.specs.Running.{IsRunning, IsInRound}

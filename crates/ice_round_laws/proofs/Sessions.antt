@@ -22,8 +22,9 @@ use Rattle.ice_journal_laws.proofs.CarriedSession.{session_carries}
 use Rattle.ice_journal_laws.proofs.CarriedSays.{session_says}
 use Rattle.ice_journal_laws.proofs.CarriedSoFar.{whole_so_far}
 use Rattle.ice_round.specs.SessionAt.{SessionAt}
-use Rattle.ice_round.specs.Shown.{closed_of, IsClosing}
-use Rattle.ice_round.specs.declared.settled.Closing.{Closing}
+use Rattle.ice_settled.specs.Shown.{closed_of}
+use Rattle.ice_round.specs.Shown.{IsClosing}
+use Rattle.ice_settled.specs.declared.settled.Closing.{Closing}
 use Rattle.ice_write_session.specs.Records.{closing_records}
 use Rattle.ice_round_laws.specs.Running.{IsRunning}
 use Rattle.ice_round_laws.specs.Written.{begun_records, run_records, closed_session, IsUnended, IsClosedJournal}

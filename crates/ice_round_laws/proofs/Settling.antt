@@ -16,7 +16,8 @@ use Rattle.ice_regret.specs.declared.lead.Regret.{Regret}
 use Rattle.ice_journal_laws.specs.Showing.{IsShownSettlement}
 use Rattle.ice_journal_laws.specs.Earning.{EarnsSettlement}
 use Rattle.ice_round.specs.SessionAt.{SessionAt}
-use Rattle.ice_round.specs.Searches.{settlement_of, IsSettlementOf}
+use Rattle.ice_settled.specs.Shown.{settlement_of}
+use Rattle.ice_round.specs.Searches.{IsSettlementOf}
 use Rattle.ice_write_session.specs.Writable.{IsWritable, IsWritableRegret, IsWritableSettlement}
 use Rattle.ice_round_laws.proofs.Worth.{IsWorth, worth_is_total}
 use Rattle.ice_round_laws.proofs.Found.{found_shown, found_earned, found_worth, found_writable}

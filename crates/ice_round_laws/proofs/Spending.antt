@@ -39,9 +39,9 @@ use Rattle.ice_journal_laws.proofs.CarriedPosition.{Awaits, session_awaits}
 use Rattle.ice_journal_laws.proofs.CarriedSpentSession.{IsWholeSearch, spent_rest_in, session_spent_so_far}
 use Rattle.ice_journal_laws.proofs.CarriedIsSpent as carried
 use Rattle.ice_round.specs.SessionAt.{SessionAt}
-use Rattle.ice_round.specs.Searches.{settlement_of}
+use Rattle.ice_settled.specs.Shown.{settlement_of}
 use Rattle.ice_round.specs.Ends.{IsHaltOf, IsSpentAt, at_final, at_rival, at_without, at_provisional}
-use Rattle.ice_round.specs.declared.settled.Halt.{Halt}
+use Rattle.ice_settled.specs.declared.settled.Halt.{Halt}
 use Rattle.ice_write_session.specs.Records.{spent_records}
 use Rattle.ice_write_session.specs.Writable.{IsWritable, IsWritableRegret, AreWritableWithout, IsWritableHalt}
 use Rattle.ice_round_laws.specs.Running.{IsRunning}

@@ -22,12 +22,12 @@ use Rattle.ice_journal_laws.specs.SoFar.{IsSoFar}
 use Rattle.ice_journal_laws.specs.Positions.{Position, before_provisional, position_records}
 use Rattle.ice_verdicts.specs.Judges.{Round, bidders_in, IsVerdictIn, IsAfter}
 use Rattle.ice_round.specs.SessionAt.{SessionAt, RoundAt, session_after}
-use Rattle.ice_round.specs.Searches.{settlement_of}
-use Rattle.ice_round.specs.Shown.{going_of, IsClosing, IsOpening}
+use Rattle.ice_settled.specs.Shown.{settlement_of, going_of}
+use Rattle.ice_round.specs.Shown.{IsClosing, IsOpening}
 use Rattle.ice_round.specs.Ends.{IsHaltOf, IsSpentAt, IsLimitAt}
-use Rattle.ice_round.specs.declared.settled.Closing.{Closing}
-use Rattle.ice_round.specs.declared.settled.Opening.{Opening}
-use Rattle.ice_round.specs.declared.settled.Halt.{Halt}
+use Rattle.ice_settled.specs.declared.settled.Closing.{Closing}
+use Rattle.ice_settled.specs.declared.settled.Opening.{Opening}
+use Rattle.ice_settled.specs.declared.settled.Halt.{Halt}
 use Rattle.ice_write_session.specs.Records.{opening_records, closing_records, spent_records, limit_records}
 use Rattle.ice_write_session.specs.Writable.{IsWritable, IsWritableOpening, IsWritableClosing, IsWritableHalt, IsWritableLimit}
 use Rattle.ice_round_laws.specs.Running.{IsRunning, IsInRound}

@@ -14,8 +14,8 @@ use Rattle.ice_journal_laws.specs.SoFar.{IsSoFar, IsUnstopped}
 use Rattle.ice_journal_laws.specs.ShowingSession.{going_in, goings_in}
 use Rattle.ice_journal_laws.specs.Stops.{IsSpent}
 use Rattle.ice_round.specs.SessionAt.{SessionAt}
-use Rattle.ice_round.specs.Shown.{closed_of}
-use Rattle.ice_round.specs.declared.settled.Closing.{Closing}
+use Rattle.ice_settled.specs.Shown.{closed_of}
+use Rattle.ice_settled.specs.declared.settled.Closing.{Closing}
 use Rattle.ice_round_laws.specs.Stops.{OpenSession, open_records, IsRightOpen, IsLimited}
 
 -- the head and the exchange

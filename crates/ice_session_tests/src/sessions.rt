@@ -9,7 +9,8 @@ use crate::markets::{
 };
 use ice_bid::Bid;
 use ice_frac::Frac;
-use ice_round::{Closing, Halt, InRound, Opening, Ready, Settled};
+use ice_round::{InRound, Ready, Settled};
+use ice_settled::{Closing, Halt, Opening};
 use ice_rules::Verdict;
 use ice_search::Spent;
 use ice_terms::{Name, Prices};

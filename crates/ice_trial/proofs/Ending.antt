@@ -12,11 +12,12 @@ use Rattle.ice_regret.specs.declared.lead.Regret.{Regret}
 use Rattle.ice_price.specs.declared.ends.PriceLimit.{PriceLimit}
 use Rattle.ice_vickrey.specs.declared.marginal.Marginal.{Marginal}
 use Rattle.ice_round.specs.SessionAt.{SessionAt, RoundAt}
-use Rattle.ice_round.specs.Searches.{settlement_of, IsSettlementOf}
+use Rattle.ice_settled.specs.Shown.{settlement_of}
+use Rattle.ice_round.specs.Searches.{IsSettlementOf}
 use Rattle.ice_round.specs.Shown.{IsClosing, IsOpening}
 use Rattle.ice_round.specs.Ends.{IsLimitAt, at_pricing}
-use Rattle.ice_round.specs.declared.settled.Closing.{Closing}
-use Rattle.ice_round.specs.declared.settled.Opening.{Opening}
+use Rattle.ice_settled.specs.declared.settled.Closing.{Closing}
+use Rattle.ice_settled.specs.declared.settled.Opening.{Opening}
 use Rattle.ice_round_laws.specs.Running.{IsRunning}
 use Rattle.ice_truths.proofs.Exact.{exact_bounds_have_no_regret}
 use Rattle.ice_trial.specs.declared.summary.Summary.{Summary}

@@ -16,8 +16,9 @@ use Rattle.ice_vickrey.specs.Economy.{Economy}
 use Rattle.ice_vickrey.specs.Marginals.{proved_without, AreMarginalsFrom}
 use Rattle.ice_vickrey.specs.declared.marginal.Marginal.{Marginal}
 use Rattle.ice_round.specs.SessionAt.{SessionAt}
-use Rattle.ice_round.specs.Shown.{closed_of, IsClosing}
-use Rattle.ice_round.specs.declared.settled.Closing.{Closing}
+use Rattle.ice_settled.specs.Shown.{closed_of}
+use Rattle.ice_round.specs.Shown.{IsClosing}
+use Rattle.ice_settled.specs.declared.settled.Closing.{Closing}
 use Rattle.ice_trial.specs.Summaries.{AreFinal, IsLeft}
 
 -- the final value and the regret of a settlement

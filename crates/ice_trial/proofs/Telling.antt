@@ -13,8 +13,9 @@ use Rattle.ice_defs.specs.Session.{standings}
 use Rattle.ice_terms.specs.Terms.{ArePriceTerms}
 use Rattle.ice_round.specs.SessionAt.{SessionAt, RoundAt, session_after}
 use Rattle.ice_journal.proofs.Tested.{prices_are}
-use Rattle.ice_round.specs.Shown.{going_of, IsOpening}
-use Rattle.ice_round.specs.declared.settled.Opening.{Opening}
+use Rattle.ice_settled.specs.Shown.{going_of}
+use Rattle.ice_round.specs.Shown.{IsOpening}
+use Rattle.ice_settled.specs.declared.settled.Opening.{Opening}
 use Rattle.ice_write_session.specs.Writable.{IsWritableOpening}
 use Rattle.ice_write_session.proofs.Lawful.{opening_are_records}
 use Rattle.ice_round_laws.specs.Running.{IsRunning, IsInRound}

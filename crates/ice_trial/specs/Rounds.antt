@@ -6,7 +6,7 @@ use Rattle.ice_defs.specs.Round.{Submission, Judged}
 use Rattle.ice_defs.specs.Exchange.{Exchange, exact_of, names_of}
 use Rattle.ice_defs.specs.Session.{Going}
 use Rattle.ice_round.specs.SessionAt.{SessionAt, RoundAt}
-use Rattle.ice_round.specs.Shown.{going_of}
+use Rattle.ice_settled.specs.Shown.{going_of}
 use Rattle.ice_write_session.specs.Writable.{IsWritableOpening}
 use Rattle.ice_round_laws.specs.Running.{IsRunning, IsInRound}
 use Rattle.ice_truths.specs.Truths.{AreExact, truth_bids}

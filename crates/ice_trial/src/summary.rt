@@ -3,7 +3,7 @@ ghost use Rattle.std.specs.Prelude.{◌≡◌};
 
 use ice_frac::Frac;
 use ice_regret::Regret;
-use ice_round::Closing;
+use ice_settled::Closing;
 use ice_search::Found;
 
 /// The figures of a trial that closed.

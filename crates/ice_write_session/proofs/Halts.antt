@@ -10,7 +10,7 @@ use Rattle.ice_search.specs.declared.results.Found.{Found}
 use Rattle.ice_regret.specs.declared.lead.Regret.{Regret}
 use Rattle.ice_vickrey.specs.Marginals.{proved_without}
 use Rattle.ice_vickrey.specs.declared.marginal.Marginal.{Marginal}
-use Rattle.ice_round.specs.Searches.{settlement_of}
+use Rattle.ice_settled.specs.Shown.{settlement_of}
 use Rattle.ice_write_session.specs.Records.{final_records, rival_records, regret_records, provisional_records, without_records, halted_records}
 
 module _ (ex : Exchange) (number : ℕ) where

@@ -24,11 +24,10 @@ use Rattle.ice_price.specs.declared.ends.Stage.{Stage}
 use Rattle.ice_price.specs.declared.ends.Stage.TheVariants.{Accuracy, Balance}
 use Rattle.ice_vickrey.specs.Marginals.{proved_without}
 use Rattle.ice_vickrey.specs.declared.marginal.Marginal.{Marginal}
-use Rattle.ice_round.specs.Searches.{settlement_of}
-use Rattle.ice_round.specs.Shown.{closed_of}
-use Rattle.ice_round.specs.declared.settled.Opening.{Opening}
-use Rattle.ice_round.specs.declared.settled.Closing.{Closing}
-use Rattle.ice_round.specs.declared.settled.Halt.{Halt}
+use Rattle.ice_settled.specs.Shown.{settlement_of, closed_of}
+use Rattle.ice_settled.specs.declared.settled.Opening.{Opening}
+use Rattle.ice_settled.specs.declared.settled.Closing.{Closing}
+use Rattle.ice_settled.specs.declared.settled.Halt.{Halt}
 use Rattle.ice_write.proofs.Groups.{group_are_records}
 use Rattle.ice_write_session.specs.Records.{member_record, rival_records, provisional_records, without_records, regret_records, opening_records, spent_records, found_final, found_regret, found_provisional, halt_records, closing_records, limit_records}
 use Rattle.ice_write_session.specs.Writable.{IsWritable, IsWritableRegret, IsWritableSettlement, IsWritableRow, IsWritableOpening, IsWritablePayment, IsWritableClosing, IsWritableHalt, IsWritableMember, IsWritableLimit}

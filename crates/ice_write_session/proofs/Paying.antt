@@ -5,7 +5,7 @@ use Rattle.std.proofs.lemmas.List.Elements.{All-from_recursion}
 use Rattle.ice_defs.specs.Fraction.{Fraction}
 use Rattle.ice_defs.specs.Session.{Payment}
 use Rattle.ice_vickrey.specs.declared.marginal.Marginal.{Marginal}
-use Rattle.ice_round.specs.Shown.{payments_of}
+use Rattle.ice_settled.specs.Shown.{payments_of}
 use Rattle.ice_write_session.specs.Payments.{no_payment}
 use Rattle.ice_write_session.specs.Writable.{IsWritablePayment}
 

@@ -2,8 +2,8 @@
 use Rattle.std.specs.Prelude.{ℕ, [], pos, slice_index_or}
 use Rattle.ice_defs.specs.Fraction.{whole}
 use Rattle.ice_defs.specs.Session.{Payment}
-use Rattle.ice_round.specs.Shown.{closed_of}
-use Rattle.ice_round.specs.declared.settled.Closing.{Closing}
+use Rattle.ice_settled.specs.Shown.{closed_of}
+use Rattle.ice_settled.specs.declared.settled.Closing.{Closing}
 
 abbrev pub no_payment : Payment
 no_payment = record { name = []; vickrey = pos 0; discount = whole (pos 0); payment = whole (pos 0) }

@@ -16,11 +16,10 @@ use Rattle.ice_price.specs.Stages.{stage_of, limit_of}
 use Rattle.ice_price.specs.declared.ends.PriceLimit.{PriceLimit}
 use Rattle.ice_vickrey.specs.Marginals.{proved_without}
 use Rattle.ice_vickrey.specs.declared.marginal.Marginal.{Marginal}
-use Rattle.ice_round.specs.Searches.{settlement_of}
-use Rattle.ice_round.specs.Shown.{closed_of, going_of}
-use Rattle.ice_round.specs.declared.settled.Opening.{Opening}
-use Rattle.ice_round.specs.declared.settled.Closing.{Closing}
-use Rattle.ice_round.specs.declared.settled.Halt.{Halt}
+use Rattle.ice_settled.specs.Shown.{settlement_of, closed_of, going_of}
+use Rattle.ice_settled.specs.declared.settled.Opening.{Opening}
+use Rattle.ice_settled.specs.declared.settled.Closing.{Closing}
+use Rattle.ice_settled.specs.declared.settled.Halt.{Halt}
 
 abbrev pub member_record : Member → Record
 member_record m = line.pool m.bidder m.set

@@ -13,11 +13,10 @@ use Rattle.ice_regret.specs.declared.lead.Regret.{Regret}
 use Rattle.ice_regret.specs.Regretted.{proved_rival}
 use Rattle.ice_journal.specs.Ranges.{IsTotal, IsDen, IsViolationField, IsFractionField, IsRecord}
 use Rattle.ice_journal_laws.specs.Written.{row_record, payment_record}
-use Rattle.ice_round.specs.Searches.{settlement_of}
-use Rattle.ice_round.specs.Shown.{closed_of}
-use Rattle.ice_round.specs.declared.settled.Opening.{Opening}
-use Rattle.ice_round.specs.declared.settled.Closing.{Closing}
-use Rattle.ice_round.specs.declared.settled.Halt.{Halt}
+use Rattle.ice_settled.specs.Shown.{settlement_of, closed_of}
+use Rattle.ice_settled.specs.declared.settled.Opening.{Opening}
+use Rattle.ice_settled.specs.declared.settled.Closing.{Closing}
+use Rattle.ice_settled.specs.declared.settled.Halt.{Halt}
 use Rattle.ice_write.specs.Writable.{AreWritable}
 use Rattle.ice_write_session.specs.Records.{member_record}
 

@@ -10,7 +10,7 @@ use crate::regret::put_settlement;
 use crate::without::put_withouts;
 use ice_edge::{Sink, SinkFault};
 use ice_journal::EndWord;
-use ice_round::Closing;
+use ice_settled::Closing;
 
 /// Puts the settlement that closes a session, and the end of the journal: its number, the groups of the final sets and of
 /// their rival, the regret, the groups without each bidder, the cut and the surplus, and what each bidder pays. All numbers

@@ -20,7 +20,7 @@ use ice_edge::{Sink, SinkFault};
 use ice_journal::{EndWord, LimitKind, Line, Stage};
 use ice_price::{PoolMember, PriceLimit};
 use ice_regret::Regret;
-use ice_round::Halt;
+use ice_settled::Halt;
 use ice_search::Found;
 use ice_trade::Exchange;
 use ice_write::put_record;

@@ -7,7 +7,7 @@ ghost use Rattle.ice_journal.specs.Records.{version_2};
 ghost use Rattle.ice_journal.specs.Ranges.{IsRecord};
 ghost use Rattle.ice_journal.specs.Journal.{bytes_of};
 ghost use Rattle.ice_journal_laws.specs.ShowingSession.{opening_in};
-ghost use Rattle.ice_round.specs.Shown.{going_of};
+ghost use Rattle.ice_settled.specs.Shown.{going_of};
 ghost use Rattle.ice_write_session.specs.Records.{opening_records};
 ghost use Rattle.ice_write_session.specs.Writable.{IsWritableOpening};
 
@@ -15,7 +15,7 @@ use crate::group::put_provisional;
 use crate::pricing::{put_accuracy, put_balance};
 use crate::regret::put_settlement;
 use ice_edge::{Sink, SinkFault};
-use ice_round::Opening;
+use ice_settled::Opening;
 use ice_trade::Exchange;
 
 /// Puts the group of the provisional sets, their prices, and the certificates.

@@ -6,7 +6,7 @@ ghost use Rattle.ice_journal.specs.Ranges.{IsRecord};
 ghost use Rattle.ice_journal.specs.Journal.{bytes_of};
 ghost use Rattle.ice_journal.specs.Lines.{record_of};
 ghost use Rattle.ice_journal_laws.specs.Written.{payment_record};
-ghost use Rattle.ice_round.specs.Shown.{closed_of};
+ghost use Rattle.ice_settled.specs.Shown.{closed_of};
 ghost use Rattle.ice_write_session.specs.Payments.{payment_at};
 ghost use Rattle.ice_write_session.specs.Writable.{IsWritableClosing, IsWritablePayment};
 
@@ -15,7 +15,7 @@ use crate::record::put_line;
 use ice_edge::{Sink, SinkFault};
 use ice_frac::Frac;
 use ice_journal::Line;
-use ice_round::Closing;
+use ice_settled::Closing;
 use ice_terms::Name;
 use ice_vickrey::Marginal;
 use ice_write::put_record;

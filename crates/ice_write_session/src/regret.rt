@@ -4,7 +4,7 @@ ghost use Rattle.ice_defs.specs.Exchange.{exact_of, IsBetween};
 ghost use Rattle.ice_edge.specs.Puts.{IsPut};
 ghost use Rattle.ice_journal.specs.Records as line;
 ghost use Rattle.ice_journal.specs.Journal.{bytes_of};
-ghost use Rattle.ice_round.specs.Searches.{settlement_of};
+ghost use Rattle.ice_settled.specs.Shown.{settlement_of};
 ghost use Rattle.ice_write_session.specs.Records.{rival_records, regret_records};
 ghost use Rattle.ice_write_session.specs.Writable.{IsWritableRegret, IsWritableSettlement};
 

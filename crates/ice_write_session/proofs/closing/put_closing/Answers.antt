@@ -4,7 +4,7 @@ use Rattle.ice_journal.specs.Records.{Record}
 use Rattle.ice_journal.specs.Records as line
 use Rattle.ice_journal.specs.Records.{closed_end}
 use Rattle.ice_journal_laws.specs.Written.{payment_record}
-use Rattle.ice_round.specs.Shown.{closed_of}
+use Rattle.ice_settled.specs.Shown.{closed_of}
 use Rattle.ice_write_session.specs.Records.{regret_records, without_records}
 use Rattle.ice_write_session.proofs.Puts.{fails_first, fails_then, takes_then, put_last, put_failed, takes_of, fails_of}
 use Rattle.ice_write_session.proofs.closing.put_closing.Goals as goal

@@ -6,7 +6,7 @@ use Rattle.ice_defs.specs.Exchange.{exact_of}
 use Rattle.ice_journal.specs.Records.{version_2}
 use Rattle.ice_journal.proofs.Tested.{prices_are}
 use Rattle.ice_journal_laws.specs.ShowingSession.{opening_in}
-use Rattle.ice_round.specs.Shown.{going_of}
+use Rattle.ice_settled.specs.Shown.{going_of}
 use Rattle.ice_write_session.specs.Records.{regret_records}
 use Rattle.ice_write_session.proofs.Puts.{fails_first, put_last, put_failed}
 use Rattle.ice_write_session.proofs.opening.put_opening.Goals as goal

@@ -3,7 +3,7 @@ use Rattle.std.proofs.lemmas.List.{length-map}
 use Rattle.ice_defs.specs.Exchange.{Bidder, names_of}
 use Rattle.ice_journal.specs.Ranges.{IsRecord}
 use Rattle.ice_journal_laws.specs.Written.{payment_record}
-use Rattle.ice_round.specs.Shown.{payments_of}
+use Rattle.ice_settled.specs.Shown.{payments_of}
 use Rattle.ice_write_session.specs.Writable.{IsWritablePayment}
 use Rattle.ice_write_session.proofs.Paying.{covers, payment_is, payment_fits, same_payment}
 use Rattle.ice_write_session.proofs.payment.payment_line.Goals as goal

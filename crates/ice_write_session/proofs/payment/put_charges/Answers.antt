@@ -3,7 +3,7 @@ use Rattle.std.proofs.lemmas.Result.{err_from_is_err_and}
 use Rattle.ice_journal.specs.Records.{Record}
 use Rattle.ice_journal.specs.Records as line
 use Rattle.ice_journal_laws.specs.Written.{payment_record}
-use Rattle.ice_round.specs.Shown.{closed_of}
+use Rattle.ice_settled.specs.Shown.{closed_of}
 use Rattle.ice_write_session.proofs.Puts.{fails_first, put_last, put_failed}
 use Rattle.ice_write_session.proofs.payment.put_charges.Goals as goal
 

@@ -5,7 +5,7 @@ use Rattle.ice_journal.specs.Spelling.{line_of}
 use Rattle.ice_journal.specs.Journal.{bytes_of}
 use Rattle.ice_journal.specs.Lines.{record_of}
 use Rattle.ice_journal_laws.specs.Written.{payment_record}
-use Rattle.ice_round.specs.Shown.{closed_of}
+use Rattle.ice_settled.specs.Shown.{closed_of}
 use Rattle.ice_write.proofs.Loops.{fails_as, takes_as, one_more, one_fails, all_put, bytes_map, same_there}
 use Rattle.ice_write_session.specs.Payments.{no_payment, payment_at}
 use Rattle.ice_write_session.specs.Pieces.{payment_text}

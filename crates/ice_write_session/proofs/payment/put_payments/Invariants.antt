@@ -1,7 +1,7 @@
 use Rattle.std.proofs.Common.{drop}
 use Rattle.std.specs.List.{flat_map}
 use Rattle.ice_edge.specs.Puts.{TakesAllBut}
-use Rattle.ice_round.specs.Shown.{closed_of}
+use Rattle.ice_settled.specs.Shown.{closed_of}
 use Rattle.ice_write_session.specs.Pieces.{payment_text}
 use Rattle.ice_write_session.proofs.payment.put_payments.Given as goal
 

@@ -12,7 +12,7 @@ use Rattle.ice_round.specs.SessionAt.{IsSessionAt}
 use Rattle.ice_round.specs.Kept.{session_at}
 use Rattle.ice_round.specs.Paying.{ArePaymentsOf}
 use Rattle.ice_round.specs.Ends.{at_without}
-use Rattle.ice_round.specs.declared.settled.Closing.{Closing}
+use Rattle.ice_settled.specs.declared.settled.Closing.{Closing}
 use Rattle.ice_verdicts.proofs.Bounded.{round_bounds}
 use Rattle.ice_round.proofs.Settling.{final_rich}
 use Rattle.ice_round.proofs.Closings.{closed_is}

@@ -1,0 +1,6 @@
+//! What a settlement gives: the one that closes a session, one that opens a round, and what is left of one that was halted.
+#![tactic(auto)]
+
+mod settled;
+
+pub use settled::{Closing, Halt, Opening};

@@ -1,0 +1,62 @@
+//! What a settlement gives.
+
+use ice_price::Pricing;
+use ice_regret::Regret;
+use ice_search::Found;
+use ice_threshold::Payments;
+use ice_trade::Exchange;
+use ice_tree::Bounds;
+use ice_vickrey::Marginal;
+
+/// The last settlement of a session.
+#[derive(Drop)]
+pub struct Closing {
+    /// The exchange.
+    pub exchange: Exchange,
+    /// The bidders' bounds, one of each bidder.
+    pub bounds: Vec<Bounds>,
+    /// The settlement's number, from 0.
+    pub number: u8,
+    /// The final sets: the best assignment at lower values.
+    pub best: Found,
+    /// Their regret, which closes the session, unless no round is left.
+    pub regret: Regret,
+    /// What the market is worth without each bidder in order, and its Vickrey discount.
+    pub marginals: Vec<Marginal>,
+    /// What the bidders pay.
+    pub payments: Payments,
+}
+
+/// A settlement that opens a round.
+#[derive(Drop)]
+pub struct Opening {
+    /// The settlement's number, from 0.
+    pub number: u8,
+    /// The final sets: the best assignment at lower values.
+    pub best: Found,
+    /// Their regret.
+    pub regret: Regret,
+    /// The provisional sets: the best assignment at weighted values.
+    pub provisional: Found,
+    /// Their prices, with what shows that they are accurate and balanced.
+    pub pricing: Pricing,
+}
+
+/// What a settlement had before it was halted.
+#[derive(Drop)]
+pub struct Halt {
+    /// The exchange.
+    pub exchange: Exchange,
+    /// The bidders' bounds, one of each bidder.
+    pub bounds: Vec<Bounds>,
+    /// The settlement's number, from 0.
+    pub number: u8,
+    /// The final sets, where they were found.
+    pub best: Option<Found>,
+    /// Their regret, where it was found.
+    pub regret: Option<Regret>,
+    /// The provisional sets, where they were found.
+    pub provisional: Option<Found>,
+    /// What the market is worth without the first bidders, as far as it was found.
+    pub marginals: Vec<Marginal>,
+}
