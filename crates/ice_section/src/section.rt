@@ -23,11 +23,21 @@ use std::alloc::{AllocError, Global};
 use std::marker::Model;
 
 /// The section of a journal or file that describes its exchange, as far as its records were taken. After a refusal it takes no more: what it then answers is not said.
-#[derive(Drop)]
 pub struct Section {
     alloc: Global,
     maker: Option<ExchangeMaker>,
     draft: Option<Draft>,
+}
+
+// By hand, so that each exit that drops one has one call to prove, and not all its parts.
+impl Drop for Section {
+    fn drop(self) {
+        let Section {
+            alloc: _,
+            maker: _,
+            draft: _,
+        } = self;
+    }
 }
 
 impl Model for Section {
@@ -240,12 +250,10 @@ impl Section {
     {
         let Section {
             alloc: _,
-            maker: Some(maker),
+            maker,
             draft: _,
-        } = self
-        else {
-            unreachable!()
-        };
+        } = self;
+        let Some(maker) = maker else { unreachable!() };
         match maker.finish() {
             Ok(exchange) => Ok(exchange),
             Err(_) => Err(AllocError),
