@@ -5,7 +5,9 @@ ghost use Rattle.std.specs.Prelude.{◌≡◌, ◌<◌, ◌≤◌, ◌↔◌, Is
 ghost use Rattle.ice_defs.specs.Set.{has};
 ghost use Rattle.ice_defs.specs.Vickrey.{IsEmpty};
 
-use ice_word::{bit, with_bit};
+mod word;
+
+use crate::word::{bit, with_bit};
 use std::marker::Model;
 
 /// The most nodes of a set.
@@ -20,9 +22,9 @@ pub struct NodeSet {
 
 impl Model for NodeSet {
     ghost use Rattle.std.specs.Prelude.{List, Bool, length, refl};
-    ghost use Rattle.ice_word.specs.Words.{bits_of, words_of, ArePacked};
-    ghost use Rattle.ice_word.proofs.Bits.{length-bits_of};
-    ghost use Rattle.ice_word.proofs.Packing.{words_of-bits_of};
+    ghost use Rattle.ice_set.specs.Words.{bits_of, words_of, ArePacked};
+    ghost use Rattle.ice_set.specs.Bits.{length-bits_of};
+    ghost use Rattle.ice_set.specs.Packing.{words_of-bits_of};
 
     ghost Value = { List Bool };
 

@@ -1,4 +1,4 @@
-use Rattle.ice_word.proofs.Bits.{bits_of-zeros}
+use Rattle.ice_set.specs.Bits.{bits_of-zeros}
 use Rattle.ice_set.proofs.NodeSet.empty.Goals as goal
 
 pub returns : goal.returns

@@ -1,5 +1,5 @@
 use Rattle.std.proofs.Common.{◌≡◌, ◌<◌, ◌∙◌, length, ap, sym, arith}
-use Rattle.ice_word.proofs.Bits.{length-bits_of, get_or-bits_of}
+use Rattle.ice_set.specs.Bits.{length-bits_of, get_or-bits_of}
 use Rattle.ice_set.proofs.NodeSet.has.Goals as goal
 
 pub bounds-self-inside-node : goal.bounds-self-inside-node

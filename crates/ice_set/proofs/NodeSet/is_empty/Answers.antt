@@ -1,6 +1,6 @@
 use Rattle.std.proofs.Common.{◌≡◌, ◌∙◌, length, ap, sym, arith}
-use Rattle.ice_word.proofs.Bits.{length-bits_of}
-use Rattle.ice_word.proofs.Packing.{all_false-from_zeros, zeros-from_all_false}
+use Rattle.ice_set.specs.Bits.{length-bits_of}
+use Rattle.ice_set.specs.Packing.{all_false-from_zeros, zeros-from_all_false}
 use Rattle.ice_set.proofs.NodeSet.is_empty.Goals as goal
 
 pub returns : goal.returns

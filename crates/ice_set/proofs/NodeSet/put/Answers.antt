@@ -1,5 +1,5 @@
 use Rattle.std.proofs.Common.{◌≡◌, ◌<◌, ◌^◌, ◌/◌, ◌∙◌, length, set, ap, sym, arith, rules}
-use Rattle.ice_word.proofs.Bits.{length-bits_of, bits_of-put, ArePacked-put}
+use Rattle.ice_set.specs.Bits.{length-bits_of, bits_of-put, ArePacked-put}
 use Rattle.ice_set.proofs.NodeSet.put.Goals as goal
 
 pub bounds-self-inside-place : goal.bounds-self-inside-place

@@ -1,6 +1,6 @@
 use Rattle.std.proofs.Common.{◌∙◌, sym}
 use Rattle.std.proofs.lemmas.Bool.{ne_eqb}
-use Rattle.ice_word.proofs.Packing.{words_eq-bits, lengths_ne-bits}
+use Rattle.ice_set.specs.Packing.{words_eq-bits, lengths_ne-bits}
 use Rattle.ice_set.proofs.NodeSetPartialEq.eq.Goals as goal
 
 pub returns-then-self-other : goal.returns-then-self-other

@@ -1,6 +1,6 @@
 use Rattle.std.proofs.lemmas.Nat.Bits.{shr_and_one}
 use Rattle.std.proofs.Common.{refl}
-use Rattle.ice_word.proofs.bit.Goals as goal
+use Rattle.ice_set.proofs.word.bit.Goals as goal
 
 pub returns : goal.returns
 returns c = rw shr_and_one refl

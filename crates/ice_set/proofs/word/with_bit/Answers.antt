@@ -1,6 +1,6 @@
 use Rattle.std.proofs.Common.{w64}
 use Rattle.std.proofs.lemmas.Nat.Bits.{bit_at_set_same, bit_at_set_other, bit_at_clear_same, bit_at_clear_other}
-use Rattle.ice_word.proofs.with_bit.Goals as goal
+use Rattle.ice_set.proofs.word.with_bit.Goals as goal
 
 pub returns-then-on-clause-same : goal.returns-then-on-clause-same
 returns-then-on-clause-same c = rw (bit_at_set_same w64 c.args.word c.args.number c.requires, c.if-on.true)

@@ -8,8 +8,8 @@ use Rattle.std.proofs.lemmas.Slice.Eq.{slice_eq-Decides, bytes_eq-Decides}
 use Rattle.std.proofs.lemmas.Bool.{cases_lt, false_from_ne_true}
 use Rattle.std.proofs.lemmas.Nat.Bits.{bit_at-lt, bit_at_cat_low, bit_at_cat_high, same_from_bits_below}
 use Rattle.std.proofs.lemmas.List.{get_or_past}
-use Rattle.ice_word.specs.Words.{bit_of, bits_of, digit, number_of, word_from, words_of, ArePacked}
-use Rattle.ice_word.proofs.Bits.{length-bits_of, get_or-bits_of, bits_of-same, zeros_read, zeros_unset}
+use Rattle.ice_set.specs.Words.{bit_of, bits_of, digit, number_of, word_from, words_of, ArePacked}
+use Rattle.ice_set.specs.Bits.{length-bits_of, get_or-bits_of, bits_of-same, zeros_read, zeros_unset}
 
 number_of-lt : (p : ℕ → Bool) (n : ℕ) → number_of p n < 2 ^ n
 unfolding number_of

@@ -6,7 +6,7 @@ use Rattle.std.proofs.lemmas.List.FromFn.{get_or-map-range_with_len, length-map-
 use Rattle.std.proofs.lemmas.List.{get_or-set_same, get_or-set_other, length-set, get_or-replicate, length-replicate}
 use Rattle.std.proofs.lemmas.Nat.Bits.{bit_at-zero}
 use Rattle.std.proofs.lemmas.Bool.{eqb-false, eqb-true}
-use Rattle.ice_word.specs.Words.{bit_of, bits_of, ArePacked}
+use Rattle.ice_set.specs.Words.{bit_of, bits_of, ArePacked}
 
 pub length-bits_of : (words : List ℕ) (n : ℕ) → length (bits_of words n) ≡ n
 unfolding bits_of

@@ -1,6 +1,4 @@
 //! Words of 64 bits, and the bits of one word.
-#![tactic(auto)]
-
 ghost use Rattle.std.specs.Prelude.{◌≡◌, ◌≢◌, ℕ, ◌<◌, nat_eq};
 ghost use Rattle.std.specs.Int.{bit_at};
 
