@@ -1,5 +1,5 @@
-//! Laws over the definitions of fractions.
-ghost use Rattle.ice_frac.specs.Laws.{IsEquality, IsField, IsOrder, LowestIsUnique};
+//! Laws over the definitions of fractions, and of the greatest common divisor.
+ghost use Rattle.ice_frac.specs.Laws.{CommonDivisorIsGreatest, IsEquality, IsField, IsOrder, LowestIsUnique};
 
 /// Equality of fractions is an equivalence that sums, products and negated fractions keep.
 pub fn equality_laws()
@@ -19,4 +19,9 @@ pub fn order_laws()
 /// One fraction has one numerator and one denominator in lowest terms.
 pub fn lowest_is_unique()
     ensures { LowestIsUnique }
+{}
+
+/// What Euclid's steps give of two numbers divides both, and each number that divides both divides it.
+pub fn common_divisors_are_greatest()
+    ensures { CommonDivisorIsGreatest }
 {}

@@ -8,5 +8,7 @@ mod narrow;
 
 pub use euclid::common_divisor;
 pub use fraction::Frac;
-pub use laws::{equality_laws, field_laws, lowest_is_unique, order_laws};
+pub use laws::{
+    common_divisors_are_greatest, equality_laws, field_laws, lowest_is_unique, order_laws,
+};
 pub use narrow::Wide;
