@@ -9,11 +9,10 @@ ghost use Rattle.ice_cli.specs.Parts.{AreFetched};
 ghost use Rattle.ice_cli.specs.Refusals.{refusal_status, NoFault, IsFaultOf, Refuses};
 
 use crate::refusal::{FileFault, Refusal};
-use ice_bid::Bid;
 use ice_edge::{FetchFault, Shelf};
 use ice_read::ReadFault;
 use ice_section::{LineFileFault, read_exchange_lines, read_prices_lines};
-use ice_terms::Prices;
+use ice_terms::{Bid, Prices};
 use ice_trade::Exchange;
 use std::alloc::Global;
 

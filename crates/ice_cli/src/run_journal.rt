@@ -15,13 +15,13 @@ ghost use Rattle.ice_cli.specs.Parts.{IsSaid};
 ghost use Rattle.ice_cli.specs.RunSteps.{Judges, OpensRound, EndsHere};
 
 use crate::say::ended;
-use ice_bid::Bid;
 use ice_edge::{Sink, SinkFault, Status};
 use ice_journal::{Kind, Line, Version};
 use ice_price::PriceLimit;
 use ice_round::{InRound, Ready, Settled};
 use ice_settled::{Closing, Halt};
 use ice_search::Spent;
+use ice_terms::Bid;
 use ice_trade::Exchange;
 use ice_write::{put_record, put_section};
 use ice_write_session::{put_closing, put_halt, put_judged, put_limit, put_opening, put_spent};

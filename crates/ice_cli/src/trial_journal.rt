@@ -15,12 +15,12 @@ ghost use Rattle.ice_trial.specs.Rounds.{accepted};
 ghost use Rattle.ice_cli.specs.GenJournal.{first_records, trial_records};
 
 use crate::run_journal::{bound_of, put_begin, put_halted, put_limited};
-use ice_bid::Bid;
 use ice_edge::{Sink, SinkFault};
 use ice_price::PriceLimit;
 use ice_settled::Halt;
 use ice_rules::Verdict;
 use ice_search::Spent;
+use ice_terms::Bid;
 use ice_trade::Exchange;
 use ice_trial::TruthRound;
 use ice_write_session::{put_judged, put_opening};

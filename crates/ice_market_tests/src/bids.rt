@@ -1,5 +1,5 @@
 //! Tests of bids.
-use ice_bid::{Bid, Name};
+use ice_terms::{Bid, Name};
 use std::test::Fail;
 
 #[test]

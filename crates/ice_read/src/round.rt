@@ -2,7 +2,7 @@
 ghost use Rattle.std.specs.Prelude.{◌≡◌, ◌≢◌, ◌+◌, ◌<◌, ◌≤◌, [], codes, length, vec_len, MatchResult, IfOk, IfErr};
 ghost use Rattle.serde_json.specs.View.{view, items_view};
 ghost use Rattle.ice_defs.specs.FileFault.{Path};
-ghost use Rattle.ice_bid.specs.Bids.{AreValues};
+ghost use Rattle.ice_terms.specs.Bids.{AreValues};
 ghost use Rattle.ice_read.specs.Values.{at_member, of_member, each};
 ghost use Rattle.ice_read.specs.RoundFile.{values_at, name_at, bid_at, bids_of_value, bids_of};
 ghost use Rattle.ice_read.specs.Fault.{fault_at, IsFault, IsReading};
@@ -12,8 +12,7 @@ use crate::fault::ReadFault;
 use crate::file::value_of;
 use crate::values::{array_of, has_exactly, member, text_of, whole_of};
 use arrayvec::ArrayVec;
-use ice_bid::Bid;
-use ice_terms::Name;
+use ice_terms::{Bid, Name};
 use ice_trade::MakeFault;
 use serde_json::Value;
 use std::alloc::Global;

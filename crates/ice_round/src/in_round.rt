@@ -6,9 +6,8 @@ ghost use Rattle.ice_round.specs.SessionAt.{session_after};
 
 use crate::ready::Ready;
 use crate::session::Session;
-use ice_bid::Bid;
 use ice_rules::Verdict;
-use ice_terms::Prices;
+use ice_terms::{Bid, Prices};
 use ice_trade::Exchange;
 use ice_tree::{Assignment, Bounds};
 use std::marker::Model;

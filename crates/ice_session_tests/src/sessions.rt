@@ -2,18 +2,17 @@
 ghost use Rattle.std.specs.Prelude.{◌≡◌, IsTrue};
 ghost use Rattle.std.specs.List.{list_all};
 ghost use Rattle.ice_defs.specs.Making.{is_value};
-ghost use Rattle.ice_bid.specs.Bids.{AreValues};
+ghost use Rattle.ice_terms.specs.Bids.{AreValues};
 
 use crate::markets::{
     EMPTY_CORE, MAYBE, OPEN_SALE, PAIRS, PAIRS_UNSEARCHED, SALE, SHARED_NODE, exchange,
 };
-use ice_bid::Bid;
 use ice_frac::Frac;
 use ice_round::{InRound, Ready, Settled};
 use ice_settled::{Closing, Halt, Opening};
 use ice_rules::Verdict;
 use ice_search::Spent;
-use ice_terms::{Name, Prices};
+use ice_terms::{Bid, Name, Prices};
 use ice_vickrey::Marginal;
 use std::alloc::Global;
 use std::test::Fail;

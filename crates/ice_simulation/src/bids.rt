@@ -8,10 +8,10 @@ ghost use Rattle.ice_defs.specs.Bounds.{bounds_of};
 ghost use Rattle.ice_defs.specs.Exchange.{trees_of};
 
 use arrayvec::ArrayVec;
-use ice_bid::{Bid, Name};
 use ice_proxy::proxy;
 use ice_round::InRound;
 use ice_rules::{Scratch, Standing};
+use ice_terms::{Bid, Name};
 use ice_trade::Exchange;
 use ice_tree::Bounds;
 use std::alloc::{AllocError, Global};

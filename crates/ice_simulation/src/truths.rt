@@ -6,8 +6,7 @@ ghost use Rattle.std.specs.Str.{bytes_eq};
 ghost use Rattle.ice_simulation.specs.TruthFile.{are_inside, same_values, is_truth_of, bidder_named, lacks_truth, not_truth_from, truth_fault};
 ghost use Rattle.ice_simulation.specs.Faults.{fault_of};
 
-use ice_bid::Bid;
-use ice_terms::Name;
+use ice_terms::{Bid, Name};
 use ice_trade::Exchange;
 use ice_tree::Bounds;
 

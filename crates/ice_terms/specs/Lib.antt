@@ -1,2 +1,3 @@
+pub mod Bids
 pub mod Made
 pub mod Terms

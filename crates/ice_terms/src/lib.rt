@@ -1,10 +1,12 @@
-//! The terms of an exchange that files and journals share: names, settings and prices.
+//! The terms of an exchange that files and journals share: names, settings and prices; and bids.
 #![tactic(auto)]
 
+mod bid;
 mod name;
 mod prices;
 mod settings;
 
+pub use bid::Bid;
 pub use name::Name;
 pub use prices::Prices;
 pub use settings::Settings;

@@ -1,11 +1,11 @@
 //! The bids that state true values.
 ghost use Rattle.std.specs.Prelude.{◌≡◌, length, IfOk};
 ghost use Rattle.ice_defs.specs.Exchange.{names_of};
-ghost use Rattle.ice_bid.specs.Bids.{AreValues};
+ghost use Rattle.ice_terms.specs.Bids.{AreValues};
 ghost use Rattle.ice_truths.specs.Truths.{IsExact, AreExact, truth_bids};
 
 use arrayvec::ArrayVec;
-use ice_bid::{Bid, Name};
+use ice_terms::{Bid, Name};
 use ice_trade::Exchange;
 use ice_tree::Bounds;
 use std::alloc::{AllocError, Global};

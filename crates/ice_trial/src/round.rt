@@ -1,8 +1,8 @@
 //! A round in which bids are submitted.
 ghost use Rattle.ice_trial.specs.Rounds.{Submits};
 
-use ice_bid::Bid;
 use ice_round::InRound;
+use ice_terms::Bid;
 
 /// Submits the bids in their order.
 #[tactic(none)]

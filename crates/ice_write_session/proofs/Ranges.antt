@@ -3,7 +3,7 @@ use Rattle.std.proofs.Common.{List, ℤ, pos, neg_ℤ}
 use Rattle.std.specs.List.{AllByRecursion}
 use Rattle.ice_defs.specs.Making.{is_value}
 use Rattle.ice_defs.specs.Round.{Submission}
-use Rattle.ice_bid.specs.Bids.{AreValues, IsBid}
+use Rattle.ice_terms.specs.Bids.{AreValues, IsBid}
 use Rattle.ice_journal.specs.Ranges.{IsSubmission, IsValue}
 use Rattle.ice_journal.proofs.Tested.{between, all_tested}
 

@@ -1,6 +1,6 @@
 //! A submission of a round, with its verdict.
 ghost use Rattle.std.specs.Prelude.{◌≡◌, ◌∷◌, []};
-ghost use Rattle.ice_bid.specs.Bids.{AreValues};
+ghost use Rattle.ice_terms.specs.Bids.{AreValues};
 ghost use Rattle.ice_edge.specs.Puts.{IsPut};
 ghost use Rattle.ice_journal.specs.Records as line;
 ghost use Rattle.ice_journal.specs.Ranges.{IsRecord, IsVerdictRecord};
@@ -9,10 +9,10 @@ ghost use Rattle.ice_journal_laws.specs.Written.{judged_records};
 
 use crate::record::put_line;
 use arrayvec::ArrayVec;
-use ice_bid::Bid;
 use ice_edge::{Sink, SinkFault};
 use ice_journal::Line;
 use ice_rules::Verdict;
+use ice_terms::Bid;
 
 /// The same values in 32 bits.
 fn narrowed(values: &[i64]) -> ArrayVec<i32, 200>

@@ -1,5 +1,5 @@
 use Rattle.std.proofs.Common.{◌∙◌, length, sym, subst, arith}
-use Rattle.ice_bid.specs.Bids.{AreValues}
+use Rattle.ice_terms.specs.Bids.{AreValues}
 use Rattle.ice_proxy.proofs.Proposals.{lower_are_values, upper_are_values}
 use Rattle.ice_simulation.proofs.bids.bid_of.Goals as goal
 

@@ -1,6 +1,6 @@
 use Rattle.std.proofs.Common.{◌∙◌, sym, subst, arith}
 use Rattle.std.proofs.lemmas.List.{take_all}
-use Rattle.ice_bid.specs.Bids.{AreValues}
+use Rattle.ice_terms.specs.Bids.{AreValues}
 use Rattle.ice_trial.proofs.Bidding.{lower_are_values}
 use Rattle.ice_trial.proofs.bids.lower_values.Goals as goal
 

@@ -1,9 +1,9 @@
 //! The bid of one bidder in a round.
 ghost use Rattle.std.specs.Prelude.{◌≡◌};
-ghost use Rattle.ice_bid.specs.Bids.{AreValues, IsBid};
+ghost use Rattle.ice_terms.specs.Bids.{AreValues, IsBid};
 
+use crate::name::Name;
 use arrayvec::ArrayVec;
-use ice_terms::Name;
 use std::marker::Model;
 
 /// A bid of a round: the name of a bidder, and at most 200 lower and 200 upper values, each at most 1,000,000,000 in
@@ -17,7 +17,7 @@ pub struct Bid {
 
 impl Model for Bid {
     ghost use Rattle.ice_defs.specs.Round.{Submission};
-    ghost use Rattle.ice_bid.specs.Bids.{IsBid};
+    ghost use Rattle.ice_terms.specs.Bids.{IsBid};
 
     ghost Value = { Submission };
 
