@@ -23,7 +23,7 @@ use Rattle.ice_journal_laws.specs.Assigning.{rule_of}
 use Rattle.ice_journal_laws.specs.Progress.{passing, failed, TakesOn}
 use Rattle.ice_journal_laws.proofs.PricedRows as places
 use Rattle.ice_tree.proofs.Satisfied.{set_fault-none}
-use Rattle.ice_tally.specs.Tallies.{RowTally, IsTallyOf}
+use Rattle.ice_pricing.specs.Tallies.{RowTally, IsTallyOf}
 use Rattle.ice_offer.specs.declared.fault.Fault.TheVariants.{Here, List as OfList}
 use Rattle.ice_offer.specs.declared.place.CertificateList.{CertificateList}
 use Rattle.ice_offer.specs.declared.place.CertificateList.TheVariants as list

@@ -14,8 +14,8 @@ use Rattle.ice_journal_laws.specs.Next.{to_line, go_to}
 use Rattle.ice_journal_laws.specs.Tests as tests
 use Rattle.ice_journal_laws.proofs.Priced.{prices_missing, prices_limited, prices_wrong, prices_right, accuracy_missing, violation_wrong, violation_right}
 use Rattle.ice_pricing.specs.Priced.{HasViolation}
-use Rattle.ice_tally.specs.Lawful.{AreUnlawful}
-use Rattle.ice_tally.specs.Tallies.{RowTally, IsTallyOf}
+use Rattle.ice_pricing.specs.Lawful.{AreUnlawful}
+use Rattle.ice_pricing.specs.Tallies.{RowTally, IsTallyOf}
 use Rattle.ice_verdicts.proofs.Starting.{priced_round}
 use Rattle.ice_offer.specs.declared.fault.Fault.TheVariants.{Here}
 use Rattle.ice_offer.specs.declared.place.CertificateList.TheVariants as list

@@ -14,7 +14,7 @@ use Rattle.ice_offer.specs.declared.place.CertificateList.{CertificateList}
 use Rattle.ice_offer.specs.declared.place.CertificateList.TheVariants as list
 use Rattle.ice_offer.specs.declared.offer.Offer.{Offer}
 use Rattle.ice_offer.specs.Offers.{trade_of}
-use Rattle.ice_tally.specs.Tallies.{IsTallyOf}
+use Rattle.ice_pricing.specs.Tallies.{IsTallyOf}
 
 -- the rule that a row's set breaks by itself, or none
 abbrev pub IsBrokenRow : List Tree → ℕ → NodeSet → Option Rule → Type 0

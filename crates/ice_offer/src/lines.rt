@@ -7,7 +7,7 @@ ghost use Rattle.ice_journal_laws.specs.Fields.{is_limit, is_round_stop, prices_
 use arrayvec::ArrayVec;
 use ice_defs::Verdict;
 use ice_journal::{EndWord, Line};
-use ice_tally::CertificateRow;
+use ice_pricing::CertificateRow;
 use ice_terms::{Name, Prices};
 
 /// Whether the record begins a stop in the place of the prices.

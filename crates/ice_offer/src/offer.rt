@@ -13,7 +13,7 @@ ghost use Rattle.ice_offer.specs.Taking.{Takes};
 use crate::fault::Fault;
 use crate::place::{Place, Went};
 use ice_journal::Line;
-use ice_tally::Tally;
+use ice_pricing::Tally;
 use ice_trade::Exchange;
 use ice_tree::{AllWeights, Assignment, Bounds};
 use ice_verdicts::Judge;

@@ -1,9 +1,9 @@
 //! The prices and their violation.
 ghost use Rattle.std.specs.Prelude.{◌≡◌, ◌≤◌, [], ℕ, IsTrue, ◌==◌, ◌≢◌, true, false, length, pos, ◌≤ℤ◌};
 ghost use Rattle.ice_pricing.specs.Provisional.{ProvisionalTrade, provisional_of};
-ghost use Rattle.ice_tally.specs.Lawful.{AreUnlawful};
+ghost use Rattle.ice_pricing.specs.Lawful.{AreUnlawful};
 ghost use Rattle.ice_verdicts.specs.Judges.{IsRoundOf};
-ghost use Rattle.ice_tally.specs.Tallies.{IsTallyOf};
+ghost use Rattle.ice_pricing.specs.Tallies.{IsTallyOf};
 ghost use Rattle.ice_defs.specs.Weighing.{weighted_weights};
 ghost use Rattle.ice_journal.specs.Lines.{record_of};
 ghost use Rattle.ice_journal.specs.Ranges.{IsRecord};
@@ -18,7 +18,7 @@ use crate::offer::Offer;
 use crate::place::{CertificateList, Place, Went};
 use ice_journal::Line;
 use ice_journal_laws::Rule;
-use ice_tally::{Provisional, Scratch, Tally, are_lawful};
+use ice_pricing::{Provisional, Scratch, Tally, are_lawful};
 use ice_terms::Prices;
 use ice_trade::Exchange;
 use ice_tree::AllWeights;

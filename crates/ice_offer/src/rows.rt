@@ -12,7 +12,7 @@ ghost use Rattle.ice_offer.specs.Rows.{IsBrokenRow, Passes, HasPassed, rule_of_l
 ghost use Rattle.ice_offer.specs.Taking.{Takes};
 ghost use Rattle.ice_journal_laws.specs.Assigning.{rule_of};
 ghost use Rattle.ice_journal_laws.specs.Fields.{row_in};
-ghost use Rattle.ice_tally.specs.Tallies.{IsTallyOf};
+ghost use Rattle.ice_pricing.specs.Tallies.{IsTallyOf};
 
 use crate::fault::Fault;
 use crate::lines::{balance_in, row_in, stops_round};
@@ -21,7 +21,7 @@ use crate::place::{CertificateList, Place, Went};
 use crate::pricing::trade_at;
 use ice_journal::Line;
 use ice_journal_laws::Rule;
-use ice_tally::CertificateRow;
+use ice_pricing::CertificateRow;
 use ice_trade::Exchange;
 use ice_tree::{AllWeights, NodeSet, SatRule, Tree};
 

@@ -3,3 +3,7 @@ pub mod Divisors
 pub mod Summing
 pub mod Numerators
 pub mod Weighing
+-- tallies of rows
+pub mod Tallying
+-- whether prices are lawful is decided
+pub mod Deciding

@@ -1,5 +1,7 @@
 pub mod Provisional
 pub mod Priced
+pub mod Tallies
+pub mod Lawful
 pub mod Bounding
 pub use Rattle.ice_certificate.specs.Excess
 pub use Rattle.ice_net.specs.Net

@@ -67,12 +67,7 @@ impl Certificate {
 
     /// Whether the rows show that no prices within the cap have a violation below `violation` over the denominator of
     /// these prices. Takes no memory.
-    pub fn passes_accuracy(
-        &self,
-        trade: &Provisional<'_>,
-        prices: &Prices,
-        violation: i128,
-    ) -> bool
+    pub fn passes_accuracy(&self, trade: &Provisional<'_>, prices: &Prices, violation: i128) -> bool
         requires limited { IsLimited self.now }
         requires sized { unsigned_abs violation < 2 ^ 127 }
         ensures yes { let t = trade.now in IsTrue result

@@ -2,7 +2,7 @@ use Rattle.std.proofs.Common.{◌≡◌, ◌∙◌, subst, rules, to_z, of_z}
 use Rattle.std.proofs.lemmas.Int.{to_z-of_z}
 use mir.Syntax.{w64}
 use mir.Val.{SFits}
-use Rattle.ice_tally.specs.Lawful.{AreUnlawful}
+use Rattle.ice_pricing.specs.Lawful.{AreUnlawful}
 use Rattle.ice_offer.proofs.pricing.are_lawful_in.Goals as goal
 
 pub returns-clause-yes : goal.returns-clause-yes

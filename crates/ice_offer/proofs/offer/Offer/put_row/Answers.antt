@@ -3,7 +3,7 @@ use Rattle.std.proofs.lemmas.Bool.{false≢true}
 use Rattle.ice_journal.specs.Records as line
 use Rattle.ice_journal_laws.specs.declared.rule.Rule.{Rule}
 use Rattle.ice_journal_laws.specs.Progress.{failed, TakesOn}
-use Rattle.ice_tally.specs.Tallies.{IsTallyOf}
+use Rattle.ice_pricing.specs.Tallies.{IsTallyOf}
 use Rattle.ice_offer.specs.declared.offer.Offer.{Offer}
 use Rattle.ice_offer.specs.Offers.{trade_of}
 use Rattle.ice_offer.specs.Rows.{Passes}

@@ -1,7 +1,7 @@
 use Rattle.std.proofs.Common.{sym, subst, add-one}
-use Rattle.ice_tally.specs.Tallies.{IsTallyOf}
-use Rattle.ice_tally.proofs.Tallying.{one_more_tallied}
-use Rattle.ice_tally.proofs.tally.Tally.take.Goals as goal
+use Rattle.ice_pricing.specs.Tallies.{IsTallyOf}
+use Rattle.ice_pricing.proofs.Tallying.{one_more_tallied}
+use Rattle.ice_pricing.proofs.tally.Tally.take.Goals as goal
 
 pub returns-clause-taken : goal.returns-clause-taken
 returns-clause-taken c = λ rows tallied.

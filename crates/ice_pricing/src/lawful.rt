@@ -1,8 +1,8 @@
 //! Whether prices are within the cap and in lowest terms.
 ghost use Rattle.std.specs.Prelude.{◌≡◌, IsTrue, false, pos, ◌≤ℤ◌};
-ghost use Rattle.ice_tally.specs.Lawful.{AreUnlawful};
+ghost use Rattle.ice_pricing.specs.Lawful.{AreUnlawful};
 
-use ice_pricing::{are_lowest, are_within};
+use crate::limits::{are_lowest, are_within};
 use ice_terms::Prices;
 
 /// Whether no price is above the cap, which is from 0 to 1,000,000,000, and the denominator and all numerators have no

@@ -10,7 +10,7 @@ use Rattle.std.specs.Prelude.{unsigned_abs}
 use Rattle.ice_pricing.proofs.Divisors.{IsShared, shared-none, shared-more, one-shares}
 use Rattle.ice_pricing.proofs.Numerators.{numerators-low}
 use Rattle.ice_terms.specs.Terms.{ArePriceTerms}
-use Rattle.ice_tally.specs.Lawful.{AreUnlawful}
+use Rattle.ice_pricing.specs.Lawful.{AreUnlawful}
 
 -- ---- the cap
 

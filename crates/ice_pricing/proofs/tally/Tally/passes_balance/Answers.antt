@@ -1,8 +1,8 @@
 use Rattle.std.proofs.Common.{rules, sym, subst, IsTrue}
 use Rattle.ice_rows.specs.Sums.{SumsPassBalance}
-use Rattle.ice_tally.specs.Tallies.{IsTallyOf}
-use Rattle.ice_tally.proofs.Tallying.{balance_passes, passes_balance}
-use Rattle.ice_tally.proofs.tally.Tally.passes_balance.Goals as goal
+use Rattle.ice_pricing.specs.Tallies.{IsTallyOf}
+use Rattle.ice_pricing.proofs.Tallying.{balance_passes, passes_balance}
+use Rattle.ice_pricing.proofs.tally.Tally.passes_balance.Goals as goal
 
 pub returns-clause-yes : goal.returns-clause-yes
 returns-clause-yes c = λ rows tallied h.

@@ -4,8 +4,8 @@ use Rattle.std.proofs.lemmas.Int.{to_z-of_z}
 use mir.Syntax.{w64}
 use mir.Val.{SFits}
 use Rattle.ice_defs.specs.Prices.{ArePrices}
-use Rattle.ice_tally.proofs.Deciding.{unlawful_by_divisor, unlawful_by_cap}
-use Rattle.ice_tally.proofs.lawful.are_lawful.Goals as goal
+use Rattle.ice_pricing.proofs.Deciding.{unlawful_by_divisor, unlawful_by_cap}
+use Rattle.ice_pricing.proofs.lawful.are_lawful.Goals as goal
 
 pub returns-then-are_within-clause-no : goal.returns-then-are_within-clause-no
 returns-then-are_within-clause-no c = λ other.

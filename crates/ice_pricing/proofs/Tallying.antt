@@ -8,7 +8,7 @@ use Rattle.ice_defs.proofs.Lists.{all_push}
 use Rattle.ice_rows.specs.Sums.{RowSums, AreZero, IsWithRow, SumsPassAccuracy, SumsPassBalance}
 use Rattle.ice_rows.proofs.Sums.{zero_is_sums, row_is_added, sums_decide_accuracy, sums_decide_balance}
 use Rattle.ice_pricing.specs.Provisional.{ProvisionalTrade}
-use Rattle.ice_tally.specs.Tallies.{RowTally, IsTallyOf}
+use Rattle.ice_pricing.specs.Tallies.{RowTally, IsTallyOf}
 
 pub none_tallied : (t : ProvisionalTrade) (s : RowSums) → AreZero 32 s → t.goods ≤ 32 → IsTallyOf t [] (record { count = 0; sums = s })
 none_tallied t s zero few = record {

@@ -2,10 +2,11 @@
 ghost use Rattle.std.specs.Prelude.{◌≡◌, ◌<◌, ◌≤◌, ◌^◌, suc, [], ◌∷◌, ◌++◌, List, IsTrue, nat_lt, unsigned_abs};
 ghost use Rattle.ice_defs.specs.Rows.{Row, IsRow, PassesAccuracy, PassesBalance};
 ghost use Rattle.ice_pricing.specs.Provisional.{ProvisionalTrade};
-ghost use Rattle.ice_tally.specs.Tallies.{IsTallyOf};
+ghost use Rattle.ice_pricing.specs.Tallies.{IsTallyOf};
 
+use crate::certificate::CertificateRow;
+use crate::provisional::Provisional;
 use ice_certificate::RowSums;
-use ice_pricing::{CertificateRow, Provisional};
 use ice_terms::Prices;
 use std::marker::Model;
 
@@ -18,7 +19,7 @@ pub struct Tally {
 }
 
 impl Model for Tally {
-    ghost use Rattle.ice_tally.specs.Tallies.{RowTally, IsFitting};
+    ghost use Rattle.ice_pricing.specs.Tallies.{RowTally, IsFitting};
 
     ghost Value = { RowTally };
 

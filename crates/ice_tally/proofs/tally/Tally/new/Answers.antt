@@ -1,5 +1,0 @@
-use Rattle.ice_tally.proofs.Tallying.{none_tallied}
-use Rattle.ice_tally.proofs.tally.Tally.new.Goals as goal
-
-pub returns : goal.returns
-returns c = λ t few. none_tallied t c.new.result c.new.ensures few
