@@ -13,7 +13,7 @@ use Rattle.ice_defs.specs.Right.{IsBestFound}
 use Rattle.ice_defs.proofs.Starts.{meets_free_side}
 use Rattle.ice_defs.proofs.EmptySets.{empty_feasible, total_value-empty}
 use Rattle.ice_refute.specs.Code.{CountsGoods}
-use Rattle.ice_searching.proofs.Found.{found_is_best}
+use Rattle.ice_search_log.proofs.Found.{found_is_best}
 use Rattle.ice_search.specs.Results.{proved_found, IsFoundBy}
 use Rattle.ice_search.specs.declared.results.Found.{Found}
 use Rattle.ice_regret.specs.Regretted.{IsRegretOf, proved_rival}

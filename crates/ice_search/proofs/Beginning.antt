@@ -8,9 +8,9 @@ use Rattle.ice_defs.specs.Bound.{Multipliers}
 use Rattle.ice_defs.specs.Steps.{Side}
 use Rattle.ice_defs.specs.Sweep.{IsLive}
 use Rattle.ice_defs.specs.Conditions.{AreMultipliersOf}
-use Rattle.ice_searching.specs.Parts.{Part}
-use Rattle.ice_searching.specs.Searching.{AreOpen}
-use Rattle.ice_searching.proofs.Stepping.{search_begins}
+use Rattle.ice_search_log.specs.Parts.{Part}
+use Rattle.ice_search_log.specs.Searching.{AreOpen}
+use Rattle.ice_search_log.proofs.Stepping.{search_begins}
 use Rattle.ice_subgradient.specs.declared.incumbent.Incumbent.{Incumbent}
 use Rattle.ice_search.specs.Instance.{Instance, IsInstance, IsSearchOf, IsIncumbentOf, IsBoundAt}
 use Rattle.ice_search.specs.Open.{AreParts}

@@ -1,9 +1,9 @@
 -- The next part is the greatest open one.
 use Rattle.std.proofs.Common.{ℕ, ◌<◌, ◌≡◌, true, length, sym, subst}
 use Rattle.std.specs.Prelude.{slice_index}
-use Rattle.ice_searching.specs.Parts.{part_at}
-use Rattle.ice_searching.specs.Searching.{AreOpen, IsNext}
-use Rattle.ice_searching.proofs.Ending.{greatest_is_next}
+use Rattle.ice_search_log.specs.Parts.{part_at}
+use Rattle.ice_search_log.specs.Searching.{AreOpen, IsNext}
+use Rattle.ice_search_log.proofs.Ending.{greatest_is_next}
 use Rattle.ice_search.specs.Open.{IsGreatestOpen}
 use Rattle.ice_search.specs.State.{State}
 

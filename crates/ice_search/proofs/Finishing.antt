@@ -3,13 +3,13 @@ use Rattle.std.proofs.Common.{ℕ, ◌+◌, ◌*◌, ◌≤◌, ◌≡◌, Bool,
 use Rattle.std.specs.List.{AllByRecursion}
 use Rattle.ice_defs.specs.Steps.{Step, branch_count}
 use Rattle.ice_refute.specs.Code.{CountsGoods}
-use Rattle.ice_searching.specs.Parts.{Part, part_at, AreLater, log_of, is_closed, never_stops}
-use Rattle.ice_searching.specs.Searching.{IsAboveWhole, IsNext}
-use Rattle.ice_searching.proofs.Counted.{branches_are_splits}
-use Rattle.ice_searching.proofs.Ending.{search_is_found, search_is_spent, closed_is_low}
-use Rattle.ice_searching.proofs.Logged.{tree_log_is_earned}
-use Rattle.ice_searching.proofs.Marked.{children_are_later}
-use Rattle.ice_assembly.specs.Code.{IsRangedStep}
+use Rattle.ice_search_log.specs.Parts.{Part, part_at, AreLater, log_of, is_closed, never_stops}
+use Rattle.ice_search_log.specs.Searching.{IsAboveWhole, IsNext}
+use Rattle.ice_search_log.proofs.Counted.{branches_are_splits}
+use Rattle.ice_search_log.proofs.Ending.{search_is_found, search_is_spent, closed_is_low}
+use Rattle.ice_search_log.proofs.Logged.{tree_log_is_earned}
+use Rattle.ice_search_log.proofs.Marked.{children_are_later}
+use Rattle.ice_search_log.specs.Code.{IsRangedStep}
 use Rattle.ice_search.specs.Instance.{Instance}
 use Rattle.ice_search.specs.Nodes.{IsSplitNode}
 use Rattle.ice_search.specs.Results.{IsFoundBy, IsSpentBy, AreWritten}

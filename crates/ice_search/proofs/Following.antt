@@ -5,11 +5,11 @@ use Rattle.ice_defs.specs.Steps.{Side, with_mark}
 use Rattle.ice_defs.specs.Trade.{fixing_of}
 use Rattle.ice_defs.specs.Log.{IsFreeNode}
 use Rattle.ice_defs.specs.Conditions.{AreFixingsOf, AreMultipliersOf}
-use Rattle.ice_searching.specs.Parts.{side_at}
-use Rattle.ice_searching.proofs.Marked.{side_is_below, sides_are_fixings}
-use Rattle.ice_assembly.specs.declared.part.Part.{Part}
-use Rattle.ice_assembly.specs.Code.{part_of, parts_of}
-use Rattle.ice_assembly.proofs.Assembling.{part_read}
+use Rattle.ice_search_log.specs.Parts.{side_at}
+use Rattle.ice_search_log.proofs.Marked.{side_is_below, sides_are_fixings}
+use Rattle.ice_search_log.specs.declared.part.Part.{Part}
+use Rattle.ice_search_log.specs.Code.{part_of, parts_of}
+use Rattle.ice_search_log.proofs.Assembling.{part_read}
 use Rattle.ice_search.specs.Instance.{Instance, IsInstance, IsSearchOf}
 
 -- a part but the first has one mark more than the part above it

@@ -4,8 +4,8 @@ use Rattle.std.specs.Prelude.{slice_index, IfNone, IfSome}
 use Rattle.std.proofs.lemmas.Int.{ints}
 use Rattle.std.proofs.lemmas.Bool.{cases_lt}
 use Rattle.std.proofs.lemmas.List.Elements.{Contains-get_or}
-use Rattle.ice_searching.specs.Parts.{Part, part_at}
-use Rattle.ice_searching.specs.Searching.{IsAboveOpen}
+use Rattle.ice_search_log.specs.Parts.{Part, part_at}
+use Rattle.ice_search_log.specs.Searching.{IsAboveOpen}
 use Rattle.ice_search.specs.Open.{AreParts, IsGreatestOpen, IsHigher, IsAboveFirst, bound_at}
 
 module _ (parts : List Part) (numbers : List ℕ) (value : ℤ) where

@@ -6,8 +6,8 @@ use Rattle.ice_defs.specs.Trade.{IsFeasible, total_value}
 use Rattle.ice_defs.specs.Sweep.{IsLive, IsSweptBound}
 use Rattle.ice_defs.specs.Conditions.{AreWeightsOf}
 use Rattle.ice_bound.specs.Kept.{Standing, AreRelaxedSets}
-use Rattle.ice_searching.specs.Nodes.{HasNoNode, AreOpenSets}
-use Rattle.ice_searching.proofs.Single.{node_is_there}
+use Rattle.ice_search_log.specs.Nodes.{HasNoNode, AreOpenSets}
+use Rattle.ice_search_log.proofs.Single.{node_is_there}
 use Rattle.ice_subgradient.specs.declared.incumbent.Incumbent.{Incumbent}
 use Rattle.ice_subgradient.specs.Offers.{AreBetter, IsOffered}
 use Rattle.ice_search.proofs.Ranges.{total_high}

@@ -1,10 +1,10 @@
 -- Changes of the parts, as they are in the definitions.
 use Rattle.std.proofs.Common.{ℕ, ◌<◌, ◌≡◌, List, [], ◌∷◌, ◌++◌, length, get_or, set, ap, sym, ◌∙◌}
 use Rattle.std.proofs.lemmas.List.{map-set, map-append}
-use Rattle.ice_searching.specs.Parts as parts
-use Rattle.ice_assembly.specs.declared.part.Part.{Part}
-use Rattle.ice_assembly.specs.Code.{part_of, parts_of}
-use Rattle.ice_assembly.proofs.Assembling.{part_read}
+use Rattle.ice_search_log.specs.Parts as parts
+use Rattle.ice_search_log.specs.declared.part.Part.{Part}
+use Rattle.ice_search_log.specs.Code.{part_of, parts_of}
+use Rattle.ice_search_log.proofs.Assembling.{part_read}
 
 -- a part is changed
 pub placed : (list : List Part) (k : ℕ) (p q : Part) (change : parts.Part → parts.Part) → k < length list → p ≡ get_or list k p → part_of q ≡ change (part_of p)

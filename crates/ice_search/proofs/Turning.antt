@@ -13,13 +13,13 @@ use Rattle.ice_defs.specs.Bound.{Multipliers}
 use Rattle.ice_defs.specs.Steps.{Side, with_mark}
 use Rattle.ice_defs.specs.Sweep.{IsLive, IsSweptBound}
 use Rattle.ice_defs.specs.Conditions.{AreFixingsOf, AreMultipliersOf}
-use Rattle.ice_searching.specs.Parts.{Part, no_part, part_at, side_at, split_at}
-use Rattle.ice_searching.specs.Searching.{IsPart, AreOpen, IsNext}
-use Rattle.ice_searching.proofs.Ending.{split_is_earned}
-use Rattle.ice_searching.proofs.Marked.{sides_are_fixings, bound_is_live, meets_start, meets_less}
-use Rattle.ice_searching.proofs.Opening.{open_rises, open_bounds, open_closes, open_splits}
-use Rattle.ice_searching.proofs.Stepping.{search_bounds, search_splits}
-use Rattle.ice_searching.proofs.Swept.{swept_is_part}
+use Rattle.ice_search_log.specs.Parts.{Part, no_part, part_at, side_at, split_at}
+use Rattle.ice_search_log.specs.Searching.{IsPart, AreOpen, IsNext}
+use Rattle.ice_search_log.proofs.Ending.{split_is_earned}
+use Rattle.ice_search_log.proofs.Marked.{sides_are_fixings, bound_is_live, meets_start, meets_less}
+use Rattle.ice_search_log.proofs.Opening.{open_rises, open_bounds, open_closes, open_splits}
+use Rattle.ice_search_log.proofs.Stepping.{search_bounds, search_splits}
+use Rattle.ice_search_log.proofs.Swept.{swept_is_part}
 use Rattle.ice_subgradient.specs.declared.incumbent.Incumbent.{Incumbent}
 use Rattle.ice_search.specs.Instance.{Instance, IsSearchOf, IsIncumbentOf, IsBoundAt, IsSweepAt}
 use Rattle.ice_search.specs.Nodes.{IsSplitNode}

@@ -1,6 +1,6 @@
 -- How the turns of a search end.
 use Rattle.std.specs.Prelude.{ℕ, ◌≡◌}
-use Rattle.ice_searching.specs.Searching.{IsAboveWhole, IsNext}
+use Rattle.ice_search_log.specs.Searching.{IsAboveWhole, IsNext}
 use Rattle.ice_search.specs.Nodes.{IsSplitNode}
 use Rattle.ice_search.specs.State.{State, LooksAt}
 use Rattle.ice_search.specs.declared.run.Ended.{Ended}

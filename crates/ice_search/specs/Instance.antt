@@ -8,8 +8,8 @@ use Rattle.ice_defs.specs.Steps.{Side}
 use Rattle.ice_defs.specs.Sweep.{Sweeps, all_zero}
 use Rattle.ice_defs.specs.Exchange.{Exchange, trees_of, exact_of}
 use Rattle.ice_defs.specs.Conditions.{AreWeightsOf, AreFixingsOf}
-use Rattle.ice_searching.specs.Parts.{Part}
-use Rattle.ice_searching.specs.Searching.{IsSearch, IsIncumbent}
+use Rattle.ice_search_log.specs.Parts.{Part}
+use Rattle.ice_search_log.specs.Searching.{IsSearch, IsIncumbent}
 
 -- trees, which goods are exact, weights, the marks to start from, and an assignment
 pub record Instance : Type 0 where

@@ -1,8 +1,8 @@
 -- The open parts.
 use Rattle.std.specs.Prelude.{ℕ, suc, ◌<◌, ◌≡◌, ◌⊎◌, Bool, true, List, length, slice_index, ℤ, ◌≤ℤ◌, ◌<ℤ◌, Option, None, Some}
 use Rattle.std.specs.List.{Contains}
-use Rattle.ice_searching.specs.Parts.{Part, part_at}
-use Rattle.ice_searching.specs.Searching.{IsAboveOpen}
+use Rattle.ice_search_log.specs.Parts.{Part, part_at}
+use Rattle.ice_search_log.specs.Searching.{IsAboveOpen}
 
 -- each number is that of a part
 abbrev pub AreParts : List Part → List ℕ → Type 0

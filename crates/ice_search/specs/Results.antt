@@ -5,7 +5,7 @@ use Rattle.ice_defs.specs.Session.{Proved}
 use Rattle.ice_defs.specs.Steps.{Step, branch_count}
 use Rattle.ice_defs.specs.Searched as searched
 use Rattle.ice_refute.specs.Code.{CountsGoods}
-use Rattle.ice_assembly.specs.Code.{IsRangedStep}
+use Rattle.ice_search_log.specs.Code.{IsRangedStep}
 use Rattle.ice_search.specs.declared.results.Found.{Found}
 use Rattle.ice_search.specs.declared.results.Spent as declared
 use Rattle.ice_search.specs.declared.results.SearchEnd as ends

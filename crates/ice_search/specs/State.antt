@@ -4,11 +4,11 @@ use Rattle.ice_defs.specs.declared.Mark.{Mark}
 use Rattle.ice_defs.specs.Bound.{Multipliers}
 use Rattle.ice_defs.specs.Trade.{Assignment}
 use Rattle.ice_defs.specs.Steps.{Side}
-use Rattle.ice_searching.specs.Parts.{Part, side_at}
-use Rattle.ice_searching.specs.Searching.{AreOpen}
+use Rattle.ice_search_log.specs.Parts.{Part, side_at}
+use Rattle.ice_search_log.specs.Searching.{AreOpen}
 use Rattle.ice_subgradient.specs.declared.incumbent.Incumbent.{Incumbent}
-use Rattle.ice_assembly.specs.declared.part.Part as code
-use Rattle.ice_assembly.specs.Code.{parts_of}
+use Rattle.ice_search_log.specs.declared.part.Part as code
+use Rattle.ice_search_log.specs.Code.{parts_of}
 use Rattle.ice_search.specs.Workspace.{Looking}
 use Rattle.ice_search.specs.Instance.{Instance, IsInstance, IsSearchOf, IsIncumbentOf}
 use Rattle.ice_search.specs.Open.{AreParts}

@@ -2,7 +2,7 @@
 ghost use Rattle.std.specs.Prelude.{◌≡◌, length, IfOk};
 ghost use Rattle.ice_defs.specs.Conditions.{AreMultipliersOf};
 ghost use Rattle.ice_defs.specs.declared.Mark.TheVariants.{Free};
-ghost use Rattle.ice_assembly.specs.Code.{part_of};
+ghost use Rattle.ice_search_log.specs.Code.{part_of};
 ghost use Rattle.ice_search.specs.Instance.{IsInstance, IsIncumbentOf};
 ghost use Rattle.ice_search.specs.State.{child_part};
 
@@ -13,9 +13,9 @@ use crate::problem::Problem;
 use crate::progress::Progress;
 use crate::sweep::Bounded;
 use crate::workspace::Workspace;
-use ice_assembly::Part;
 use ice_best::Mark;
 use ice_bound::Multipliers;
+use ice_search_log::Part;
 use ice_subgradient::Incumbent;
 use ice_tree::Assignment;
 use std::alloc::{AllocError, Global};

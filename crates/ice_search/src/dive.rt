@@ -1,7 +1,7 @@
 //! Dives: where the branches are spent, a better assignment may still come up below the part that would be split next.
 ghost use Rattle.std.specs.Prelude.{◌≡◌, ◌<◌, ◌⊎◌, length, IfOk, ◌≤ℤ◌};
 ghost use Rattle.ice_defs.specs.Log.{IsFreeNode};
-ghost use Rattle.ice_assembly.specs.Code.{parts_of};
+ghost use Rattle.ice_search_log.specs.Code.{parts_of};
 ghost use Rattle.ice_defs.specs.Conditions.{AreFixingsOf, AreMultipliersOf};
 ghost use Rattle.ice_search.specs.Instance.{IsSearchOf, IsIncumbentOf};
 
@@ -9,10 +9,10 @@ use crate::candidates::consider;
 use crate::child::Polished;
 use crate::hints::{Hint, candidate_at};
 use crate::workspace::Workspace;
-use ice_assembly::Part;
 use ice_best::{Fixings, Mark};
 use ice_bound::Multipliers;
 use ice_relaxation::Candidate;
+use ice_search_log::Part;
 use ice_subgradient::Incumbent;
 use ice_tree::Assignment;
 use std::alloc::{AllocError, Global};

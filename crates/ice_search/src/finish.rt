@@ -1,7 +1,7 @@
 //! What a search gives, from its parts.
 ghost use Rattle.std.specs.Prelude.{◌≡◌, ◌+◌, ◌*◌, ◌≤◌, length, IfOk};
 ghost use Rattle.ice_defs.specs.Steps.{branch_count};
-ghost use Rattle.ice_searching.specs.Searching.{IsAboveWhole, IsNext};
+ghost use Rattle.ice_search_log.specs.Searching.{IsAboveWhole, IsNext};
 ghost use Rattle.ice_search.specs.Nodes.{IsSplitNode};
 ghost use Rattle.ice_search.specs.Results.{IsFoundBy, IsSpentBy};
 ghost use Rattle.ice_search.specs.State.{LooksAt};
@@ -9,9 +9,9 @@ ghost use Rattle.ice_search.specs.State.{LooksAt};
 use crate::frontier::key_of;
 use crate::progress::Progress;
 use crate::results::{Found, Spent};
-use ice_assembly::write_log;
 use ice_refute::Log;
 use ice_relaxation::Candidate;
+use ice_search_log::write_log;
 use std::alloc::{AllocError, Global};
 
 impl<'a> Progress<'a> {

@@ -1,11 +1,11 @@
 //! The frontier of a search: its open parts.
 ghost use Rattle.std.specs.Prelude.{◌≡◌, ◌+◌, ◌<◌, ◌≤◌, [], ◌∷◌, ◌++◌, length, vec_len, vec_capacity, slice_index, false, None, IsTrue, IfNone, IfSome, ◌≤ℤ◌, ◌<ℤ◌};
 ghost use Rattle.std.specs.List.Sorted.{IsPermutation};
-ghost use Rattle.ice_searching.specs.Searching.{IsAboveOpen};
-ghost use Rattle.ice_assembly.specs.Code.{parts_of};
+ghost use Rattle.ice_search_log.specs.Searching.{IsAboveOpen};
+ghost use Rattle.ice_search_log.specs.Code.{parts_of};
 ghost use Rattle.ice_search.specs.Open.{AreParts, IsGreatestOpen, IsHigher, bound_at, AreOpened};
 
-use ice_assembly::Part;
+use ice_search_log::Part;
 
 /// The bound of a part.
 pub(crate) fn key_of(part: &Part) -> i128

@@ -6,7 +6,7 @@ ghost use Rattle.ice_defs.specs.Steps.{with_mark};
 ghost use Rattle.ice_defs.specs.Sweep.{IsLive};
 ghost use Rattle.ice_defs.specs.Trade.{tree_of};
 ghost use Rattle.ice_defs.specs.Conditions.{AreFixingsOf};
-ghost use Rattle.ice_searching.specs.Nodes.{HasNoNode};
+ghost use Rattle.ice_search_log.specs.Nodes.{HasNoNode};
 ghost use Rattle.ice_search.specs.Nodes.{IsSplitNode, HasNoNodeOf, IsSameStanding};
 
 use crate::workspace::Workspace;

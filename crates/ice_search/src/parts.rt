@@ -1,14 +1,14 @@
 //! Changes of the parts of a search.
 ghost use Rattle.std.specs.Prelude.{◌↔◌, IsTrue, ◌≡◌, ◌+◌, ◌<◌, ◌≤◌, [], ◌∷◌, ◌++◌, slice_set, vec_len, vec_capacity, true, ◌≤ℤ◌, ◌<ℤ◌};
 ghost use Rattle.ice_defs.specs.declared.Mark.TheVariants.{Must, Never};
-ghost use Rattle.ice_searching.specs.Parts.{part_at, split_at};
-ghost use Rattle.ice_assembly.specs.Code.{part_of, parts_of};
+ghost use Rattle.ice_search_log.specs.Parts.{part_at, split_at};
+ghost use Rattle.ice_search_log.specs.Code.{part_of, parts_of};
 ghost use Rattle.ice_search.specs.State.{child_part, with_bound};
 
 use crate::sweep::Bounded;
-use ice_assembly::{Part, Split};
 use ice_best::Mark;
 use ice_relaxation::Candidate;
+use ice_search_log::{Part, Split};
 use ice_subgradient::Incumbent;
 
 /// A part is swept: its bound falls to the swept one, where that is less.

@@ -1,9 +1,9 @@
 //! A search as it goes on.
 ghost use Rattle.std.specs.Prelude.{◌≡◌, ◌+◌, ◌<◌, ◌≤◌, length, slice_index, true, false, IfNone, IfSome, OnOk};
 ghost use Rattle.std.specs.List.{Contains};
-ghost use Rattle.ice_searching.specs.Parts.{part_at};
-ghost use Rattle.ice_searching.specs.Searching.{IsAboveWhole, IsNext, AreOpen};
-ghost use Rattle.ice_searching.specs.Nodes.{HasNoNode};
+ghost use Rattle.ice_search_log.specs.Parts.{part_at};
+ghost use Rattle.ice_search_log.specs.Searching.{IsAboveWhole, IsNext, AreOpen};
+ghost use Rattle.ice_search_log.specs.Nodes.{HasNoNode};
 ghost use Rattle.ice_search.specs.Nodes.{IsSplitNode};
 ghost use Rattle.ice_search.specs.Open.{IsGreatestOpen};
 ghost use Rattle.ice_search.specs.State.{unswept_count, LooksAt};
@@ -13,9 +13,9 @@ use crate::frontier::{greatest, open_children, take_out};
 use crate::hints::{Hint, keep_near, most_promising, near, push_hints};
 use crate::parts::{is_open, lower, push_children};
 use crate::workspace::Workspace;
-use ice_assembly::Part;
 use ice_best::Mark;
 use ice_relaxation::Candidate;
+use ice_search_log::Part;
 use ice_subgradient::Incumbent;
 use std::alloc::{AllocError, Global};
 use std::marker::Model;

@@ -1,14 +1,14 @@
 //! The side of a part: the marks along the parts above it.
 ghost use Rattle.std.specs.Prelude.{◌≡◌, ◌<◌, length};
 ghost use Rattle.ice_defs.specs.Conditions.{AreFixingsOf};
-ghost use Rattle.ice_searching.specs.Parts.{side_at};
-ghost use Rattle.ice_assembly.specs.Code.{parts_of};
+ghost use Rattle.ice_search_log.specs.Parts.{side_at};
+ghost use Rattle.ice_search_log.specs.Code.{parts_of};
 ghost use Rattle.ice_search.specs.Instance.{IsSearchOf};
 
 use crate::problem::Problem;
-use ice_assembly::Part;
 use ice_best::Fixings;
 use ice_bound::copy_fixings;
+use ice_search_log::Part;
 
 /// Makes the marks those of the part's side: the start's, and those along the parts above it, of which there are no more
 /// than free nodes at the start.

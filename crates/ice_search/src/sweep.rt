@@ -2,7 +2,7 @@
 ghost use Rattle.std.specs.Prelude.{◌≡◌, length, ℤ, pos, neg_ℤ, ◌≤ℤ◌};
 ghost use Rattle.ice_defs.specs.Bound.{IsBound};
 ghost use Rattle.ice_defs.specs.Sweep.{IsLive, IsSweptBound};
-ghost use Rattle.ice_searching.specs.Nodes.{HasNoNode};
+ghost use Rattle.ice_search_log.specs.Nodes.{HasNoNode};
 ghost use Rattle.ice_search.specs.Instance.{IsBoundAt, IsSweepAt};
 ghost use Rattle.ice_search.specs.Workspace.{IsOfferedAt};
 

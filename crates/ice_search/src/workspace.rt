@@ -1,15 +1,15 @@
 //! The workspace of a search: the side that is looked at, with its kept bounds, and the room that sweeps need.
 ghost use Rattle.std.specs.Prelude.{◌≡◌, ◌<◌, length, IfOk, List, Bool};
 ghost use Rattle.ice_defs.specs.Conditions.{AreMultipliersOf};
-ghost use Rattle.ice_searching.specs.Parts.{side_at};
-ghost use Rattle.ice_assembly.specs.Code.{parts_of};
+ghost use Rattle.ice_search_log.specs.Parts.{side_at};
+ghost use Rattle.ice_search_log.specs.Code.{parts_of};
 ghost use Rattle.ice_search.specs.Instance.{IsSearchOf};
 
 use crate::problem::Problem;
 use crate::sides::put_side;
-use ice_assembly::Part;
 use ice_bound::{Desk, Kept, Multipliers};
 use ice_relaxation::Relaxation;
+use ice_search_log::Part;
 use ice_subgradient::Trial;
 use std::alloc::{AllocError, Global};
 use std::marker::Model;

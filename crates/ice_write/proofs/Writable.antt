@@ -12,7 +12,7 @@ use Rattle.ice_defs.specs.Lawful.{IsBidder, IsExchange}
 use Rattle.ice_defs.proofs.Lists.{all-from}
 use Rattle.ice_bound.specs.Multipliers.{AreInRange}
 use Rattle.ice_refute.specs.Code.{CountsGoods}
-use Rattle.ice_assembly.specs.Code.{IsRangedStep}
+use Rattle.ice_search_log.specs.Code.{IsRangedStep}
 use Rattle.ice_journal.specs.Ranges.{IsBits, IsMultiplier, IsStepRecord}
 use Rattle.ice_write.specs.Writable.{AreWritable}
 

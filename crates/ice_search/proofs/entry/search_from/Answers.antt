@@ -1,6 +1,6 @@
 use Rattle.std.proofs.Common.{arith, subst, refl, ◌∙◌, ◌≡◌}
 use Rattle.ice_defs.specs.Steps.{branch_count}
-use Rattle.ice_searching.proofs.Found.{found_is_best}
+use Rattle.ice_search_log.proofs.Found.{found_is_best}
 use Rattle.ice_search.specs.Instance.{instance_of}
 use Rattle.ice_search.specs.Ended.{HasEnded}
 use Rattle.ice_search.specs.Results.{IsFoundBy, IsSpentBy, proved_found}

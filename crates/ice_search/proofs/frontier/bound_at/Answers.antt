@@ -2,8 +2,8 @@ use Rattle.std.proofs.Common.{rules, arith, FitsSigned, length, get_or, ap, sym,
 use Rattle.std.specs.Int.{w128}
 use Rattle.std.proofs.lemmas.List.{length-map}
 use Rattle.std.proofs.lemmas.Int.{to_z-of_z}
-use Rattle.ice_assembly.specs.Code.{part_of, parts_of}
-use Rattle.ice_assembly.proofs.Assembling.{part_read}
+use Rattle.ice_search_log.specs.Code.{part_of, parts_of}
+use Rattle.ice_search_log.proofs.Assembling.{part_read}
 use Rattle.ice_search.specs.Open.{bound_at, IsHigher}
 use Rattle.ice_search.proofs.Looking.{number_there, place_there}
 use Rattle.ice_search.proofs.frontier.bound_at.Goals as goal

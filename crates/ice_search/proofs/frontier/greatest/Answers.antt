@@ -3,9 +3,9 @@ use Rattle.std.specs.Int.{w128}
 use Rattle.std.proofs.lemmas.List.{length-map}
 use Rattle.std.proofs.lemmas.Int.{to_z-of_z}
 use Rattle.std.specs.Option.{option_map}
-use Rattle.ice_assembly.specs.declared.part.Split.{Split}
-use Rattle.ice_assembly.specs.Code.{split_of, part_of, parts_of}
-use Rattle.ice_assembly.proofs.Assembling.{part_read}
+use Rattle.ice_search_log.specs.declared.part.Split.{Split}
+use Rattle.ice_search_log.specs.Code.{split_of, part_of, parts_of}
+use Rattle.ice_search_log.proofs.Assembling.{part_read}
 use Rattle.ice_search.specs.Open.{bound_at, IsHigher, IsAboveFirst}
 use Rattle.ice_search.proofs.Looking.{number_there, taken, passed}
 use Rattle.ice_search.proofs.frontier.greatest.Goals as goal

@@ -1,4 +1,4 @@
-use Rattle.ice_assembly.specs.Code.{parts_of}
+use Rattle.ice_search_log.specs.Code.{parts_of}
 use Rattle.ice_search.specs.Open.{IsAboveFirst, IsHigher, bound_at}
 use Rattle.ice_search.proofs.frontier.greatest.Given as goal
 

@@ -1,7 +1,7 @@
 use Rattle.std.proofs.Common.{rules, arith, FitsSigned, ap, refl, true}
 use Rattle.std.specs.Int.{w128}
 use Rattle.std.proofs.lemmas.Int.{to_z-of_z}
-use Rattle.ice_assembly.specs.Code.{part_of}
+use Rattle.ice_search_log.specs.Code.{part_of}
 use Rattle.ice_search.specs.State.{with_bound}
 use Rattle.ice_search.proofs.Placing.{placed}
 use Rattle.ice_search.proofs.parts.lower.Goals as goal

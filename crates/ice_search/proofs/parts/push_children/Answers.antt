@@ -1,6 +1,6 @@
 use Rattle.std.proofs.Common.{rules, arith, ap, ◌∙◌, refl, ◌≡◌, ◌++◌, ◌∷◌, [], set, Some}
-use Rattle.ice_searching.specs.Parts.{part_at, split_at}
-use Rattle.ice_assembly.specs.Code.{parts_of}
+use Rattle.ice_search_log.specs.Parts.{part_at, split_at}
+use Rattle.ice_search_log.specs.Code.{parts_of}
 use Rattle.ice_search.proofs.Placing.{placed, added}
 use Rattle.ice_search.proofs.parts.push_children.Goals as goal
 

@@ -1,7 +1,7 @@
 use Rattle.std.proofs.Common.{length, sym, subst, ◌∙◌, ◌≡◌, ◌<◌, true}
-use Rattle.ice_searching.specs.Parts.{part_at}
-use Rattle.ice_searching.specs.Nodes.{HasNoNode}
-use Rattle.ice_searching.specs.Searching.{IsNext}
+use Rattle.ice_search_log.specs.Parts.{part_at}
+use Rattle.ice_search_log.specs.Nodes.{HasNoNode}
+use Rattle.ice_search_log.specs.Searching.{IsNext}
 use Rattle.ice_search.specs.Nodes.{IsSplitNode}
 use Rattle.ice_search.specs.State.{LooksAt}
 use Rattle.ice_search.proofs.Choosing.{next_of}

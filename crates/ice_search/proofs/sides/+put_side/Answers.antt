@@ -1,9 +1,9 @@
 use Rattle.std.proofs.Common.{arith, length, ap, sym, ◌∙◌, subst}
 use Rattle.ice_defs.specs.Steps.{with_mark}
 use Rattle.ice_defs.specs.Trade.{fixing_of}
-use Rattle.ice_searching.specs.Parts.{side_at}
-use Rattle.ice_searching.proofs.Marked.{side_is_start}
-use Rattle.ice_assembly.specs.Code.{parts_of}
+use Rattle.ice_search_log.specs.Parts.{side_at}
+use Rattle.ice_search_log.proofs.Marked.{side_is_start}
+use Rattle.ice_search_log.specs.Code.{parts_of}
 use Rattle.ice_search.specs.Instance.{IsInstance}
 use Rattle.ice_search.proofs.Following.{below, fixings_at, node_there}
 use Rattle.ice_search.proofs.sides.+put_side.Goals as goal

@@ -2,7 +2,7 @@ use Rattle.std.proofs.Common.{sym, subst, ap, ◌∙◌, ◌≡◌, ◌++◌, �
 use Rattle.ice_defs.specs.Sweep.{IsLive}
 use Rattle.ice_defs.specs.Steps.{Side}
 use Rattle.ice_defs.specs.Conditions.{AreMultipliersOf}
-use Rattle.ice_assembly.specs.Code.{parts_of}
+use Rattle.ice_search_log.specs.Code.{parts_of}
 use Rattle.ice_search.specs.Instance.{Instance, IsBoundAt}
 use Rattle.ice_search.specs.State.{IsState}
 use Rattle.ice_search.specs.Workspace.{IsOfferedAt}

@@ -1,7 +1,7 @@
 use Rattle.std.proofs.Common.{sym, subst, ◌∙◌, ◌≡◌, true}
 use Rattle.std.specs.Prelude.{slice_index}
-use Rattle.ice_searching.specs.Parts.{part_at}
-use Rattle.ice_searching.specs.Nodes.{HasNoNode}
+use Rattle.ice_search_log.specs.Parts.{part_at}
+use Rattle.ice_search_log.specs.Nodes.{HasNoNode}
 use Rattle.ice_search.specs.State.{state_of, LooksAt}
 use Rattle.ice_search.proofs.Turning.{low, live, closed}
 use Rattle.ice_search.proofs.Opened.{left_others, left_within}

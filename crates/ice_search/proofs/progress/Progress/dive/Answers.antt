@@ -1,8 +1,8 @@
 use Rattle.std.proofs.Common.{arith, length, sym, subst, ap, ◌∙◌}
 use Rattle.std.proofs.lemmas.List.{length-map}
 use Rattle.ice_defs.specs.Conditions.{AreMultipliersOf}
-use Rattle.ice_assembly.specs.Code.{part_of, parts_of}
-use Rattle.ice_assembly.proofs.Assembling.{part_read}
+use Rattle.ice_search_log.specs.Code.{part_of, parts_of}
+use Rattle.ice_search_log.proofs.Assembling.{part_read}
 use Rattle.ice_search.specs.Instance.{IsIncumbentOf}
 use Rattle.ice_search.specs.State.{IsState, state_of, LooksAt}
 use Rattle.ice_search.proofs.Turning.{lawful, better}

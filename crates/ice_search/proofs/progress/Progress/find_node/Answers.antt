@@ -1,6 +1,6 @@
 use Rattle.std.proofs.Common.{subst, ap, ◌∙◌, ◌≡◌}
 use Rattle.std.specs.Prelude.{IfNone}
-use Rattle.ice_searching.specs.Nodes.{HasNoNode}
+use Rattle.ice_search_log.specs.Nodes.{HasNoNode}
 use Rattle.ice_search.proofs.progress.Progress.find_node.Goals as goal
 use Rattle.ice_search.proofs.progress.Progress.find_node.Goals.{in-Some+else-splits, in_default}
 

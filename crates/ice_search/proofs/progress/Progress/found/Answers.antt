@@ -2,9 +2,9 @@ use Rattle.std.proofs.Common.{rules, arith, length, sym, subst, ap, ◌∙◌, �
 use Rattle.std.specs.Int.{w128}
 use Rattle.std.specs.List.{AllByRecursion}
 use Rattle.std.proofs.lemmas.Int.{to_z-of_z}
-use Rattle.ice_searching.specs.Parts.{AreLater, log_of, is_closed}
-use Rattle.ice_searching.specs.Searching.{IsAboveWhole}
-use Rattle.ice_assembly.specs.Code.{parts_of, IsRangedStep}
+use Rattle.ice_search_log.specs.Parts.{AreLater, log_of, is_closed}
+use Rattle.ice_search_log.specs.Searching.{IsAboveWhole}
+use Rattle.ice_search_log.specs.Code.{parts_of, IsRangedStep}
 use Rattle.ice_search.specs.Results.{IsFoundBy}
 use Rattle.ice_search.specs.State.{state_of}
 use Rattle.ice_search.proofs.Finishing.{later, found_by, fewer_branches}

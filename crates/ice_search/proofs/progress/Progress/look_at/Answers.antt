@@ -1,7 +1,7 @@
 use Rattle.std.proofs.Common.{arith, length, sym, ap, ◌∙◌, ◌<◌}
 use Rattle.std.proofs.lemmas.List.{length-map, get_or_default}
-use Rattle.ice_searching.specs.Parts.{side_at}
-use Rattle.ice_assembly.specs.Code.{part_of, parts_of}
+use Rattle.ice_search_log.specs.Parts.{side_at}
+use Rattle.ice_search_log.specs.Code.{part_of, parts_of}
 use Rattle.ice_search.proofs.Looking.{number_there}
 use Rattle.ice_search.proofs.progress.Progress.look_at.Goals as goal
 

@@ -2,9 +2,9 @@ use Rattle.std.proofs.Common.{ℕ, sym, subst, rules, Option, Some, None, FitsSi
 use Rattle.std.specs.Int.{w128}
 use Rattle.std.specs.Prelude.{IfNone}
 use Rattle.std.proofs.lemmas.Int.{to_z-of_z}
-use Rattle.ice_searching.specs.Searching.{IsAboveWhole, IsAboveOpen, AreOpen}
-use Rattle.ice_searching.proofs.Ending.{none_is_left}
-use Rattle.ice_assembly.specs.Code.{parts_of}
+use Rattle.ice_search_log.specs.Searching.{IsAboveWhole, IsAboveOpen, AreOpen}
+use Rattle.ice_search_log.proofs.Ending.{none_is_left}
+use Rattle.ice_search_log.specs.Code.{parts_of}
 use Rattle.ice_search.specs.Open.{AreParts}
 use Rattle.ice_search.proofs.progress.Progress.next.Goals as goal
 

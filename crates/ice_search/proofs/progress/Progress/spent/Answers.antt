@@ -4,10 +4,10 @@ use Rattle.std.specs.List.{AllByRecursion}
 use Rattle.std.proofs.lemmas.Int.{to_z-of_z}
 use Rattle.std.proofs.lemmas.List.{length-map}
 use Rattle.ice_defs.specs.Steps.{branch_count}
-use Rattle.ice_searching.specs.Parts.{AreLater, log_of, never_stops}
-use Rattle.ice_searching.specs.Searching.{IsNext}
-use Rattle.ice_assembly.specs.Code.{part_of, parts_of, IsRangedStep}
-use Rattle.ice_assembly.proofs.Assembling.{part_read}
+use Rattle.ice_search_log.specs.Parts.{AreLater, log_of, never_stops}
+use Rattle.ice_search_log.specs.Searching.{IsNext}
+use Rattle.ice_search_log.specs.Code.{part_of, parts_of, IsRangedStep}
+use Rattle.ice_search_log.proofs.Assembling.{part_read}
 use Rattle.ice_search.specs.Nodes.{IsSplitNode}
 use Rattle.ice_search.specs.Results.{IsSpentBy}
 use Rattle.ice_search.specs.State.{state_of, LooksAt}

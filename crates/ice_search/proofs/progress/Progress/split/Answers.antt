@@ -7,12 +7,12 @@ use Rattle.ice_defs.specs.declared.Mark.TheVariants.{Must, Never}
 use Rattle.ice_defs.specs.Steps.{Side, with_mark}
 use Rattle.ice_defs.specs.Sweep.{IsLive}
 use Rattle.ice_defs.specs.Conditions.{AreFixingsOf, AreMultipliersOf}
-use Rattle.ice_searching.specs.Parts as parts
-use Rattle.ice_searching.specs.Parts.{part_at, split_at}
-use Rattle.ice_searching.specs.Searching.{IsNext}
-use Rattle.ice_assembly.specs.declared.part.Part.{Part}
-use Rattle.ice_assembly.specs.Code.{part_of, parts_of}
-use Rattle.ice_assembly.proofs.Assembling.{part_read}
+use Rattle.ice_search_log.specs.Parts as parts
+use Rattle.ice_search_log.specs.Parts.{part_at, split_at}
+use Rattle.ice_search_log.specs.Searching.{IsNext}
+use Rattle.ice_search_log.specs.declared.part.Part.{Part}
+use Rattle.ice_search_log.specs.Code.{part_of, parts_of}
+use Rattle.ice_search_log.proofs.Assembling.{part_read}
 use Rattle.ice_search.specs.Instance.{Instance, IsBoundAt}
 use Rattle.ice_search.specs.Nodes.{IsSplitNode}
 use Rattle.ice_search.specs.Open.{AreOpened}

@@ -1,7 +1,7 @@
 use Rattle.std.proofs.Common.{sym, subst, ap, ◌∙◌, ◌≡◌, false}
 use Rattle.std.specs.List.{Contains}
-use Rattle.ice_searching.specs.Parts.{part_at}
-use Rattle.ice_assembly.specs.Code.{parts_of}
+use Rattle.ice_search_log.specs.Parts.{part_at}
+use Rattle.ice_search_log.specs.Code.{parts_of}
 use Rattle.ice_search.specs.State.{IsState, state_of, LooksAt, unswept_count}
 use Rattle.ice_search.proofs.Turning.{live, swept, fewer}
 use Rattle.ice_search.proofs.progress.Progress.sweep.Goals as goal

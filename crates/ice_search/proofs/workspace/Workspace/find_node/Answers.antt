@@ -1,6 +1,6 @@
 use Rattle.std.proofs.Common.{subst}
 use Rattle.std.specs.Prelude.{IfNone}
-use Rattle.ice_searching.specs.Nodes.{HasNoNode}
+use Rattle.ice_search_log.specs.Nodes.{HasNoNode}
 use Rattle.ice_search.proofs.workspace.Workspace.find_node.Goals as goal
 
 pub returns-clause-none : goal.returns-clause-none

@@ -1,6 +1,6 @@
 use Rattle.std.proofs.Common.{ap, sym, ◌∙◌, subst}
 use Rattle.ice_defs.specs.Conditions.{AreFixingsOf, AreMultipliersOf}
-use Rattle.ice_assembly.specs.Code.{parts_of}
+use Rattle.ice_search_log.specs.Code.{parts_of}
 use Rattle.ice_search.specs.Instance.{IsSearchOf}
 use Rattle.ice_search.proofs.Following.{fixings_at, multipliers_at}
 use Rattle.ice_search.proofs.workspace.Workspace.look_at.Goals as goal

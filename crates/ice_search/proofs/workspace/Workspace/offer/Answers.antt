@@ -2,7 +2,7 @@ use Rattle.std.proofs.Common.{length, sym, subst, ap, ◌∙◌, ◌≤◌}
 use Rattle.std.specs.Prelude.{sum_by}
 use Rattle.ice_defs.specs.Sweep.{IsSweptBound}
 use Rattle.ice_defs.specs.Conditions.{AreWeightsOf}
-use Rattle.ice_searching.specs.Nodes.{HasNoNode}
+use Rattle.ice_search_log.specs.Nodes.{HasNoNode}
 use Rattle.ice_search.proofs.Splitting.{live_there}
 use Rattle.ice_search.proofs.Offering.{closed_at}
 use Rattle.ice_search.proofs.workspace.Workspace.offer.Goals as goal

@@ -1,0 +1,14 @@
+pub mod Found
+pub mod Sides
+pub mod Written
+pub mod Covering
+pub mod Logged
+pub mod Counted
+pub mod Enumerated
+pub mod Stepping
+pub mod Ending
+pub mod Marked
+pub mod Swept
+pub mod Single
+pub mod Opening
+pub mod Assembling
