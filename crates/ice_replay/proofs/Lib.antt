@@ -10,3 +10,7 @@ pub mod Answering
 pub mod Played
 -- the names and the bounds of the bidders, one more at a time
 pub mod Listed
+-- a session states the regret of each settlement once
+pub mod Once
+-- bytes have one replay of a settlement
+pub mod Same

@@ -3,3 +3,4 @@ pub mod Replays
 pub mod Watching
 pub mod Ending
 pub mod Lines
+pub mod Laws

@@ -4,6 +4,7 @@
 
 mod bidders;
 mod ending;
+mod laws;
 mod lines;
 mod putting;
 mod reading;
@@ -12,6 +13,7 @@ mod settlement;
 mod watch;
 
 pub use ice_check::Rule;
+pub use laws::bytes_have_one_replay;
 pub use putting::put_replay;
 pub use reading::replay;
 pub use settlement::{BidderBounds, Replay, ReplayEnd};

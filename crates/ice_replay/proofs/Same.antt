@@ -10,8 +10,8 @@ use Rattle.ice_journal_laws.specs.State.{State, begun, exchange_at}
 use Rattle.ice_replay.specs.declared.settlement.Replay.{Replay}
 use Rattle.ice_replay.specs.Settlements.{OfSession, Settles, prices_from, prices_of}
 use Rattle.ice_replay.specs.Replays.{IsReplay}
-use Rattle.ice_replay_laws.specs.Laws.{SaySame, OneReplay}
-use Rattle.ice_replay_laws.proofs.Once.{AreSame, one_settlement}
+use Rattle.ice_replay.specs.Laws.{SaySame, OneReplay}
+use Rattle.ice_replay.proofs.Once.{AreSame, one_settlement}
 
 same_prices : (number : ℕ) (s : State) (records : List Record) (x y : Settles number s records) → AreSame x y → prices_of x ≡ prices_of y
 same_prices number s records x y same =

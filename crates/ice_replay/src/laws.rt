@@ -1,7 +1,5 @@
-//! Laws of replays. It has no code.
-#![tactic(auto)]
-
-ghost use Rattle.ice_replay_laws.specs.Laws.{OneReplay};
+//! Laws of replays, which hold of the definitions.
+ghost use Rattle.ice_replay.specs.Laws.{OneReplay};
 
 /// Bytes have one replay of a settlement: any two say the same.
 pub fn bytes_have_one_replay()

@@ -1,5 +1,0 @@
-use Rattle.ice_replay_laws.proofs.Same.{one_replay}
-use Rattle.ice_replay_laws.proofs.bytes_have_one_replay.Goals as goal
-
-pub returns : goal.returns
-returns c = one_replay
