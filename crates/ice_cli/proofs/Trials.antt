@@ -44,7 +44,7 @@ use Rattle.ice_round_laws.specs.Written.{begun_records, run_records, IsSpentJour
 use Rattle.ice_round_laws.proofs.Ends.{spends, is_limited, spent_may_be_written, limit_may_be_written}
 use Rattle.ice_gen.specs.Generated.{generated, truths}
 use Rattle.ice_gen.specs.Parts.{the_settings}
-use Rattle.ice_truths.specs.Truths.{truth_bids}
+use Rattle.ice_trial.specs.Truths.{truth_bids}
 use Rattle.ice_trial.specs.declared.summary.Summary.{Summary}
 use Rattle.ice_trial.specs.declared.trial.TruthRound.{TruthRound}
 use Rattle.ice_trial.specs.Summaries.{AreFinal, bounds_at, IsSummary}

@@ -14,7 +14,7 @@ use Rattle.ice_journal_laws.specs.SoFar.{IsSoFar}
 use Rattle.ice_round_laws.specs.Stops.{IsLimited}
 use Rattle.ice_round_laws.specs.Written.{begun_records}
 use Rattle.ice_gen.specs.Generated.{generated, truths}
-use Rattle.ice_truths.specs.Truths.{truth_bids}
+use Rattle.ice_trial.specs.Truths.{truth_bids}
 use Rattle.ice_trial.specs.declared.summary.Summary.{Summary}
 use Rattle.ice_trial.specs.Summaries.{IsSummary}
 use Rattle.ice_cli.specs.Call.{IsPrefix}

@@ -10,7 +10,7 @@ use Rattle.ice_defs.specs.Making.{is_value}
 use Rattle.ice_defs.specs.Round.{Submission}
 use Rattle.ice_defs.specs.Lawful.{AreBounds}
 use Rattle.ice_terms.specs.Bids.{AreValues}
-use Rattle.ice_truths.specs.Truths.{truth_bids}
+use Rattle.ice_trial.specs.Truths.{truth_bids}
 
 -- ---- values
 

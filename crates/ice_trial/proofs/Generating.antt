@@ -6,7 +6,7 @@ use Rattle.ice_defs.specs.Bounds.{Bounds}
 use Rattle.ice_defs.specs.Exchange.{Bidder, opening_bounds}
 use Rattle.ice_defs.proofs.Multiples.{one_time}
 use Rattle.ice_gen.specs.Generated.{Made, bounds_of_values, truth_of_values, made, generated, truths}
-use Rattle.ice_truths.specs.Truths.{IsTruth, AreTruths}
+use Rattle.ice_trial.specs.Truths.{IsTruth, AreTruths}
 
 -- values with how far below and above each the bounds are
 module _ {V : Type 0} (truth : V → ℤ) (below above : V → ℕ) where

@@ -1,3 +1,7 @@
+-- exact values leave no regret
+pub mod Exact
+-- bids that state true values are accepted
+pub mod Accepted
 -- the bids of true values
 pub mod Bidding
 -- bids that are submitted one after another

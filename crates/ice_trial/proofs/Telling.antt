@@ -21,8 +21,8 @@ use Rattle.ice_write_session.proofs.Lawful.{opening_are_records}
 use Rattle.ice_round_laws.specs.Running.{IsRunning, IsInRound}
 use Rattle.ice_round_laws.proofs.Rounds.{round_begins, round_ends}
 use Rattle.ice_round_laws.proofs.Ends.{opening_may_be_written}
-use Rattle.ice_truths.specs.Truths.{AreTruths, AreExact, truth_bids}
-use Rattle.ice_truths.proofs.Accepted.{truths_are_accepted}
+use Rattle.ice_trial.specs.Truths.{AreTruths, AreExact, truth_bids}
+use Rattle.ice_trial.proofs.Accepted.{truths_are_accepted}
 use Rattle.ice_trial.specs.declared.trial.TruthRound.{TruthRound}
 use Rattle.ice_trial.specs.Rounds.{submissions_in, accepted, Submits, IsTold}
 

@@ -1,3 +1,5 @@
+pub mod Truths
+pub mod Laws
 pub mod Summaries
 pub mod Rounds
 pub mod Ends

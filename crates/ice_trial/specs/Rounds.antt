@@ -9,7 +9,7 @@ use Rattle.ice_round.specs.SessionAt.{SessionAt, RoundAt}
 use Rattle.ice_settled.specs.Shown.{going_of}
 use Rattle.ice_write_session.specs.Writable.{IsWritableOpening}
 use Rattle.ice_round_laws.specs.Running.{IsRunning, IsInRound}
-use Rattle.ice_truths.specs.Truths.{AreExact, truth_bids}
+use Rattle.ice_trial.specs.Truths.{AreExact, truth_bids}
 use Rattle.ice_trial.specs.declared.trial.TruthRound.{TruthRound}
 
 -- ---- bids one after another

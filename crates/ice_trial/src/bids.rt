@@ -2,7 +2,7 @@
 ghost use Rattle.std.specs.Prelude.{◌≡◌, length, IfOk};
 ghost use Rattle.ice_defs.specs.Exchange.{names_of};
 ghost use Rattle.ice_terms.specs.Bids.{AreValues};
-ghost use Rattle.ice_truths.specs.Truths.{IsExact, AreExact, truth_bids};
+ghost use Rattle.ice_trial.specs.Truths.{IsExact, AreExact, truth_bids};
 
 use arrayvec::ArrayVec;
 use ice_terms::{Bid, Name};

@@ -4,7 +4,7 @@ ghost use Rattle.ice_defs.specs.Exchange.{opening_bounds};
 ghost use Rattle.ice_round.specs.SessionAt.{SessionAt};
 ghost use Rattle.ice_round.specs.Shown.{IsOpening};
 ghost use Rattle.ice_round_laws.specs.Running.{IsRunning};
-ghost use Rattle.ice_truths.specs.Truths.{AreTruths};
+ghost use Rattle.ice_trial.specs.Truths.{AreTruths};
 ghost use Rattle.ice_trial.specs.Rounds.{IsTold};
 ghost use Rattle.ice_trial.specs.Ends.{IsTrialEnd};
 

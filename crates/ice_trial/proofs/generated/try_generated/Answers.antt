@@ -2,7 +2,7 @@ use Rattle.std.proofs.Common.{◌∙◌, List, sym, subst}
 use Rattle.ice_defs.specs.Bounds.{Bounds}
 use Rattle.ice_defs.specs.Exchange.{Exchange, opening_bounds}
 use Rattle.ice_gen.specs.Generated.{generated, truths}
-use Rattle.ice_truths.specs.Truths.{AreTruths}
+use Rattle.ice_trial.specs.Truths.{AreTruths}
 use Rattle.ice_trial.specs.Ends.{IsTrialEnd}
 use Rattle.ice_trial.proofs.Generating.{generated_truths}
 use Rattle.ice_trial.proofs.generated.try_generated.Goals as goal

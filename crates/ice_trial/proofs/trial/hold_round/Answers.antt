@@ -2,7 +2,7 @@ use Rattle.std.proofs.Common.{◌≡◌, ◌∙◌, refl, sym, ap, subst, length
 use Rattle.std.proofs.lemmas.Result.{err_from_is_err_and}
 use Rattle.ice_defs.specs.Exchange.{Exchange, names_of}
 use Rattle.ice_round.specs.SessionAt.{SessionAt}
-use Rattle.ice_truths.specs.Truths.{truth_bids}
+use Rattle.ice_trial.specs.Truths.{truth_bids}
 use Rattle.ice_trial.specs.Rounds.{Submits, IsTold}
 use Rattle.ice_trial.specs.declared.trial.TruthRound.{TruthRound}
 use Rattle.ice_trial.proofs.Telling.{none_given, exact_truths, truths_count, next_are, same_exchange, truths_told}

@@ -1,8 +1,5 @@
-//! Laws of true values: bids that state them are accepted and become the bounds, and then no regret is left. It has no
-//! code.
-#![tactic(auto)]
-
-ghost use Rattle.ice_truths.specs.Laws.{ExactBoundsHaveNoRegret, TruthsAreAccepted};
+//! Laws of true values: bids that state them are accepted and become the bounds, and then no regret is left.
+ghost use Rattle.ice_trial.specs.Laws.{ExactBoundsHaveNoRegret, TruthsAreAccepted};
 
 /// Where all values are exact, an assignment that none beats has no regret.
 pub fn exact_bounds_have_no_regret()

@@ -8,8 +8,8 @@ use Rattle.ice_defs.specs.Weighing.{lower_weights, perturbed_list, perturbed_wei
 use Rattle.ice_defs.specs.Regret.{IsRegret}
 use Rattle.ice_laws.proofs.Perturbed.{perturbed_gives_regret}
 use Rattle.ice_laws.proofs.Regrets.{regret_is_one}
-use Rattle.ice_truths.specs.Truths.{AreExact}
-use Rattle.ice_truths.specs.Laws.{ExactBoundsHaveNoRegret}
+use Rattle.ice_trial.specs.Truths.{AreExact}
+use Rattle.ice_trial.specs.Laws.{ExactBoundsHaveNoRegret}
 
 -- a set perturbs no value whose bounds are equal
 perturbed_same : (s : NodeSet) (los : List ℤ) → perturbed_list s los los ≡ los

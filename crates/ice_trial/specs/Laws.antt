@@ -13,7 +13,7 @@ use Rattle.ice_defs.specs.Round.{Judged, IsRound, next_bounds}
 use Rattle.ice_defs.specs.Exchange.{Exchange, trees_of, names_of}
 use Rattle.ice_defs.specs.Lawful.{AreBounds, IsExchange}
 use Rattle.ice_defs.specs.Session.{standings}
-use Rattle.ice_truths.specs.Truths.{AreExact, AreTruths, truth_bids}
+use Rattle.ice_trial.specs.Truths.{AreExact, AreTruths, truth_bids}
 
 -- where all values are exact, an assignment that none beats has no regret
 abbrev pub ExactBoundsHaveNoRegret : Type 0

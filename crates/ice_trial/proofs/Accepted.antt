@@ -19,8 +19,8 @@ use Rattle.ice_defs.specs.Session.{standings_from, standings}
 use Rattle.ice_defs.proofs.Naming.{bytes_eq-same}
 use Rattle.ice_rounds.proofs.Naming.{standings_are_named}
 use Rattle.ice_rules.proofs.Exact.{exact_is_accepted, accepted_alone}
-use Rattle.ice_truths.specs.Truths.{IsTruth, AreTruths, truth_bids}
-use Rattle.ice_truths.specs.Laws.{TruthsAreAccepted}
+use Rattle.ice_trial.specs.Truths.{IsTruth, AreTruths, truth_bids}
+use Rattle.ice_trial.specs.Laws.{TruthsAreAccepted}
 
 -- ---- one bidder
 

@@ -1,5 +1,0 @@
-use Rattle.ice_truths.proofs.Exact.{exact_bounds_have_no_regret}
-use Rattle.ice_truths.proofs.exact_bounds_have_no_regret.Goals as goal
-
-pub returns : goal.returns
-returns c = exact_bounds_have_no_regret

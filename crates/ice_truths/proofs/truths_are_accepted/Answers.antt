@@ -1,5 +1,0 @@
-use Rattle.ice_truths.proofs.Accepted.{truths_are_accepted}
-use Rattle.ice_truths.proofs.truths_are_accepted.Goals as goal
-
-pub returns : goal.returns
-returns c = truths_are_accepted
