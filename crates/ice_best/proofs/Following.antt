@@ -4,12 +4,12 @@ use mir.Syntax.{w128}
 use mir.Val.{SFits}
 use Rattle.std.proofs.lemmas.Int.{ints}
 use Rattle.std.proofs.lemmas.Bool.{cases_eq, cases_lt, both_ways, and_from, lt-ltb, eq-eqb, ne_eqb, true_from_ne_false}
-use Rattle.ice_defs.specs.Tree.{Tree, IsTree, kind_of, parent_of, is_child, children_of}
+use Rattle.ice_defs.specs.Tree.{Tree, IsTree, kind_of, parent_of, is_child, children_of, least_of, most_of}
 use Rattle.ice_defs.specs.Set.{Weights, has, weight_of, IsSmall}
 use Rattle.ice_defs.specs.Fixing.{Fixing}
 use Rattle.ice_best.specs.declared.table.Table.{Table}
 use Rattle.ice_best.specs.Choice.{picked_sum, IsGainSmall, IsBestChoice}
-use Rattle.ice_best.specs.Table.{least_of, most_of, IsOpenEntry, IsEntry}
+use Rattle.ice_best.specs.Table.{IsOpenEntry, IsEntry}
 use Rattle.ice_best.specs.Roots.{size_of, IsRoomy}
 use Rattle.ice_best.specs.Entries.{HasEntry, AreEntries, AreOtherEntries, ChangesEntry}
 use Rattle.ice_best.specs.Rise.{IsRightBefore, IsDifference, IsFollowed, WasTableOf, MayStay}

@@ -6,8 +6,8 @@ use Rattle.ice_defs.specs.declared.NodeKind.{NodeKind}
 use Rattle.ice_defs.specs.declared.NodeKind.TheVariants.{Choose, Buy, Sell}
 use Rattle.ice_defs.specs.declared.Mark.{Mark}
 use Rattle.ice_defs.specs.declared.Mark.TheVariants.{Must, Never}
-use Rattle.ice_defs.specs.Tree.{IsInterval}
-use Rattle.ice_best.specs.Table.{least_of, most_of, IsPick, IsNeededBy}
+use Rattle.ice_defs.specs.Tree.{IsInterval, least_of, most_of}
+use Rattle.ice_best.specs.Table.{IsPick, IsNeededBy}
 
 no_least : (kind : NodeKind) → IsInterval kind 0 → least_of kind ≡ 0
 no_least (Choose least most) fits = omega (arith, fits.0, fits.1)

@@ -4,11 +4,11 @@ use Rattle.std.proofs.lemmas.Int.{ints}
 use Rattle.std.proofs.lemmas.Bool.{cases_order, both_ways}
 use Rattle.ice_defs.specs.declared.Mark.{Mark}
 use Rattle.ice_defs.specs.declared.Mark.TheVariants.{Never}
-use Rattle.ice_defs.specs.Tree.{Tree, IsTree, kind_of, parent_of, is_child, children_of}
+use Rattle.ice_defs.specs.Tree.{Tree, IsTree, kind_of, parent_of, is_child, children_of, least_of, most_of}
 use Rattle.ice_defs.specs.Set.{has, Weights, weight_of, IsSmall}
 use Rattle.ice_defs.specs.Fixing.{Fixing, mark_of}
 use Rattle.ice_best.specs.Choice.{picked_sum, IsGainSmall, ChangesOnly}
-use Rattle.ice_best.specs.Table.{least_of, most_of, IsChoiceAt, IsOpenEntry, IsEntry, IsPick, IsOpened, IsNeededBy}
+use Rattle.ice_best.specs.Table.{IsChoiceAt, IsOpenEntry, IsEntry, IsPick, IsOpened, IsNeededBy}
 use Rattle.ice_best.specs.Roots.{size_of, children_size, IsRoomy}
 use Rattle.ice_best.specs.declared.table.Table.{Table}
 use Rattle.ice_best.specs.Entries.{AreEntries}

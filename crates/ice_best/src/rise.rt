@@ -6,7 +6,7 @@ ghost use Rattle.ice_defs.specs.Tree.{IsTree, parent_of};
 ghost use Rattle.ice_best.specs.Rise.{IsFollowed, WasTableOf, MayStay};
 
 use crate::choice::Offer;
-use crate::fill::{fill, interval};
+use crate::fill::fill;
 use crate::fixing::Fixing;
 use crate::table::Table;
 use ice_tree::{Tree, Weights};
@@ -83,7 +83,7 @@ pub(crate) fn follow(
         return 0;
     }
     let before = table.gain[parent as usize];
-    let (least, most) = interval(tree.kind(parent));
+    let (least, most) = tree.kind(parent).interval();
     let all = least as usize == tree.children(parent).len();
     let choice = before - weights.get(parent);
     let gain = table.gain[node as usize];

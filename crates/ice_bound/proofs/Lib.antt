@@ -8,7 +8,6 @@ pub mod Renewing
 pub mod Changing
 pub mod Summing
 pub mod Marking
-pub mod Adding
 pub mod Copying
 pub mod Staying
 -- what a set costs where one good has another multiplier

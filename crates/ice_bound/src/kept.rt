@@ -10,7 +10,8 @@ ghost use Rattle.ice_defs.specs.Steps.{with_mark};
 ghost use Rattle.ice_defs.specs.Trade.{tree_of, set_of, is_exact, total_value};
 ghost use Rattle.ice_bound.specs.Answer.{IsAnswer, IsAboveAll};
 ghost use Rattle.ice_defs.specs.Conditions.{AreWeightsOf, AreFixingsOf, AreMultipliersOf};
-ghost use Rattle.ice_bound.specs.Kept.{IsNetAnswer, IsSumOfNets, AreRelaxedSets, IsSmallNet, IsSumOf, net_of, AreTotalUnits};
+ghost use Rattle.ice_bound.specs.Kept.{IsNetAnswer, IsSumOfNets, AreRelaxedSets, IsSmallNet, IsSumOf, net_of};
+ghost use Rattle.ice_tree.specs.Units.{AreTotalUnits};
 
 use crate::answer::{Bound, NetSum};
 use crate::beside::Beside;
@@ -19,9 +20,8 @@ use crate::copy::copy_fixings;
 use crate::found::Found;
 use crate::leaves::{Leaves, all_leaves};
 use crate::multipliers::Multipliers;
-use crate::total_units::TotalUnits;
 use ice_best::{Fixings, Mark};
-use ice_tree::{AllWeights, Assignment, Tree};
+use ice_tree::{AllWeights, Assignment, TotalUnits, Tree};
 use std::alloc::{AllocError, Global};
 use std::marker::Model;
 

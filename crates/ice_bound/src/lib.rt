@@ -15,7 +15,6 @@ mod multipliers;
 mod net;
 mod net_table;
 mod room;
-mod total_units;
 
 pub use answer::{Bound, NetSum};
 pub use bounds::{bound, bound_here, floor_64th};
@@ -25,4 +24,3 @@ pub use kept::Kept;
 pub use laws::{bounds_are_sound, dead_sides_have_none};
 pub use multipliers::Multipliers;
 pub use room::Room;
-pub use total_units::TotalUnits;

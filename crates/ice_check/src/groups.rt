@@ -26,7 +26,6 @@ use ice_defs::Group;
 use ice_journal::Line;
 use ice_journal_laws::{Answer, Rule};
 use ice_offer::{Fault, Offer};
-use ice_terms::Settings;
 use ice_trade::Exchange;
 use ice_tree::{Assignment, NodeSet};
 use std::alloc::{AllocError, Global};
@@ -70,14 +69,6 @@ fn difference(one: i64, other: i64) -> i128
     ensures { result ≡ one -ℤ other }
 {
     i128::from(one) - i128::from(other)
-}
-
-/// Whether a settlement with this number and regret is the last one: the regret is at most the one that closes, or no round
-/// is left.
-fn closes(settings: &Settings, number: u8, regret: i64) -> bool
-    ensures { result ≡ closing settings.now number regret }
-{
-    regret <= settings.close_regret || number == settings.rounds
 }
 
 /// Whether a group leaves out the bidder after the first `taken` ones, and this set of it isn't empty.
@@ -398,7 +389,8 @@ impl Groups {
         match self.head {
             Head::Assign | Head::Regret(_) => Next::End,
             Head::Session(_) => {
-                if closes(&self.stated.exchange().settings(), self.number, self.regret) {
+                let regret = i128::from(self.regret);
+                if self.stated.exchange().settings().closes(self.number, regret) {
                     Next::Head(Group::Without { bidder: 0 })
                 } else {
                     Next::Head(Group::Provisional)

@@ -1,7 +1,6 @@
 //! The rows of the certificates.
 ghost use Rattle.std.specs.Prelude.{◌≡◌, ◌<◌, ℕ, suc, [], ◌∷◌, ◌++◌, IsTrue, true, false, nat_lt, length, List, None};
 ghost use Rattle.ice_defs.specs.Exchange.{trees_of};
-ghost use Rattle.ice_defs.specs.Trade.{tree_of};
 ghost use Rattle.ice_defs.specs.Rows.{Row};
 ghost use Rattle.ice_defs.specs.Weighing.{weighted_weights};
 ghost use Rattle.ice_journal.specs.Lines.{record_of};
@@ -10,7 +9,6 @@ ghost use Rattle.ice_journal.specs.Records as records;
 ghost use Rattle.ice_offer.specs.Offers.{IsKept, trade_of};
 ghost use Rattle.ice_offer.specs.Rows.{IsBrokenRow, Passes, HasPassed, rule_of_list};
 ghost use Rattle.ice_offer.specs.Taking.{Takes};
-ghost use Rattle.ice_journal_laws.specs.Assigning.{rule_of};
 ghost use Rattle.ice_journal_laws.specs.Fields.{row_in};
 ghost use Rattle.ice_pricing.specs.Tallies.{IsTallyOf};
 
@@ -23,7 +21,7 @@ use ice_journal::Line;
 use ice_journal_laws::Rule;
 use ice_pricing::CertificateRow;
 use ice_trade::Exchange;
-use ice_tree::{AllWeights, NodeSet, SatRule, Tree};
+use ice_tree::{AllWeights, NodeSet};
 
 /// The test of a list as a whole.
 fn rule_of_list(list: CertificateList) -> Rule
@@ -35,31 +33,12 @@ fn rule_of_list(list: CertificateList) -> Rule
     }
 }
 
-/// The rule of a set at fault.
-fn rule_of(fault: SatRule) -> Rule
-    ensures { result ≡ rule_of fault }
-{
-    match fault {
-        SatRule::Parent => Rule::Parent,
-        SatRule::Few => Rule::Few,
-        SatRule::Many => Rule::Many,
-    }
-}
-
 /// How many bidders there are.
 fn bidders_of(exchange: &Exchange) -> u8
     ensures { result ≡ length (trees_of exchange.now) }
 {
     let bidders = exchange.bidders();
     bidders
-}
-
-/// A bidder's tree.
-fn tree_of(exchange: &Exchange, bidder: u8) -> &Tree
-    requires { bidder < length (trees_of exchange.now) }
-    ensures { result.now ≡ tree_of (trees_of exchange.now) bidder }
-{
-    &exchange.trees()[bidder as usize]
 }
 
 /// The rule that a row's set breaks by itself.
@@ -70,13 +49,13 @@ fn broken_row(exchange: &Exchange, bidder: u8, set: &NodeSet) -> Option<Rule>
     if bidders <= bidder {
         return Some(Rule::Count);
     }
-    let tree = tree_of(exchange, bidder);
+    let tree = exchange.tree(bidder);
     if set.len() != tree.nodes() {
         return Some(Rule::Count);
     }
     match tree.is_satisfied(set) {
         Ok(()) => None,
-        Err(fault) => Some(rule_of(fault.rule)),
+        Err(fault) => Some(Rule::of(fault.rule)),
     }
 }
 

@@ -1,12 +1,10 @@
 //! The regret of an assignment: how far it may be from the best, whatever the true values inside the bounds are.
 #![tactic(auto)]
 
-mod closing;
 mod lead;
 mod lower;
 mod rival;
 
-pub use closing::closes;
 pub use lead::Regret;
 pub use lower::best_at_lower_values;
 pub use rival::regret;

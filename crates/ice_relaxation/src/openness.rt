@@ -61,14 +61,6 @@ pub(crate) struct Openness {
     nodes: [Open; 200],
 }
 
-/// The least and the most children inside.
-fn interval(kind: NodeKind) -> (u16, u16) {
-    match kind {
-        NodeKind::Choose { least, most } => (least, most),
-        _ => (0, 0),
-    }
-}
-
 /// What is open among children of whom so many may be inside beside the forced ones.
 fn choice_of(need: u16, room: u16, offered: u16) -> Choice {
     if offered == 0 || room == 0 {
@@ -124,7 +116,7 @@ impl Openness {
         requires few { length tree.now ≤ 200 }
         requires node { node < length tree.now }
     {
-        let (least, most) = interval(tree.kind(node));
+        let (least, most) = tree.kind(node).interval();
         let mut open = Open::closed();
         open.last = node;
         open.is_forced = mark == Mark::Must;

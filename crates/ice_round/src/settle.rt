@@ -17,7 +17,7 @@ use crate::session::Session;
 use crate::settled::Settled;
 use ice_best::Fixings;
 use ice_price::{PriceEnd, price};
-use ice_regret::{Regret, closes, regret};
+use ice_regret::{Regret, regret};
 use ice_search::{Found, SearchEnd, search};
 use ice_settled::{Closing, Halt, Opening};
 use ice_tree::{AllWeights, Assignment};
@@ -239,7 +239,7 @@ impl Session {
             Ok(regret) => regret,
             Err(end) => return self.stop(end, Some(best), None),
         };
-        if closes(self.number, regret.amount, &self.exchange.settings()) {
+        if self.exchange.settings().closes(self.number, regret.amount) {
             self.close(best, regret, left)
         } else {
             self.go_on(best, regret, left)

@@ -1,7 +1,7 @@
 //! Regrets of the best assignments of worked exchanges.
 use crate::markets::{BUYERS, EXACT_TWO_FOR_ONE, MAYBE, PAIRS, SHARED_NODE, exchange, free};
 use crate::outcome::search_lower;
-use ice_regret::{closes, regret};
+use ice_regret::regret;
 use ice_search::{Found, SearchEnd, is_feasible};
 use ice_trade::Exchange;
 use std::alloc::Global;
@@ -40,7 +40,7 @@ fn settle(alloc: Global, exchange: &Exchange) -> Result<Settlement, Fail> {
             value: best.value,
             amount: regret.amount,
             rival: regret.value,
-            closes: closes(0, regret.amount, &exchange.settings()),
+            closes: exchange.settings().closes(0, regret.amount),
         }),
         Err(_) => Err("no regret")?,
     }

@@ -1,12 +1,12 @@
 //! The best assignment that is known, with its value.
-ghost use Rattle.std.specs.Prelude.{◌≡◌, ◌<◌, ◌↔◌, length, IsTrue, pos};
+ghost use Rattle.std.specs.Prelude.{◌≡◌, ◌<◌, ◌↔◌, length, IsTrue};
 ghost use Rattle.ice_defs.specs.Sweep.{IsLive};
-ghost use Rattle.ice_defs.specs.Trade.{IsCovered, total_value};
-ghost use Rattle.ice_bound.specs.Kept.{AreTotalUnits};
+ghost use Rattle.ice_defs.specs.Trade.{total_value};
+ghost use Rattle.ice_tree.specs.Units.{AreTotalUnits};
 ghost use Rattle.ice_subgradient.specs.Offers.{AreCovered, AreBetter, IsOffered};
 
-use ice_bound::{Kept, TotalUnits};
-use ice_tree::Assignment;
+use ice_bound::Kept;
+use ice_tree::{Assignment, TotalUnits, is_covered};
 
 /// A feasible assignment, one set for each bidder, and what it is worth.
 #[derive(Drop)]
@@ -15,14 +15,6 @@ pub struct Incumbent {
     pub sets: Assignment,
     /// What they are worth at the search's weights.
     pub value: i128,
-}
-
-/// Whether what is used of a good is covered by nothing: none is bought beyond what is sold, and of an exact good just as
-/// much is bought as is sold.
-fn is_covered(exact: bool, units: i64) -> bool
-    ensures { IsTrue result ↔ IsCovered exact units (pos 0) }
-{
-    if exact { units == 0 } else { units <= 0 }
 }
 
 /// Whether the units of the relaxed sets are covered in each good.

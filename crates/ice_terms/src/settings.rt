@@ -1,5 +1,7 @@
 //! The settings of a session.
+ghost use Rattle.std.specs.Prelude.{◌≡◌};
 ghost use Rattle.ice_terms.specs.Made.{IsMade};
+ghost use Rattle.ice_defs.specs.Session.{closes as closing};
 ghost use Rattle.ice_defs.specs.Exchange as exchange;
 
 use std::marker::Model;
@@ -69,5 +71,12 @@ impl Settings {
             rounds,
             branches,
         })
+    }
+    /// Whether a settlement with this number and regret is the last one: the regret is at most the
+    /// one that closes, or its number is that of the rounds, so that none is left.
+    pub fn closes(&self, settlement: u8, regret: i128) -> bool
+        ensures { result ≡ closing self.now settlement regret }
+    {
+        regret <= i128::from(self.close_regret) || settlement == self.rounds
     }
 }

@@ -6,8 +6,6 @@ pub mod Finding
 pub mod Unfinished
 -- names are found from either side, and a new name goes last
 pub mod NameLists
--- sums of the units of the bidders' sets
-pub mod Summing
 -- the bounds of an exchange's bidders, and weights of 0 for them
 pub mod Weighted
 -- what the makers take of a lawful exchange

@@ -12,10 +12,10 @@ ghost use Rattle.ice_trade.specs.Excess.{IsExcess};
 ghost use Rattle.ice_defs.specs.Lawful.{IsExchange, good_names};
 
 use crate::faults::TradeFault;
-use crate::feasible::{first_excess, total_units};
+use crate::feasible::first_excess;
 use crate::maker::ExchangeMaker;
 use ice_terms::{Name, Settings};
-use ice_tree::{AllWeights, Assignment, Bounds, Tree};
+use ice_tree::{AllWeights, Assignment, Bounds, TotalUnits, Tree};
 use std::alloc::{AllocError, Global};
 use std::marker::Model;
 
@@ -117,6 +117,14 @@ impl Exchange {
         self.made.bidders.trees()
     }
 
+    /// The tree of a bidder.
+    pub fn tree(&self, bidder: u8) -> &Tree
+        requires { bidder < length self.now.bidders }
+        ensures { result.now ≡ tree_of (trees_of self.now) bidder }
+    {
+        &self.trees()[bidder as usize]
+    }
+
     /// The opening bounds of the bidders.
     pub fn bounds(&self) -> &[Bounds]
         ensures value { result.now ≡ opening_bounds self.now }
@@ -163,8 +171,8 @@ impl Exchange {
         ensures excess { IfErr result (λ fault. IsExcess (exact_of self.now)
             (total_units (trees_of self.now) sets.now) fault.good fault.excess) }
     {
-        let sums = total_units(self.trees(), sets);
-        match first_excess(&sums, self.exact()) {
+        let units = TotalUnits::of(self.trees(), sets);
+        match first_excess(&units, self.exact()) {
             None => Ok(()),
             Some(fault) => Err(fault),
         }

@@ -16,3 +16,5 @@ pub mod MoreNodes
 pub mod Satisfied
 -- the children of all nodes, one node's after another
 pub mod Storing
+-- sums of the units of the bidders' sets
+pub mod Summing

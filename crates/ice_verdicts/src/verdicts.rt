@@ -15,14 +15,6 @@ use ice_rules::{Scratch, Standing, Verdict, judge};
 use ice_trade::Exchange;
 use ice_tree::{Bounds, Tree};
 
-/// A bidder's tree.
-fn tree_of(exchange: &Exchange, bidder: u8) -> &Tree
-    requires { bidder < length exchange.now.bidders }
-    ensures { result.now ≡ tree_of (trees_of exchange.now) bidder }
-{
-    &exchange.trees()[bidder as usize]
-}
-
 /// A bidder's bounds.
 fn bounds_of(bounds: &[Bounds], bidder: u8) -> &Bounds
     requires { bidder < length bounds.now }
@@ -63,7 +55,7 @@ impl Judge {
             (stated_bounds (submission_of name lo.now hi.now)) result }
     {
         let at = Standing {
-            tree: tree_of(exchange, bidder),
+            tree: exchange.tree(bidder),
             bounds: bounds_of(self.bounds(), bidder),
             set: self.sets().of(bidder),
             prices: self.prices(),
@@ -83,7 +75,7 @@ impl Judge {
         if self.is_marked(bidder) {
             return Verdict::Repeated;
         }
-        if count_nodes(tree_of(exchange, bidder), lo, hi) {
+        if count_nodes(exchange.tree(bidder), lo, hi) {
             self.judge_values(exchange, bidder, lo, hi)
         } else {
             Verdict::WrongCount
@@ -101,7 +93,7 @@ impl Judge {
             (submission_of name lo.now hi.now) }
         ensures round { IsRoundOf exchange.now self.new }
     {
-        let Ok(bounds) = tree_of(exchange, bidder).set_bounds(lo, hi) else {
+        let Ok(bounds) = exchange.tree(bidder).set_bounds(lo, hi) else {
             unreachable!()
         };
         let _nodes = bounds.len();

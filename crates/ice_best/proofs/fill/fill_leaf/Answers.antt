@@ -3,10 +3,10 @@ use mir.Syntax.{w128}
 use Rattle.std.proofs.lemmas.Int.{to_z-of_z}
 use mir.Val.{SFits}
 use Rattle.ice_defs.specs.declared.Mark.TheVariants.{Must}
-use Rattle.ice_defs.specs.Tree.{IsInterval, kind_of}
+use Rattle.ice_defs.specs.Tree.{IsInterval, kind_of, least_of, most_of}
 use Rattle.ice_defs.specs.Set.{has, weight_of}
 use Rattle.ice_defs.specs.Fixing.{mark_of}
-use Rattle.ice_best.specs.Table.{IsPick, IsNeededBy, least_of, most_of}
+use Rattle.ice_best.specs.Table.{IsPick, IsNeededBy}
 use Rattle.ice_best.proofs.Leaf.{leaf_pick, leaf_need}
 use Rattle.ice_best.proofs.NewEntry.{all_entries, later_roomy}
 use Rattle.ice_best.proofs.fill.fill_leaf.Goals as goal

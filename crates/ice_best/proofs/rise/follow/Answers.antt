@@ -4,7 +4,7 @@ use mir.Val.{SFits}
 use Rattle.std.proofs.lemmas.Bool.{eqb-true}
 use Rattle.std.proofs.lemmas.Int.{to_z-of_z}
 use Rattle.ice_defs.specs.Set.{weight_of, IsSmall}
-use Rattle.ice_best.specs.Table.{least_of}
+use Rattle.ice_defs.specs.Tree.{least_of}
 use Rattle.ice_best.proofs.Following.{follow_closed, follow_raised, follow_filled, raised_small, gain_fits_signed, difference_fits, difference, IsSmall-gain}
 use Rattle.ice_best.proofs.rise.follow.Goals as goal
 

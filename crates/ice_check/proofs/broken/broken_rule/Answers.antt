@@ -11,4 +11,4 @@ returns-in-Err c =
     let t = c.args.tree.now in
     let s = c.args.set.now in
     let f = c.in-Err.fault in
-    subst (λ (x : Rule). IsBroken t s (Some x)) (sym c.rule_of.ensures) (broken_by t s f.rule (omega arith) (set_fault-first t s f.node f.rule c.in-Err.ensures.fault))
+    subst (λ (x : Rule). IsBroken t s (Some x)) (sym c.of.ensures) (broken_by t s f.rule (omega arith) (set_fault-first t s f.node f.rule c.in-Err.ensures.fault))

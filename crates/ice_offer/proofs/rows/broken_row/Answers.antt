@@ -13,10 +13,10 @@ pub returns-in-Err : goal.returns-in-Err
 returns-in-Err c =
     let ts = trees_of c.args.exchange.now in
     let x = c.args.set.now in
-    let t = c.tree_of-tree.result.now in
+    let t = c.tree-tree.result.now in
     let f = c.in-Err.fault in
     let there : c.args.bidder < length ts = omega arith in
     let counts : length x ≡ length t = omega arith in
-    subst (λ (y : Rule). IsBrokenRow ts c.args.bidder x (Some y)) (sym c.rule_of.ensures)
-    (broken_by ts c.args.bidder x f.rule there (counts ∙ ap length c.tree_of-tree.ensures)
-    (sym (ap (λ (u : Tree). set_fault u x) c.tree_of-tree.ensures) ∙ set_fault-first t x f.node f.rule c.in-Err.ensures.fault))
+    subst (λ (y : Rule). IsBrokenRow ts c.args.bidder x (Some y)) (sym c.of.ensures)
+    (broken_by ts c.args.bidder x f.rule there (counts ∙ ap length c.tree-tree.ensures)
+    (sym (ap (λ (u : Tree). set_fault u x) c.tree-tree.ensures) ∙ set_fault-first t x f.node f.rule c.in-Err.ensures.fault))

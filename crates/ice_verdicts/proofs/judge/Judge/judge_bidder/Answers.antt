@@ -11,14 +11,14 @@ pub judge_values-requires-clause-lo_nodes : goal.judge_values-requires-clause-lo
 judge_values-requires-clause-lo_nodes c =
     let s = submission_of [] c.args.lo.now c.args.hi.now in
     let counts : has_tree_length (tree_of (trees_of c.args.exchange.now) c.args.bidder) s ≡ true =
-    ap (λ (t : Tree). has_tree_length t s) (sym c.tree_of.ensures) ∙ sym (c.count_nodes.ensures []) ∙ c.if-count_nodes.true in
+    ap (λ (t : Tree). has_tree_length t s) (sym c.tree.ensures) ∙ sym (c.count_nodes.ensures []) ∙ c.if-count_nodes.true in
     (count_lengths (tree_of (trees_of c.args.exchange.now) c.args.bidder) s counts).0
 
 pub judge_values-requires-clause-hi_nodes : goal.judge_values-requires-clause-hi_nodes
 judge_values-requires-clause-hi_nodes c =
     let s = submission_of [] c.args.lo.now c.args.hi.now in
     let counts : has_tree_length (tree_of (trees_of c.args.exchange.now) c.args.bidder) s ≡ true =
-    ap (λ (t : Tree). has_tree_length t s) (sym c.tree_of.ensures) ∙ sym (c.count_nodes.ensures []) ∙ c.if-count_nodes.true in
+    ap (λ (t : Tree). has_tree_length t s) (sym c.tree.ensures) ∙ sym (c.count_nodes.ensures []) ∙ c.if-count_nodes.true in
     (count_lengths (tree_of (trees_of c.args.exchange.now) c.args.bidder) s counts).1
 
 pub returns-then-count_nodes : goal.returns-then-count_nodes
@@ -27,7 +27,7 @@ returns-then-count_nodes c = λ name.
     is_judged c.args.self.now.prices c.args.exchange.now.settings.improve (bidder_in c.args.exchange.now c.args.self.now c.args.bidder) s
     c.judge_values.result (is_marked c.args.self.now c.args.bidder)
     (sym c.is_marked.ensures ∙ c.if-is_marked.false)
-    (ap (λ (t : Tree). has_tree_length t s) (sym c.tree_of.ensures) ∙ sym (c.count_nodes.ensures name) ∙ c.if-count_nodes.true)
+    (ap (λ (t : Tree). has_tree_length t s) (sym c.tree.ensures) ∙ sym (c.count_nodes.ensures name) ∙ c.if-count_nodes.true)
     (c.judge_values.ensures name)
 
 pub returns-else-count_nodes : goal.returns-else-count_nodes
@@ -36,4 +36,4 @@ returns-else-count_nodes c = λ name.
     is_miscounted c.args.self.now.prices c.args.exchange.now.settings.improve (bidder_in c.args.exchange.now c.args.self.now c.args.bidder) s
     (is_marked c.args.self.now c.args.bidder)
     (sym c.is_marked.ensures ∙ c.if-is_marked.false)
-    (ap (λ (t : Tree). has_tree_length t s) (sym c.tree_of.ensures) ∙ sym (c.count_nodes.ensures name) ∙ c.if-count_nodes.false)
+    (ap (λ (t : Tree). has_tree_length t s) (sym c.tree.ensures) ∙ sym (c.count_nodes.ensures name) ∙ c.if-count_nodes.false)

@@ -16,7 +16,7 @@ returns c = λ name.
     let back : to_z w64 (of_z w64 c.improve_of.result) ≡ c.improve_of.result = to_z-of_z w64 c.improve_of.result fits in
     judged_at _ (tree_of (trees_of c.args.exchange.now) c.args.bidder) _ c.args.self.now.prices _ c.args.exchange.now.settings.improve _ (set_of c.args.self.now.sets c.args.bidder) _ (bounds_of c.args.self.now.bounds c.args.bidder)
     (stated_bounds (submission_of name c.args.lo.now c.args.hi.now)) c.judge.result
-    c.tree_of.ensures c.prices.ensures (back ∙ c.improve_of.ensures)
+    c.tree.ensures c.prices.ensures (back ∙ c.improve_of.ensures)
     (c.of.ensures ∙ ap (λ (sets : Assignment). set_of sets c.args.bidder) c.sets.ensures)
     (c.bounds_of.ensures ∙ ap (λ (bounds : List Bounds). bounds_of bounds c.args.bidder) c.bounds.ensures)
     c.judge.ensures.judged

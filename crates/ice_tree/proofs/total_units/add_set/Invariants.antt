@@ -1,6 +1,6 @@
 use Rattle.std.proofs.Common.{ℕ, ◌<◌, ◌≤◌, ◌≡◌, ◌+ℤ◌, ◌≤ℤ◌, pos, neg_ℤ, length}
 use Rattle.ice_defs.specs.Set.{weight_of}
-use Rattle.ice_trade.proofs.feasible.add_units.Given as goal
+use Rattle.ice_tree.proofs.total_units.add_set.Given as goal
 
 abbrev pub invariant-loop-good : goal.invariant-loop-good
 invariant-loop-good l =
