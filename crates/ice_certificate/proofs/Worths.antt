@@ -4,7 +4,7 @@ use Rattle.std.proofs.lemmas.Int.{ints}
 use Rattle.ice_defs.specs.Set.{NodeSet, Weights, weight_of, has, value}
 use Rattle.ice_defs.proofs.Sums.{sum_below-low, sum_below-high}
 use Rattle.ice_best.specs.Nets.{AreAtMostTrillion}
-use Rattle.ice_rows.specs.Sizes.{IsSizedWithin}
+use Rattle.ice_row_laws.specs.Sizes.{IsSizedWithin}
 
 part_low : (b : Bool) (z : ℤ) → neg_ℤ (pos 1000000000000) ≤ℤ z → neg_ℤ (pos 1000000000000) ≤ℤ (if b then z else pos 0)
 part_low true z h = h

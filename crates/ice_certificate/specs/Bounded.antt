@@ -2,8 +2,8 @@
 use Rattle.std.specs.Prelude.{ℕ, ◌+◌, ◌*◌, ◌^◌, ◌<◌, ◌≤◌, ◌≡◌, length, pos, ◌+ℤ◌, ◌-ℤ◌, ◌*ℤ◌}
 use Rattle.ice_defs.specs.Tree.{Tree}
 use Rattle.ice_defs.specs.Set.{NodeSet, Weights, value, units}
-use Rattle.ice_rows.specs.Sums.{RowSums, units_in}
-use Rattle.ice_rows.specs.Sizes.{IsSizedWithin}
+use Rattle.ice_row_laws.specs.Sums.{RowSums, units_in}
+use Rattle.ice_row_laws.specs.Sizes.{IsSizedWithin}
 
 -- one sum for each of 32 goods; the weights sum to at most 2^40, and the other sums are no larger than rows of that weight make them
 pub record AreBounded (s : RowSums) : Type 0 where

@@ -3,8 +3,8 @@ ghost use Rattle.std.specs.Prelude.{◌≡◌, ◌*◌, ◌^◌, length, pos, ne
 ghost use Rattle.ice_best.specs.Nets.{AreAtMostTrillion};
 ghost use Rattle.ice_certificate.specs.Excess.{IsGreatestExcess};
 
-pub use ice_net::Scratch;
-use ice_net::{best_at_prices, net};
+pub use ice_best_at_prices::Scratch;
+use ice_best_at_prices::{best_at_prices, net};
 use ice_terms::Prices;
 use ice_tree::{NodeSet, Tree, Weights};
 

@@ -4,8 +4,8 @@ ghost use Rattle.std.specs.Int.{int_max};
 ghost use Rattle.ice_defs.specs.Set.{weight_of, value};
 ghost use Rattle.ice_best.specs.Nets.{AreAtMostTrillion};
 ghost use Rattle.ice_defs.specs.Sum.{sum_below};
-ghost use Rattle.ice_rows.specs.Sums.{AreZero, units_in, wanted_in};
-ghost use Rattle.ice_rows.specs.Sizes.{IsSizedWithin};
+ghost use Rattle.ice_row_laws.specs.Sums.{AreZero, units_in, wanted_in};
+ghost use Rattle.ice_row_laws.specs.Sizes.{IsSizedWithin};
 ghost use Rattle.ice_certificate.specs.Bounded.{AddsRow};
 
 use ice_tree::{NodeSet, Tree, Units, Weights};
@@ -23,7 +23,7 @@ pub struct RowSums {
 }
 
 impl Model for RowSums {
-    ghost use Rattle.ice_rows.specs.Sums.{RowSums as Sums};
+    ghost use Rattle.ice_row_laws.specs.Sums.{RowSums as Sums};
     ghost use Rattle.ice_certificate.specs.Bounded.{AreBounded};
 
     ghost Value = { Sums };

@@ -1,10 +1,2 @@
-pub mod Stating
-pub mod Stages
-pub mod Heads
-pub mod Openings
-pub mod Found
-pub mod Logs
-pub mod Groups
-pub mod Taking
-pub mod Due
-pub mod Checking
+pub mod Standing
+pub mod Laws

@@ -1,131 +1,144 @@
-//! The checker, which takes one record at a time.
-ghost use Rattle.std.specs.Prelude.{◌≡◌, ◌<◌, ◌^◌, suc, length, IsTrue, IfSome, OnOk, OnErr, IsOk, IsOkAnd};
-ghost use Rattle.ice_journal.specs.Lines.{record_of};
-ghost use Rattle.ice_journal.specs.Ranges.{IsRecord};
-ghost use Rattle.ice_journal_laws.specs.Progress.{Progress, nothing, out_of_memory, is_ready};
-ghost use Rattle.ice_journal_laws.specs.Answers.{EndsWith};
-ghost use Rattle.ice_check.specs.Checking.{HasCome, ComesTo, is_ready_checker};
-ghost use Rattle.ice_check.specs.Due.{awaits_prices, TellsDue};
+//! The checker, which takes the bytes of a journal piece by piece.
+ghost use Rattle.std.specs.Prelude.{◌≡◌, ◌≢◌, ◌<◌, ◌+◌, ◌^◌, ◌++◌, ◌∷◌, [], ℕ, List, length, Contains, Err, IsTrue, IsOk, IsErr, IfOk, OnOk, OnErr};
+ghost use Rattle.ice_journal_laws.specs.Answers.{AnswersBytes};
+ghost use Rattle.ice_check.specs.Standing.{StandsFor, IsStopped, is_ready_at, IsReadiness};
 
-use crate::due::DueRegret;
-use crate::stage::Stage;
-use ice_journal::Line;
+use crate::begun::Begun;
+use crate::lines::Lines;
+use ice_check_records::Checker as RecordChecker;
 use ice_journal_laws::{Answer, CheckEnd};
+use ice_line::split_line;
 use std::alloc::{AllocError, Global};
 use std::marker::Model;
 use std::mem;
 
-/// A checker of one journal, seen as the number of the next line and what is known of how far the tests have come. It takes the
-/// records one after another, and keeps neither them nor their bytes.
+/// A checker of one journal, seen as the number of its bytes, what is kept of the line that has begun, and what is known of the
+/// whole lines. It takes the bytes in pieces, and keeps none but those of that line.
 #[derive(Drop)]
 pub struct Checker {
-    alloc: Global,
-    next_line: u64,
-    stage: Stage,
+    count: u64,
+    begun: Box<Begun>,
+    lines: Lines,
 }
 
 impl Model for Checker {
-    ghost use Rattle.ice_check.specs.Checking.{Checking};
-    ghost use Rattle.ice_check.specs.Stages.{IsAtLine};
+    ghost use Rattle.std.specs.Prelude.{suc};
+    ghost use Rattle.ice_check.specs.Standing.{Checking, IsWithin};
 
     ghost Value = { Checking };
 
-    ghost view = { λ c. record { line = c.next_line; stage = c.stage } };
+    ghost view = { λ c. record { count = c.count; begun = c.begun.value; lines = c.lines } };
 
-    ghost invariant = { λ c. IsAtLine c.next_line c.stage };
+    ghost invariant = { λ c. IsWithin (suc c.count) c.lines };
 }
 
 impl Checker {
-    /// A checker that has taken no record.
+    /// A checker that has taken no byte.
     pub fn new(alloc: Global) -> Result<Checker, AllocError>
-        ensures made { IsOkAnd result (λ c. HasCome c nothing) }
-        ensures first { IsOkAnd result (λ c. c.line ≡ 1) }
+        ensures stands { IfOk result (λ c. StandsFor c []) }
+        ensures count { IfOk result (λ c. c.count ≡ 0) }
     {
+        let begun = Box::new(alloc, Begun::new())?;
+        let lines = Lines::Records(RecordChecker::new(alloc)?);
         Ok(Checker {
-            alloc,
-            next_line: 1,
-            stage: Stage::Begin,
+            count: 0,
+            begun,
+            lines,
         })
     }
 
-    /// Takes the next record.
-    ///
-    /// Fewer than 2^63 records came before it. After `NoMemory` it takes no more records, and each later call answers `NoMemory`. Where `ready` is true, no memory is wanted.
-    pub fn feed(&mut self, line: &Line) -> Result<(), AllocError>
-        requires lawful { IsRecord (record_of line.now) }
-        requires few { self.old.line < 2 ^ 63 }
-        ensures after { OnOk result ((p : Progress) → HasCome self.old p
-            → ComesTo p (record_of line.now) self.new) }
-        ensures line { OnOk result (self.new.line ≡ suc self.old.line) }
-        ensures stopped { OnErr result (HasCome self.new out_of_memory) }
-        ensures ready { (p : Progress) → HasCome self.old p → IsTrue (is_ready p) → IsOk result }
-        ensures once { IsTrue (is_ready_checker self.old) → IsOk result }
-        ensures stays { OnOk result (IsTrue (is_ready_checker self.old)
-            → IsTrue (is_ready_checker self.new)) }
+    /// Takes the last bytes of a line, and its newline.
+    fn end_line(&mut self, text: &[u8]) -> Result<(), AllocError>
+        requires few { self.old.count + length text.now + 1 < 2 ^ 63 }
+        requires one_line { ¬ Contains text.now 10 }
+        ensures after { OnOk result ((bytes : List ℕ) → StandsFor self.old bytes
+            → StandsFor self.new (bytes ++ (text.now ++ 10 ∷ []))) }
+        ensures count { OnOk result (self.new.count ≡ self.old.count + length text.now + 1) }
+        ensures stopped { OnErr result (IsStopped self.new) }
+        ensures ready { IsTrue (is_ready_at self.old) → IsOk result }
+        ensures stays { OnOk result (IsTrue (is_ready_at self.old)
+            → IsTrue (is_ready_at self.new)) }
     {
-        let stage = mem::replace(&mut self.stage, Stage::OutOfMemory);
-        let next = stage.after(self.alloc, self.next_line, line)?;
-        mem::replace(&mut self.stage, next).discard();
-        self.next_line += 1;
+        let record = self.begun.end(text);
+        self.count += text.len() as u64 + 1;
+        let lines = mem::replace(&mut self.lines, Lines::OutOfMemory);
+        let next = lines.after(&record)?;
+        mem::replace(&mut self.lines, next).discard();
         Ok(())
     }
 
-    /// Whether the exchange and one record after it are taken, or no record matters any more: then `feed` wants no memory.
+    /// Takes bytes that end no line.
+    fn go_on(&mut self, text: &[u8])
+        requires few { self.old.count + length text.now < 2 ^ 63 }
+        requires one_line { ¬ Contains text.now 10 }
+        ensures after { (bytes : List ℕ) → StandsFor self.old bytes
+            → StandsFor self.new (bytes ++ text.now) }
+        ensures count { self.new.count ≡ self.old.count + length text.now }
+        ensures lines { self.new.lines ≡ self.old.lines }
+    {
+        self.begun.push(text);
+        self.count += text.len() as u64;
+    }
+
+    /// Takes the next bytes.
+    ///
+    /// There are fewer than 2^63 with them. After `NoMemory` it takes no more bytes, and each later call answers `NoMemory`.
+    /// Where `ready` is true, no memory is wanted.
+    pub fn feed(&mut self, piece: &[u8]) -> Result<(), AllocError>
+        requires { self.old.count + length piece.now < 2 ^ 63 }
+        ensures after { OnOk result ((bytes : List ℕ) → StandsFor self.old bytes
+            → StandsFor self.new (bytes ++ piece.now)) }
+        ensures count { OnOk result (self.new.count ≡ self.old.count + length piece.now) }
+        ensures stopped { OnErr result (IsStopped self.new) }
+        ensures ready { IsTrue (is_ready_at self.old) → IsOk result }
+        ensures stays { OnOk result (IsTrue (is_ready_at self.old)
+            → IsTrue (is_ready_at self.new)) }
+        ensures still { IsStopped self.old → IsErr result }
+    {
+        if self.lines.are_stopped() {
+            return Err(AllocError);
+        }
+        let mut rest = piece;
+        while let Some((text, after)) = split_line(rest) {
+            self.end_line(text)?;
+            rest = after;
+        }
+        self.go_on(rest);
+        Ok(())
+    }
+
+    /// Whether the whole lines hold the exchange and one record after it, or no record matters any more: then `feed` wants no
+    /// memory.
     pub fn ready(&self) -> bool
-        ensures at { result ≡ is_ready_checker self.now }
-        ensures progress { (p : Progress) → HasCome self.now p → result ≡ is_ready p }
+        ensures at { result ≡ is_ready_at self.now }
+        ensures of { (bytes : List ℕ) → StandsFor self.now bytes → IsReadiness bytes result }
     {
-        !matches!(
-            self.stage,
-            Stage::Begin | Stage::Describing(_, _) | Stage::OutOfMemory
-        )
+        self.lines.ready()
     }
 
-    /// The number of the next record's line.
-    pub fn next_line(&self) -> u64
-        ensures { result ≡ self.now.line }
-    {
-        self.next_line
-    }
-
-    /// The settlement whose regret the next record is to state, where it is to state one and no test has failed.
-    pub fn due_regret(&self) -> Option<DueRegret<'_>>
-        ensures tells { (p : Progress) → HasCome self.now p → TellsDue result p }
-        ensures count { IfSome result (λ due. length due.bounds.now
-            ≡ length due.exchange.now.bidders) }
-    {
-        self.stage.due()
-    }
-
-    /// Whether the next record is to state the prices of a settlement, or to begin a stop in their place, and no test has
-    /// failed.
-    pub fn awaits_prices(&self) -> bool
-        ensures { (p : Progress) → HasCome self.now p → result ≡ awaits_prices p }
-    {
-        self.stage.awaits_prices()
-    }
-
-    /// What the tests find, where the records taken so far are the whole journal. It wants no memory.
+    /// What the tests find, where the bytes taken so far are the whole journal. It wants no memory.
     pub fn finish(self) -> Result<Answer, CheckEnd>
-        ensures { (p : Progress) → HasCome self p → EndsWith p result }
+        ensures answer { (bytes : List ℕ) → StandsFor self bytes → AnswersBytes bytes result }
+        ensures memory { (bytes : List ℕ) → StandsFor self bytes → result ≢ Err CheckEnd.NoMemory }
+        ensures stopped { IsStopped self → result ≡ Err CheckEnd.NoMemory }
     {
         let Checker {
-            alloc: _,
-            next_line,
-            stage,
+            count: _,
+            begun,
+            lines,
         } = self;
-        let answer = stage.answer(next_line);
-        stage.discard();
-        answer
-    }
-
-    /// Drops the checker.
-    pub fn discard(self) {
-        let Checker {
-            alloc: _,
-            next_line: _,
-            stage,
-        } = self;
-        stage.discard();
+        match lines {
+            Lines::Records(checker) => {
+                if begun.is_empty() {
+                    checker.finish()
+                } else {
+                    let line = checker.next_line();
+                    checker.discard();
+                    Err(CheckEnd::Unended { line })
+                }
+            }
+            Lines::Grammar { line } => Err(CheckEnd::Grammar { line }),
+            Lines::OutOfMemory => Err(CheckEnd::NoMemory),
+        }
     }
 }

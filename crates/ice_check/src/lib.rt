@@ -1,22 +1,14 @@
-//! The checker of journals: it takes one record at a time, and answers yes or names the first failed test.
+//! The checker of journals whose bytes come in pieces, cut anywhere. It keeps how far the tests have come and the line that has
+//! begun, and no other bytes.
 #![tactic(auto)]
 
-mod broken;
+mod begun;
 mod checker;
-mod closing;
-mod describing;
-mod due;
-mod groups;
-mod halt;
-mod head;
+mod laws;
 mod lines;
-mod log;
-mod next;
-mod opening;
-mod stage;
-mod stated;
-mod steps_in;
+mod whole;
 
 pub use checker::Checker;
-pub use due::DueRegret;
-pub use ice_journal_laws::{Answer, CheckEnd, Rule};
+pub use ice_check_records::{Answer, CheckEnd, Rule};
+pub use laws::{order_of_rounds_keeps_yes, records_are_short};
+pub use whole::check;

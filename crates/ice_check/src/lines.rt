@@ -1,153 +1,120 @@
-//! The records that a journal is made of, apart from those of its exchange and its logs.
-ghost use Rattle.std.specs.Prelude.{◌≡◌, None, MatchOption};
+//! What is known of whole lines.
+ghost use Rattle.std.specs.Prelude.{◌≡◌, ◌<◌, ◌-◌, ◌↔◌, ◌^◌, ◌++◌, ◌∷◌, [], suc, ℕ, List, Contains, IsTrue, IsOk, IfOk, IfSome, option_map};
+ghost use Rattle.ice_journal.specs.Journal.{IsNoRecord};
 ghost use Rattle.ice_journal.specs.Lines.{record_of};
-ghost use Rattle.ice_journal.specs.Records as records;
-ghost use Rattle.ice_journal_laws.specs.Fields.{is_assign, is_end, set_in, final_value, rival_value, provisional_value, without_value, head_value, is_spent, amount_in};
-ghost use Rattle.ice_check.specs.Found.{IsFound, IsHeadIn};
-ghost use Rattle.ice_check.specs.Heads.{begins_first};
+ghost use Rattle.ice_journal.specs.Ranges.{IsRecord};
+ghost use Rattle.ice_journal.specs.Spelling.{line_of};
+ghost use Rattle.ice_check.specs.Standing.{AreRead, AreReadiness, ReadsOn, IsWithin, is_ready_lines};
 
-use crate::head::Head;
-use ice_defs::Group;
-use ice_journal::{EndWord, Kind, Line, Version};
-use ice_tree::NodeSet;
+use ice_check_records::Checker as RecordChecker;
+use ice_journal::Line;
+use std::alloc::AllocError;
 
-/// The head that the record is, of a kind that is checked.
-pub(crate) fn head_in(line: &Line) -> Option<Head>
-    ensures { IsHeadIn (record_of line.now) result }
+/// What is known of the whole lines.
+#[derive(Drop)]
+pub(crate) enum Lines {
+    /// They are the records that this checker has taken.
+    Records(RecordChecker),
+    /// This line is the spelling of no record, and those before it are of records.
+    Grammar { line: u64 },
+    /// No memory was left for one of them.
+    OutOfMemory,
+}
+
+/// Takes the next record.
+fn fed(mut checker: RecordChecker, line: &Line) -> Result<Lines, AllocError>
+    requires lawful { IsRecord (record_of line.now) }
+    requires few { checker.line < 2 ^ 63 }
+    ensures read { IfOk result (λ next. (whole : List ℕ) → AreRead (Lines.Records checker) whole
+        → AreRead next (whole ++ line_of (record_of line.now))) }
+    ensures within { IfOk result (λ next. IsWithin (suc checker.line) next) }
+    ensures ready { IsTrue (is_ready_lines (Lines.Records checker)) → IsOk result }
+    ensures stays { IsTrue (is_ready_lines (Lines.Records checker))
+        → IfOk result (λ next. IsTrue (is_ready_lines next)) }
 {
-    match line {
-        Line::Head {
-            version: Version::One,
-            kind: Kind::Assign,
-        } => Some(Head::Assign),
-        Line::Head {
-            version,
-            kind: Kind::Regret,
-        } => Some(Head::Regret(*version)),
-        Line::Head {
-            version,
-            kind: Kind::Session,
-        } => Some(Head::Session(*version)),
-        _ => None,
+    match checker.feed(line) {
+        Ok(()) => Ok(Lines::Records(checker)),
+        Err(error) => {
+            checker.discard();
+            Err(error)
+        }
     }
 }
 
-/// Whether the record ends the section of the exchange.
-pub(crate) fn is_assign(line: &Line) -> bool
-    ensures { result ≡ is_assign (record_of line.now) }
-{
-    matches!(line, Line::Assign)
-}
-
-/// Whether the record begins the first settlement.
-pub(crate) fn begins_first(line: &Line) -> bool
-    ensures { result ≡ begins_first (record_of line.now) }
-{
-    matches!(line, Line::Settle { number: 0 })
-}
-
-/// The set that the record states.
-pub(crate) fn set_in(line: &Line) -> Option<&NodeSet>
-    ensures { MatchOption result (set_in (record_of line.now) ≡ None)
-        (λ set. record_of line.now ≡ records.set set.now) }
-{
-    match line {
-        Line::Set(set) => Some(set),
-        _ => None,
+impl Lines {
+    /// Takes the next line, which is that of a record.
+    fn take(self, line: &Line) -> Result<Lines, AllocError>
+        requires lawful { IsRecord (record_of line.now) }
+        requires few { IsWithin (2 ^ 63 - 1) self }
+        ensures read { IfOk result (λ next. (whole : List ℕ) → AreRead self whole
+            → AreRead next (whole ++ line_of (record_of line.now))) }
+        ensures within { IfOk result (λ next. (n : ℕ) → IsWithin n self → IsWithin (suc n) next) }
+        ensures ready { IsTrue (is_ready_lines self) → IsOk result }
+        ensures stays { IsTrue (is_ready_lines self)
+            → IfOk result (λ next. IsTrue (is_ready_lines next)) }
+    {
+        match self {
+            Lines::Records(checker) => fed(checker, line),
+            Lines::Grammar { line } => Ok(Lines::Grammar { line }),
+            Lines::OutOfMemory => Err(AllocError),
+        }
     }
-}
 
-/// Whether the record ends an assign journal.
-pub(crate) fn ends_assign(line: &Line) -> bool
-    ensures { result ≡ is_end records.assign_end (record_of line.now) }
-{
-    matches!(line, Line::End(EndWord::Assign))
-}
-
-/// The value in the head of the final sets.
-pub(crate) fn final_in(line: &Line) -> Option<i64>
-    ensures { IsFound result (final_value (record_of line.now)) }
-{
-    match line {
-        Line::Final { value } => Some(*value),
-        _ => None,
+    /// Takes the next line, which is that of no record.
+    fn stop(self) -> Result<Lines, AllocError>
+        ensures read { IfOk result (λ next. (whole text : List ℕ) → AreRead self whole
+            → ¬ Contains text 10
+            → IsNoRecord text → AreRead next (whole ++ (text ++ 10 ∷ []))) }
+        ensures within { IfOk result (λ next. (n : ℕ) → IsWithin n next) }
+        ensures ready { IsTrue (is_ready_lines self) → IsOk result }
+        ensures stays { IfOk result (λ next. IsTrue (is_ready_lines next)) }
+    {
+        match self {
+            Lines::Records(checker) => {
+                let line = checker.next_line();
+                checker.discard();
+                Ok(Lines::Grammar { line })
+            }
+            Lines::Grammar { line } => Ok(Lines::Grammar { line }),
+            Lines::OutOfMemory => Err(AllocError),
+        }
     }
-}
 
-/// The value in the head of the rival.
-fn rival_in(line: &Line) -> Option<i64>
-    ensures { IsFound result (rival_value (record_of line.now)) }
-{
-    match line {
-        Line::Rival { value } => Some(*value),
-        _ => None,
+    /// Takes the next line, which is that of this record, or of none.
+    pub(crate) fn after(self, found: &Option<Line>) -> Result<Lines, AllocError>
+        requires lawful { IfSome found.now (λ line. IsRecord (record_of line)) }
+        requires few { IsWithin (2 ^ 63 - 1) self }
+        ensures read { IfOk result (ReadsOn self (option_map record_of found.now)) }
+        ensures within { IfOk result (λ next. (n : ℕ) → IsWithin n self → IsWithin (suc n) next) }
+        ensures ready { IsTrue (is_ready_lines self) → IsOk result }
+        ensures stays { IsTrue (is_ready_lines self)
+            → IfOk result (λ next. IsTrue (is_ready_lines next)) }
+    {
+        match found {
+            Some(line) => self.take(line),
+            None => self.stop(),
+        }
     }
-}
 
-/// The value in the head of the provisional sets.
-fn provisional_in(line: &Line) -> Option<i64>
-    ensures { IsFound result (provisional_value (record_of line.now)) }
-{
-    match line {
-        Line::Provisional { value } => Some(*value),
-        _ => None,
+    /// Whether the next lines want no memory.
+    pub(crate) fn ready(&self) -> bool
+        ensures at { result ≡ is_ready_lines self.now }
+        ensures of { (whole : List ℕ) → AreRead self.now whole → AreReadiness whole result }
+    {
+        match self {
+            Lines::Records(checker) => checker.ready(),
+            Lines::Grammar { .. } => true,
+            Lines::OutOfMemory => false,
+        }
     }
-}
 
-/// The value in the head of the sets without this bidder.
-fn without_in(bidder: u8, line: &Line) -> Option<i64>
-    ensures { IsFound result (without_value bidder (record_of line.now)) }
-{
-    match line {
-        Line::Without {
-            bidder: other,
-            value,
-        } => { if *other == bidder { Some(*value) } else { None } }
-        _ => None,
+    /// Whether no memory was left for one of them.
+    pub(crate) fn are_stopped(&self) -> bool
+        ensures { IsTrue result ↔ (self.now ≡ Lines.OutOfMemory) }
+    {
+        matches!(self, Lines::OutOfMemory)
     }
-}
 
-/// The value in the head of a group.
-pub(crate) fn head_value(group: Group, line: &Line) -> Option<i64>
-    ensures { IsFound result (head_value group (record_of line.now)) }
-{
-    match group {
-        Group::Assign => None,
-        Group::Final => final_in(line),
-        Group::Rival => rival_in(line),
-        Group::Provisional => provisional_in(line),
-        Group::Without { bidder } => without_in(bidder, line),
-    }
-}
-
-/// Whether the record begins a stop in the place of a group.
-pub(crate) fn is_spent(line: &Line) -> bool
-    ensures { result ≡ is_spent (record_of line.now) }
-{
-    matches!(line, Line::Spent { .. })
-}
-
-/// The amount of the regret that the record states.
-pub(crate) fn amount_in(line: &Line) -> Option<i64>
-    ensures { MatchOption result (amount_in (record_of line.now) ≡ None)
-        (λ amount. record_of line.now ≡ records.regret amount) }
-{
-    match line {
-        Line::Regret { amount } => Some(*amount),
-        _ => None,
-    }
-}
-
-/// Whether the record ends a regret journal.
-pub(crate) fn ends_regret(line: &Line) -> bool
-    ensures { result ≡ is_end records.regret_end (record_of line.now) }
-{
-    matches!(line, Line::End(EndWord::Regret))
-}
-
-/// Whether the record ends a session that closed.
-pub(crate) fn ends_session(line: &Line) -> bool
-    ensures { result ≡ is_end records.closed_end (record_of line.now) }
-{
-    matches!(line, Line::End(EndWord::Closed))
+    /// Drops what is known.
+    pub(crate) fn discard(self) {}
 }

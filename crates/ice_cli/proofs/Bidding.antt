@@ -10,9 +10,9 @@ use Rattle.ice_defs.specs.Exchange.{Exchange, trees_of, opening_bounds}
 use Rattle.ice_defs.specs.Lawful.{IsExchange}
 use Rattle.ice_defs.specs.Weighing.{weighted_weights}
 use Rattle.ice_tree.proofs.Filling.{weights_of-weighted, length-weighted_list}
-use Rattle.ice_net.specs.Net.{AreAtMostTrillion}
-use Rattle.ice_net.specs.Net as net
-use Rattle.ice_net.proofs.Modest.{weighted-modest}
+use Rattle.ice_best_at_prices.specs.Net.{AreAtMostTrillion}
+use Rattle.ice_best_at_prices.specs.Net as net
+use Rattle.ice_best_at_prices.proofs.Modest.{weighted-modest}
 use Rattle.ice_trade.proofs.Weighted.{bidder_bounds, length-bounds}
 use Rattle.ice_cli.specs.declared.best_set.BestSet.{BestSet}
 use Rattle.ice_cli.specs.Output.{best_end}

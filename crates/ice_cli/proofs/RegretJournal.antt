@@ -22,7 +22,7 @@ use Rattle.ice_defs.specs.Session.{Proved, Regretted}
 use Rattle.ice_defs.specs.Right.{IsBestFound}
 use Rattle.ice_defs.proofs.Lists.{all-append}
 use Rattle.ice_defs.proofs.Starts.{meets_free_side}
-use Rattle.ice_laws.proofs.Perturbed.{perturbed_gives_regret}
+use Rattle.ice_regret_laws.proofs.Perturbed.{perturbed_gives_regret}
 use Rattle.ice_bound.proofs.Modest.{lower_modest, perturbed_modest}
 use Rattle.ice_refute.specs.Code.{CountsGoods}
 use Rattle.ice_refute.proofs.Refutes.{log_refutes}
@@ -62,10 +62,10 @@ use Rattle.ice_write.proofs.Groups.{group_are_records}
 use Rattle.ice_write.proofs.Writable.{writable}
 use Rattle.ice_write_session.specs.Records.{final_records, spent_records}
 use Rattle.ice_write_session.specs.Writable.{IsWritable, IsWritableRegret}
-use Rattle.ice_round_laws.proofs.Worth.{IsWorth, worth_is, worth_is_total}
-use Rattle.ice_completeness.specs.Branches.{enough_for_regret}
-use Rattle.ice_completeness.specs.Laws.{FinalIsSpent, RivalIsSpent}
-use Rattle.ice_completeness.proofs.Regrets.{spent_regret_has_few}
+use Rattle.ice_session_laws.proofs.Worth.{IsWorth, worth_is, worth_is_total}
+use Rattle.ice_branch_laws.specs.Branches.{enough_for_regret}
+use Rattle.ice_branch_laws.specs.Laws.{FinalIsSpent, RivalIsSpent}
+use Rattle.ice_branch_laws.proofs.Regrets.{spent_regret_has_few}
 use Rattle.ice_cli.specs.Call.{Call, file_limit, OfTold, OfFile}
 use Rattle.ice_cli.specs.Files.{IsExchangeOf}
 use Rattle.ice_cli.specs.Journals.{HasExchangeOf, HasFewerThan}

@@ -6,7 +6,7 @@ use Rattle.std.proofs.lemmas.Option.{none-some}
 use Rattle.ice_defs.specs.Exchange.{Exchange}
 use Rattle.ice_edge.specs.declared.status.Status.{Status}
 use Rattle.ice_edge.specs.declared.status.Status.TheVariants.{Done, Words, Input, No, Spent, Limit, ReadFault, WriteFault, NoMemory, StillOpen}
-use Rattle.ice_completeness.specs.Branches.{enough_for_session}
+use Rattle.ice_branch_laws.specs.Branches.{enough_for_session}
 use Rattle.ice_cli.specs.Call.{Call}
 use Rattle.ice_cli.specs.Command.{check, best, regret, xor, replay, gen, run, migrate, IsCommand}
 use Rattle.ice_cli.specs.RunServed.{RunAnswers, RunRefused, RunUnread}

@@ -27,14 +27,14 @@ use Rattle.ice_settled.specs.Shown.{settlement_of, closed_of}
 use Rattle.ice_round.specs.Shown.{IsClosing}
 use Rattle.ice_settled.specs.declared.settled.Closing.{Closing}
 use Rattle.ice_write_session.specs.Records.{closing_records, spent_records, limit_records}
-use Rattle.ice_round_laws.specs.Running.{IsRunning, IsInRound}
-use Rattle.ice_round_laws.specs.Stops.{StopsRound, no_file, file_refused, file_unread}
-use Rattle.ice_round_laws.specs.Laws.{sought_records}
-use Rattle.ice_round_laws.specs.Written.{begun_records, run_records, round_records, closed_session, IsUnended, IsSpentJournal, IsLimitedJournal}
+use Rattle.ice_session_laws.specs.Running.{IsRunning, IsInRound}
+use Rattle.ice_session_laws.specs.Stops.{StopsRound, no_file, file_refused, file_unread}
+use Rattle.ice_session_laws.specs.Laws.{sought_records}
+use Rattle.ice_session_laws.specs.Written.{begun_records, run_records, round_records, closed_session, IsUnended, IsSpentJournal, IsLimitedJournal}
 use Rattle.ice_round.proofs.GoingOn.{more_rounds}
-use Rattle.ice_round_laws.proofs.Sessions.{run_is_unended, run_closes}
-use Rattle.ice_round_laws.proofs.RoundStops.{round_is_unended, round_stops, round_stays_open}
-use Rattle.ice_completeness.specs.Branches.{enough_for_session}
+use Rattle.ice_session_laws.proofs.Sessions.{run_is_unended, run_closes}
+use Rattle.ice_session_laws.proofs.RoundStops.{round_is_unended, round_stops, round_stays_open}
+use Rattle.ice_branch_laws.specs.Branches.{enough_for_session}
 use Rattle.ice_cli.specs.Call.{Call, FaultRose, file_limit, OfFile, IsRefused}
 use Rattle.ice_cli.specs.Files.{IsExchangeOf, IsRoundFault}
 use Rattle.ice_cli.specs.Journals.{HasExchangeOf}

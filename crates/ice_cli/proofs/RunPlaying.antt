@@ -38,13 +38,13 @@ use Rattle.ice_settled.specs.declared.settled.Halt.{Halt}
 use Rattle.ice_write_session.specs.Records.{opening_records, closing_records, halted_records, halt_records, spent_records, limit_records}
 use Rattle.ice_write_session.proofs.Halts.{halts_before_final, halts_before_rival, halts_before_without, halts_before_provisional, halts_at_prices}
 use Rattle.ice_write_session.proofs.Lawful.{opening_are_records, closing_are_records, halt_are_records, spent_are_records, limit_are_records}
-use Rattle.ice_round_laws.specs.Running.{IsRunning, IsInRound}
-use Rattle.ice_round_laws.specs.Stops.{ComesTo, to_final, to_rival, to_provisional, to_without}
-use Rattle.ice_round_laws.specs.Laws.{PricesSought, sought_records}
-use Rattle.ice_round_laws.specs.Written.{begun_records, run_records, round_records}
-use Rattle.ice_round_laws.proofs.Rounds.{run_begins, round_begins, round_ends, opening_going, goings_more}
-use Rattle.ice_round_laws.proofs.Ends.{spends, is_limited, opening_may_be_written, closing_may_be_written, spent_may_be_written, limit_may_be_written}
-use Rattle.ice_completeness.proofs.Sessions.{spent_session_has_few}
+use Rattle.ice_session_laws.specs.Running.{IsRunning, IsInRound}
+use Rattle.ice_session_laws.specs.Stops.{ComesTo, to_final, to_rival, to_provisional, to_without}
+use Rattle.ice_session_laws.specs.Laws.{PricesSought, sought_records}
+use Rattle.ice_session_laws.specs.Written.{begun_records, run_records, round_records}
+use Rattle.ice_session_laws.proofs.Rounds.{run_begins, round_begins, round_ends, opening_going, goings_more}
+use Rattle.ice_session_laws.proofs.Ends.{spends, is_limited, opening_may_be_written, closing_may_be_written, spent_may_be_written, limit_may_be_written}
+use Rattle.ice_branch_laws.proofs.Sessions.{spent_session_has_few}
 use Rattle.ice_cli.specs.declared.refusal.Refusal.{Refusal}
 use Rattle.ice_cli.specs.declared.refusal.Refusal.TheVariants as refusal
 use Rattle.ice_cli.specs.Call.{Call, file_limit, OfTold, IsPrefix}

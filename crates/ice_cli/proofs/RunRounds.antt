@@ -33,7 +33,7 @@ use Rattle.ice_price.specs.Stages.{stage_of, limit_of}
 use Rattle.ice_price.specs.declared.ends.PriceLimit.{PriceLimit}
 use Rattle.ice_round.specs.SessionAt.{SessionAt}
 use Rattle.ice_write_session.specs.Records.{member_record, spent_records, limit_records}
-use Rattle.ice_round_laws.specs.Written.{begun_records, run_records, round_records}
+use Rattle.ice_session_laws.specs.Written.{begun_records, run_records, round_records}
 use Rattle.ice_cli.specs.Call.{Call, OfTold, file_limit, OfFile, IsPrefix}
 use Rattle.ice_cli.specs.Rounds.{submissions_before_next, rounds_in, OfBids, BeginsRound, HasRoundsOf, submissions_of, AreRoundsOf}
 use Rattle.ice_cli.proofs.RegretJournal.{told_also}

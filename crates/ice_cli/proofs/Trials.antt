@@ -13,7 +13,7 @@ use Rattle.ice_defs.specs.Bounds.{Bounds}
 use Rattle.ice_defs.specs.Round.{Submission, Judged}
 use Rattle.ice_defs.specs.Exchange.{Exchange, Settings, exact_of, names_of, trees_of, opening_bounds, market_of}
 use Rattle.ice_defs.specs.Session.{Going, closes}
-use Rattle.ice_laws.proofs.Regrets.{regret_is_not_negative}
+use Rattle.ice_regret_laws.proofs.Regrets.{regret_is_not_negative}
 use Rattle.ice_journal.specs.Records.{Record, version_2, session_kind}
 use Rattle.ice_journal.specs.Records as line
 use Rattle.ice_journal.specs.Ranges.{IsRecord}
@@ -37,11 +37,11 @@ use Rattle.ice_write_session.specs.Records.{opening_records, halt_records, spent
 use Rattle.ice_write_session.specs.Writable.{IsWritableOpening}
 use Rattle.ice_write.proofs.Loops.{bytes_flat}
 use Rattle.ice_write_session.proofs.Lawful.{halt_are_records, spent_are_records, limit_are_records}
-use Rattle.ice_round_laws.specs.Running.{IsRunning}
-use Rattle.ice_round_laws.specs.Laws.{sought_records}
-use Rattle.ice_round_laws.specs.Stops.{IsLimited}
-use Rattle.ice_round_laws.specs.Written.{begun_records, run_records, IsSpentJournal, IsLimitedJournal}
-use Rattle.ice_round_laws.proofs.Ends.{spends, is_limited, spent_may_be_written, limit_may_be_written}
+use Rattle.ice_session_laws.specs.Running.{IsRunning}
+use Rattle.ice_session_laws.specs.Laws.{sought_records}
+use Rattle.ice_session_laws.specs.Stops.{IsLimited}
+use Rattle.ice_session_laws.specs.Written.{begun_records, run_records, IsSpentJournal, IsLimitedJournal}
+use Rattle.ice_session_laws.proofs.Ends.{spends, is_limited, spent_may_be_written, limit_may_be_written}
 use Rattle.ice_gen.specs.Generated.{generated, truths}
 use Rattle.ice_gen.specs.Parts.{the_settings}
 use Rattle.ice_trial.specs.Truths.{truth_bids}

@@ -8,7 +8,7 @@ use Rattle.ice_journal.specs.Records.{Record}
 use Rattle.ice_journal.specs.Journal.{bytes_of}
 use Rattle.ice_journal_laws.specs.Written.{judged_records}
 use Rattle.ice_write_session.specs.Records.{opening_records}
-use Rattle.ice_round_laws.specs.Written.{begun_records}
+use Rattle.ice_session_laws.specs.Written.{begun_records}
 use Rattle.ice_trial.specs.declared.trial.TruthRound.{TruthRound}
 use Rattle.ice_trial.specs.Rounds.{accepted}
 

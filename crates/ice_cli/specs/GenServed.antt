@@ -11,8 +11,8 @@ use Rattle.ice_journal.specs.Journal.{IsJournal}
 use Rattle.ice_journal.specs.Spelling.{fraction_text}
 use Rattle.ice_journal_laws.specs.Stops.{IsSpent}
 use Rattle.ice_journal_laws.specs.SoFar.{IsSoFar}
-use Rattle.ice_round_laws.specs.Stops.{IsLimited}
-use Rattle.ice_round_laws.specs.Written.{begun_records}
+use Rattle.ice_session_laws.specs.Stops.{IsLimited}
+use Rattle.ice_session_laws.specs.Written.{begun_records}
 use Rattle.ice_gen.specs.Generated.{generated, truths}
 use Rattle.ice_trial.specs.Truths.{truth_bids}
 use Rattle.ice_trial.specs.declared.summary.Summary.{Summary}

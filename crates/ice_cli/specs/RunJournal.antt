@@ -19,10 +19,10 @@ use Rattle.ice_round.specs.SessionAt.{SessionAt, RoundAt}
 use Rattle.ice_round.specs.Shown.{IsClosing}
 use Rattle.ice_settled.specs.declared.settled.Closing.{Closing}
 use Rattle.ice_write_session.specs.Records.{closing_records, spent_records, limit_records}
-use Rattle.ice_round_laws.specs.Running.{IsRunning, IsInRound}
-use Rattle.ice_round_laws.specs.Laws.{sought_records}
-use Rattle.ice_round_laws.specs.Written.{run_records, round_records, IsSpentJournal, IsLimitedJournal}
-use Rattle.ice_completeness.specs.Branches.{enough_for_session}
+use Rattle.ice_session_laws.specs.Running.{IsRunning, IsInRound}
+use Rattle.ice_session_laws.specs.Laws.{sought_records}
+use Rattle.ice_session_laws.specs.Written.{run_records, round_records, IsSpentJournal, IsLimitedJournal}
+use Rattle.ice_branch_laws.specs.Branches.{enough_for_session}
 use Rattle.ice_cli.specs.Call.{Call, FaultRose, file_limit, IsRefused}
 use Rattle.ice_cli.specs.Files.{IsRoundFault}
 use Rattle.ice_cli.specs.Parts.{HasPart}

@@ -14,8 +14,8 @@ use Rattle.ice_journal_laws.specs.Written.{session_records}
 use Rattle.ice_journal_laws.specs.Theorems.{Says}
 use Rattle.ice_journal_laws.specs.Stops.{IsSpent}
 use Rattle.ice_journal_laws.specs.SoFar.{IsUnstopped}
-use Rattle.ice_round_laws.specs.Stops.{IsLimited, OpenSession, open_records, IsRightOpen}
-use Rattle.ice_completeness.specs.Branches.{enough_for_session}
+use Rattle.ice_session_laws.specs.Stops.{IsLimited, OpenSession, open_records, IsRightOpen}
+use Rattle.ice_branch_laws.specs.Branches.{enough_for_session}
 use Rattle.ice_cli.specs.Call.{Call, FaultRose, file_limit, OfFile, IsRefused}
 use Rattle.ice_cli.specs.Files.{IsExchangeOf, IsExchangeFault, IsRoundFault}
 use Rattle.ice_cli.specs.Output.{refused_line, unread_line}

@@ -13,8 +13,8 @@ use Rattle.ice_journal.specs.Journal.{bytes_of}
 use Rattle.ice_journal_laws.specs.Written.{judged_records}
 use Rattle.ice_journal_laws.specs.ShowingSession.{going_in}
 use Rattle.ice_round.specs.SessionAt.{SessionAt, RoundAt}
-use Rattle.ice_round_laws.specs.Running.{IsRunning, IsInRound}
-use Rattle.ice_round_laws.specs.Written.{run_records, round_records}
+use Rattle.ice_session_laws.specs.Running.{IsRunning, IsInRound}
+use Rattle.ice_session_laws.specs.Written.{run_records, round_records}
 use Rattle.ice_trial.specs.Rounds.{submissions_in, GoesOnBy}
 use Rattle.ice_cli.specs.Call.{IsPrefix}
 use Rattle.ice_cli.specs.Files.{HoldsBids}

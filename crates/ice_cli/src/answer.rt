@@ -7,10 +7,10 @@ ghost use Rattle.ice_cli.specs.Parts.{IsSaid};
 ghost use Rattle.ice_cli.specs.CheckServed.{answer_line, answer_status};
 
 use crate::say::ended;
+use ice_check::{Answer, Rule};
 use ice_edge::{Sink, Status};
 use ice_frac::Frac;
 use ice_line::LineWriter;
-use ice_pieces::{Answer, Rule};
 
 /// The word that a rule is printed as.
 fn rule_word(rule: Rule) -> &'static [u8]

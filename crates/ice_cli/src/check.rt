@@ -9,8 +9,8 @@ ghost use Rattle.ice_cli.specs.Refusals.{refusal_status, IsFaultOf, Refuses};
 use crate::answer::say_answer;
 use crate::files::fetch;
 use crate::refusal::{FileFault, Refusal};
+use ice_check::{Answer, CheckEnd};
 use ice_edge::{Shelf, Sink, Status};
-use ice_pieces::{Answer, CheckEnd};
 use std::alloc::Global;
 
 /// The most bytes of a journal.
@@ -34,7 +34,7 @@ fn answer_to(alloc: Global, bytes: &[u8]) -> Result<Answer, Refusal>
     ensures answer { IfOk result (λ answer. AnswersBytes bytes.now (Ok answer)) }
     ensures refusal { IfErr result (IsFaultOf 1 (IsCheckFault bytes.now)) }
 {
-    match ice_pieces::check(alloc, bytes) {
+    match ice_check::check(alloc, bytes) {
         Ok(answer) => Ok(answer),
         Err(end) => Err(refusal_of(end)),
     }

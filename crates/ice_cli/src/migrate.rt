@@ -12,9 +12,9 @@ use crate::check::JOURNAL_LIMIT;
 use crate::files::fetch;
 use crate::refusal::{FileFault, Refusal};
 use crate::say::ended;
+use ice_check::{Answer, Rule};
 use ice_edge::{Shelf, Sink, Status};
 use ice_migrate::{Unfit, judge, put_packed};
-use ice_pieces::{Answer, Rule};
 use std::alloc::Global;
 
 /// Why no journal is written.

@@ -11,8 +11,8 @@ use crate::check::JOURNAL_LIMIT;
 use crate::files::fetch;
 use crate::refusal::{FileFault, Refusal};
 use crate::say::ended;
+use ice_check::{Answer, Rule};
 use ice_edge::{Shelf, Sink, Status};
-use ice_pieces::{Answer, Rule};
 use ice_replay::{Replay, ReplayEnd, put_replay};
 use std::alloc::Global;
 

@@ -2,7 +2,7 @@
 ghost use Rattle.std.specs.Prelude.{◌≡◌, ◌≤◌, [], List, length, map, string_bytes, IfOk, IfErr, OnOk};
 ghost use Rattle.ice_defs.specs.Session.{Going};
 ghost use Rattle.ice_edge.specs.Told.{IsLater};
-ghost use Rattle.ice_round_laws.specs.Running.{IsRunning};
+ghost use Rattle.ice_session_laws.specs.Running.{IsRunning};
 ghost use Rattle.ice_cli.specs.Journals.{WritesBehind};
 ghost use Rattle.ice_journal.specs.Records as line;
 ghost use Rattle.ice_journal.specs.Records.{open_end};

@@ -10,16 +10,16 @@ ghost use Rattle.ice_journal_laws.specs.Written.{judged_records};
 ghost use Rattle.ice_search.specs.Results.{proved_spent};
 ghost use Rattle.ice_write_session.specs.Records.{halt_records, spent_records, limit_records};
 ghost use Rattle.ice_write_session.specs.Writable.{IsWritable, IsWritableOpening, IsWritableHalt, IsWritableLimit};
-ghost use Rattle.ice_round_laws.specs.Written.{begun_records};
+ghost use Rattle.ice_session_laws.specs.Written.{begun_records};
 ghost use Rattle.ice_trial.specs.Rounds.{accepted};
 ghost use Rattle.ice_cli.specs.GenJournal.{first_records, trial_records};
 
 use crate::run_journal::{bound_of, put_begin, put_halted, put_limited};
 use ice_edge::{Sink, SinkFault};
 use ice_price::PriceLimit;
-use ice_settled::Halt;
 use ice_rules::Verdict;
 use ice_search::Spent;
+use ice_settled::Halt;
 use ice_terms::Bid;
 use ice_trade::Exchange;
 use ice_trial::TruthRound;

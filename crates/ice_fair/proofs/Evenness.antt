@@ -4,8 +4,8 @@ use Rattle.std.specs.Int.{int_max}
 use Rattle.ice_defs.specs.Sum.{sum_below}
 use Rattle.ice_defs.specs.Prices.{Prices}
 use Rattle.ice_defs.proofs.Sums.{sum_below-same}
-use Rattle.ice_rows.specs.Sums.{RowSums, AreSums, units_in}
-use Rattle.ice_rows.proofs.Weighted.{weighted_sum-ones}
+use Rattle.ice_row_laws.specs.Sums.{RowSums, AreSums, units_in}
+use Rattle.ice_row_laws.proofs.Weighted.{weighted_sum-ones}
 use Rattle.ice_pricing.specs.Provisional.{ProvisionalTrade}
 use Rattle.ice_fair_laws.specs.Fair.{PaidTrade, FairCertificate, asked, held_units, row_units}
 use Rattle.ice_fair_laws.specs.Whole.{IsEven, held_sum, rows_weight, rows_worth}

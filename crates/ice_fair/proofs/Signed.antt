@@ -2,8 +2,8 @@
 use Rattle.std.proofs.Common.{ℕ, suc, ◌*◌, ◌≡◌, ℤ, pos, negsuc, neg_ℤ, ◌*ℤ◌, ◌≤ℤ◌, arith}
 use Rattle.std.proofs.lemmas.Int.{ints}
 use Rattle.ice_defs.proofs.Integers.{neg_times}
-use Rattle.ice_rows.specs.Sizes.{IsSizedWithin}
-use Rattle.ice_rows.proofs.Sizes.{times-within}
+use Rattle.ice_row_laws.specs.Sizes.{IsSizedWithin}
+use Rattle.ice_row_laws.proofs.Sizes.{times-within}
 
 pub product-within : (a b : ℤ) (m k : ℕ) → neg_ℤ (pos m) ≤ℤ a → a ≤ℤ pos m → IsSizedWithin k b → IsSizedWithin (m * k) (a *ℤ b)
 product-within (pos w) b m k low high is = times-within w m k b (omega (arith, ints, high)) is

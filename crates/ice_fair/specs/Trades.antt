@@ -6,8 +6,8 @@ use Rattle.ice_defs.specs.Trade.{tree_of, set_of}
 use Rattle.ice_defs.specs.Fraction.{Fraction}
 use Rattle.ice_defs.specs.Prices.{Prices}
 use Rattle.std.specs.Int.{int_max}
-use Rattle.ice_rows.specs.Sums.{RowSums, units_in}
-use Rattle.ice_rows.specs.Sizes.{IsSizedWithin}
+use Rattle.ice_row_laws.specs.Sums.{RowSums, units_in}
+use Rattle.ice_row_laws.specs.Sizes.{IsSizedWithin}
 use Rattle.ice_pricing.specs.Provisional.{ProvisionalTrade}
 use Rattle.ice_fair_laws.specs.Fair.{PaidTrade}
 

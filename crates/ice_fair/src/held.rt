@@ -4,8 +4,8 @@ ghost use Rattle.std.specs.List.{AllByRecursion};
 ghost use Rattle.ice_defs.specs.Set.{units};
 ghost use Rattle.ice_defs.specs.Sum.{sum_below};
 ghost use Rattle.ice_defs.specs.Trade.{tree_of, set_of};
-ghost use Rattle.ice_rows.specs.Sizes.{IsSizedWithin};
-ghost use Rattle.ice_rows.specs.Sums.{units_in};
+ghost use Rattle.ice_row_laws.specs.Sizes.{IsSizedWithin};
+ghost use Rattle.ice_row_laws.specs.Sums.{units_in};
 ghost use Rattle.std.specs.Int.{int_max};
 ghost use Rattle.ice_fair.specs.Trades.{num_at, held_by, held_units_by};
 

@@ -1,6 +1,6 @@
 //! The fairness test.
 ghost use Rattle.std.specs.Prelude.{◌≡◌, ◌<◌, ◌≤◌, ◌^◌, IsTrue, length, pos, ◌≤ℤ◌, ◌*ℤ◌};
-ghost use Rattle.ice_rows.specs.Sizes.{IsSizedWithin};
+ghost use Rattle.ice_row_laws.specs.Sizes.{IsSizedWithin};
 ghost use Rattle.std.specs.List.{AllByRecursion};
 ghost use Rattle.ice_fair.specs.Tested.{IsFairLimited, IsTested, numbers_of};
 ghost use Rattle.ice_fair.specs.Trades.{num_at, paid_by, AreNumbers, SumsAreEven};

@@ -18,8 +18,8 @@ use Rattle.ice_defs.proofs.Integers.{neg_times}
 use Rattle.ice_defs.proofs.Multiples.{times_keep, times_cancel, one_time}
 use Rattle.ice_frac.proofs.Ring.{is_diff, diff_same, diff_pos, diffs}
 use Rattle.ice_frac.proofs.Fractions.{Equals-plus, Equals-less, Equals-trans}
-use Rattle.ice_rows.proofs.Weighted.{total_weight, weighted_sum-ones}
-use Rattle.ice_rows.proofs.Priced.{rows-le}
+use Rattle.ice_row_laws.proofs.Weighted.{total_weight, weighted_sum-ones}
+use Rattle.ice_row_laws.proofs.Priced.{rows-le}
 use Rattle.ice_pricing_laws.specs.Pools.{member_at}
 use Rattle.ice_pricing_laws.specs.Weights.{AreWeights}
 use Rattle.ice_pricing_laws.proofs.Lists.{length-map_below, get_or-map_below}

@@ -20,8 +20,8 @@ use Rattle.ice_defs.proofs.Products.{times-le, times_neg}
 use Rattle.ice_defs.proofs.Integers.{neg_times}
 use Rattle.ice_frac.proofs.Ring.{is_diff, diff_same, diff_pos, diffs, cancel_le, scale_le, turn3}
 use Rattle.ice_frac.proofs.Fractions.{AtMost-left, AtMost-right, AtMost-trans, AtMost-num, Equals_from_AtMost, AtMost_from_Equals}
-use Rattle.ice_programs.specs.Laws.{AreCosts}
-use Rattle.ice_programs.proofs.Ends.{least_end_gives_duals, least_end_gives_least}
+use Rattle.ice_program_laws.specs.Laws.{AreCosts}
+use Rattle.ice_program_laws.proofs.Ends.{least_end_gives_duals, least_end_gives_least}
 use Rattle.ice_pricing_laws.proofs.Lists.{all-each, all-at, below-all, length-only_at}
 use Rattle.ice_pricing_laws.proofs.Dens.{num_over-is}
 use Rattle.ice_pricing_laws.proofs.Dots.{over-le}

@@ -11,10 +11,10 @@ use Rattle.ice_defs.specs.Rows.{weighted_sum, worth_above}
 use Rattle.ice_defs.specs.PricingRun.{common_den, num_over}
 use Rattle.ice_frac.proofs.Ring.{is_diff, diff_same, diff_pos, diffs}
 use Rattle.ice_frac.proofs.Fractions.{Equals-plus, Equals-less, Equals-trans}
-use Rattle.ice_rows.proofs.Accurate.{tests_give_accurate}
-use Rattle.ice_rows.proofs.Costs.{cost_of-add, cost_of-times, cost_of-le}
-use Rattle.ice_rows.proofs.Priced.{rows-le}
-use Rattle.ice_rows.proofs.Weighted.{total_weight, weighted_sum-ones}
+use Rattle.ice_row_laws.proofs.Accurate.{tests_give_accurate}
+use Rattle.ice_row_laws.proofs.Costs.{cost_of-add, cost_of-times, cost_of-le}
+use Rattle.ice_row_laws.proofs.Priced.{rows-le}
+use Rattle.ice_row_laws.proofs.Weighted.{total_weight, weighted_sum-ones}
 use Rattle.ice_pricing_laws.proofs.Dens.{IsOver, common_den-pos, are_over}
 use Rattle.ice_fair_laws.specs.Fair.{PaidTrade, FairCertificate, held, held_units, row_units, asked, held_payments}
 use Rattle.ice_fair_laws.specs.Laws.{TestGivesLeast, TestGivesFair}

@@ -9,7 +9,7 @@ use Rattle.ice_defs.specs.Sum.{sum_below}
 use Rattle.ice_defs.specs.Rows.{Row, weighted_sum, worth_above, units_above, wanted}
 use Rattle.ice_defs.proofs.Products.{times-le, times_add}
 use Rattle.ice_defs.proofs.Multiples.{times_keep, times_cancel, times_swap}
-use Rattle.ice_rows.proofs.Weighted.{total_weight}
+use Rattle.ice_row_laws.proofs.Weighted.{total_weight}
 use Rattle.ice_fair_laws.specs.Whole.{CertifiedIsSmall}
 
 sum-most : (f : Row → ℤ) (m : ℕ) (rows : List Row) → AllByRecursion (λ row. f row ≤ℤ pos m) rows → weighted_sum f rows ≤ℤ (pos m *ℤ pos (total_weight rows))

@@ -15,7 +15,7 @@ use Rattle.ice_frac.proofs.Fractions.{Equals-plus, Equals-less, Equals-trans, At
 use Rattle.ice_pricing_laws.proofs.Lists.{all-at}
 use Rattle.ice_pricing_laws.proofs.Dens.{IsOver, AreOver}
 use Rattle.ice_pricing_laws.proofs.Weighed.{cancel_left}
-use Rattle.ice_rows.specs.Sizes.{IsSizedWithin}
+use Rattle.ice_row_laws.specs.Sizes.{IsSizedWithin}
 use Rattle.ice_fair_laws.specs.Fair.{PaidTrade, own_units, gap, Covers, IsDistance, held, held_units, row_units, total_held, asked, held_payments}
 use Rattle.ice_fair_laws.specs.Laws.{IsPaidTrade}
 use Rattle.ice_fair_laws.specs.Whole.{ArePaidOver, gap_num, IsGreatestGap, GreatestGapIsDistance, held_sum, rows_weight, rows_worth, TestIsWhole, AskedIsLow, HeldIsSized}

@@ -4,7 +4,7 @@ use Rattle.std.specs.List.{AllByRecursion}
 use Rattle.ice_defs.specs.Prices.{Prices, ArePrices}
 use Rattle.ice_defs.specs.Rows.{Certificate, PassesAccuracy}
 use Rattle.ice_defs.specs.Fraction.{Fraction, IsFraction, AtMost}
-use Rattle.ice_rows.specs.Laws.{AreSatisfied}
+use Rattle.ice_row_laws.specs.Laws.{AreSatisfied}
 use Rattle.ice_fair_laws.specs.Fair.{PaidTrade, FairCertificate, IsDistance, HasViolationOf, AreAccurate, AreFair, PassesFairness, Covers}
 
 -- each bidder has a satisfied set, and pays a fraction

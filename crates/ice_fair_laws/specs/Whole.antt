@@ -8,7 +8,7 @@ use Rattle.ice_defs.specs.Tree.{Tree}
 use Rattle.ice_defs.specs.Set.{Weights}
 use Rattle.ice_defs.specs.Trade.{Assignment}
 use Rattle.ice_defs.specs.Fraction.{Fraction, IsFraction, Equals, fraction_at}
-use Rattle.ice_rows.specs.Sizes.{IsSizedWithin}
+use Rattle.ice_row_laws.specs.Sizes.{IsSizedWithin}
 use Rattle.ice_fair_laws.specs.Fair.{PaidTrade, FairCertificate, own_units, IsDistance, held, total_held, asked, PassesFairness}
 use Rattle.ice_fair_laws.specs.Laws.{IsPaidTrade, violation_of}
 

@@ -11,9 +11,9 @@ use Rattle.ice_defs.specs.Exchange.{names_of}
 use Rattle.ice_defs.specs.Session.{standings}
 use Rattle.ice_defs.specs.declared.Group.{Group}
 use Rattle.ice_defs.specs.declared.Group.TheVariants.{Assign, Final, Rival, Provisional, Without}
-use Rattle.ice_rounds.specs.Laws.{SameOfEach}
-use Rattle.ice_rounds.proofs.Order.{same_bounds}
-use Rattle.ice_rounds.proofs.Others.{same_push, own_submissions_tell}
+use Rattle.ice_round_laws.specs.Laws.{SameOfEach}
+use Rattle.ice_round_laws.proofs.Order.{same_bounds}
+use Rattle.ice_round_laws.proofs.Others.{same_push, own_submissions_tell}
 use Rattle.ice_journal.specs.Records.{Record, Kind, assign_kind, regret_kind, session_kind, exchange_kind, prices_kind, closed_end, spent_end, limit_end}
 use Rattle.ice_journal.specs.Plain.{all_zero}
 use Rattle.ice_journal.specs.Records as line

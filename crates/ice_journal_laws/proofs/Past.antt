@@ -10,8 +10,8 @@ use Rattle.ice_defs.specs.Session.{Settlement, Going, Closed, closes}
 use Rattle.ice_defs.specs.Right.{IsSettled, IsGoing, IsClosed, IsRightFrom, bounds_after_round, bounds_after_rounds}
 use Rattle.ice_journal.specs.Records.{Record}
 use Rattle.ice_defs.specs.Conditions.{AreBoundsOf}
-use Rattle.ice_rounds.proofs.Keeping.{rounds_keep_bounds, bounds_count, bounds_at, bounds_from}
-use Rattle.ice_laws.specs.Laws.{PerturbedGivesRegret}
+use Rattle.ice_round_laws.proofs.Keeping.{rounds_keep_bounds, bounds_count, bounds_at, bounds_from}
+use Rattle.ice_regret_laws.specs.Laws.{PerturbedGivesRegret}
 use Rattle.ice_journal_laws.specs.Written.{going_records, closed_records, settlement_records}
 use Rattle.ice_journal_laws.specs.Stops.{all_going_records, AreGoing}
 use Rattle.ice_journal_laws.proofs.Regretting.{AreSettled}

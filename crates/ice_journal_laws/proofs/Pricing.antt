@@ -10,7 +10,7 @@ use Rattle.ice_defs.specs.Pricing.{IsViolation, IsBalanced}
 use Rattle.ice_defs.specs.Rows.{Row, Certificate}
 use Rattle.ice_journal.specs.Records.{Record}
 use Rattle.ice_journal.specs.Ranges.{ArePricesRecord}
-use Rattle.ice_rows.specs.Laws.{TestsGiveBalanced}
+use Rattle.ice_row_laws.specs.Laws.{TestsGiveBalanced}
 use Rattle.ice_threshold.proofs.OneCut.{at_recursion}
 use Rattle.ice_journal_laws.specs.declared.rule.Rule.{Rule}
 use Rattle.ice_journal_laws.specs.declared.rule.Rule.TheVariants as rule

@@ -14,8 +14,8 @@ use Rattle.ice_section.specs.Laws.{SectionIsLawful, SectionRecords}
 use Rattle.ice_section.proofs.Whole.{section_is_lawful, section_records_are}
 use Rattle.ice_refute.specs.Laws.{LogRefutes}
 use Rattle.ice_refute.proofs.Refutes.{log_refutes}
-use Rattle.ice_laws.specs.Laws.{PerturbedGivesRegret}
-use Rattle.ice_laws.proofs.Perturbed.{perturbed_gives_regret}
+use Rattle.ice_regret_laws.specs.Laws.{PerturbedGivesRegret}
+use Rattle.ice_regret_laws.proofs.Perturbed.{perturbed_gives_regret}
 use Rattle.ice_journal_laws.specs.State.{Place, done, State, begun, exchange_at, goods_at}
 use Rattle.ice_journal_laws.specs.Checks.{Tested}
 use Rattle.ice_journal_laws.specs.Theorems.{AreRegretted, DoneIsRegretted, ChecksGiveRegret}

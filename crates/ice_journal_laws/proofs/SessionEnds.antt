@@ -17,7 +17,7 @@ use Rattle.ice_defs.specs.Session.{Proved, Settlement, Going, Payment, Closed}
 use Rattle.ice_journal.specs.Records.{Record, Version, session_kind, closed_end}
 use Rattle.ice_journal.specs.Records as line
 use Rattle.ice_journal.specs.Ranges.{IsRecord}
-use Rattle.ice_laws.specs.Laws.{PerturbedGivesRegret}
+use Rattle.ice_regret_laws.specs.Laws.{PerturbedGivesRegret}
 use Rattle.ice_journal_laws.specs.declared.rule.Rule.{Rule}
 use Rattle.ice_journal_laws.specs.declared.rule.Rule.TheVariants as rule
 use Rattle.ice_journal_laws.specs.State.{at_threshold, at_payment, at_end, State, exchange_at}

@@ -17,9 +17,9 @@ use Rattle.ice_defs.specs.Session.{Going, standings}
 use Rattle.ice_journal.specs.Records.{Record, Version, session_kind, EndWord}
 use Rattle.ice_journal.specs.Records as line
 use Rattle.ice_journal.specs.Ranges.{IsRecord}
-use Rattle.ice_laws.specs.Laws.{PerturbedGivesRegret}
-use Rattle.ice_rounds.proofs.Taking.{rounds_begin, rounds_go_on}
-use Rattle.ice_rows.specs.Laws.{TestsGiveBalanced}
+use Rattle.ice_regret_laws.specs.Laws.{PerturbedGivesRegret}
+use Rattle.ice_round_laws.proofs.Taking.{rounds_begin, rounds_go_on}
+use Rattle.ice_row_laws.specs.Laws.{TestsGiveBalanced}
 use Rattle.ice_journal_laws.specs.declared.rule.Rule.{Rule}
 use Rattle.ice_journal_laws.specs.declared.rule.Rule.TheVariants as rule
 use Rattle.ice_journal_laws.specs.Fields.{is_spent, is_limit, is_round_stop, row_in}

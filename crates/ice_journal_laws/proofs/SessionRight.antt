@@ -13,8 +13,8 @@ use Rattle.ice_journal.specs.Plain.{plain}
 use Rattle.ice_section.specs.Described.{section_records}
 use Rattle.ice_section.specs.Laws.{SectionIsLawful, SectionRecords}
 use Rattle.ice_refute.specs.Laws.{LogRefutes}
-use Rattle.ice_laws.specs.Laws.{PerturbedGivesRegret}
-use Rattle.ice_rows.specs.Laws.{TestsGiveBalanced}
+use Rattle.ice_regret_laws.specs.Laws.{PerturbedGivesRegret}
+use Rattle.ice_row_laws.specs.Laws.{TestsGiveBalanced}
 use Rattle.ice_journal_laws.specs.declared.rule.Rule.{Rule}
 use Rattle.ice_journal_laws.specs.State.{Place, at_section, at_group, at_sets, at_log, at_regret, at_prices, at_accuracy, at_accuracy_rows, at_balance_rows, at_round, at_verdict, at_threshold, at_payment, at_end, done, State, begun, exchange_at, goods_at}
 use Rattle.ice_journal_laws.specs.Next.{next, go_to}
@@ -25,9 +25,9 @@ use Rattle.ice_journal_laws.specs.Written.{settlement_records}
 use Rattle.ice_journal_laws.specs.Progress.{passing, EndsList, passes_on, fails_at, list_fails_at, Leads, stays, goes}
 use Rattle.ice_section.proofs.Whole.{section_is_lawful, section_records_are}
 use Rattle.ice_refute.proofs.Refutes.{log_refutes}
-use Rattle.ice_laws.proofs.Perturbed.{perturbed_gives_regret}
-use Rattle.ice_rows.proofs.Balanced.{tests_give_balanced}
-use Rattle.ice_promise.proofs.Promised.{right_gives_headline}
+use Rattle.ice_regret_laws.proofs.Perturbed.{perturbed_gives_regret}
+use Rattle.ice_row_laws.proofs.Balanced.{tests_give_balanced}
+use Rattle.ice_headline_laws.proofs.Promised.{right_gives_headline}
 use Rattle.ice_journal_laws.proofs.Leading.{failed_passes}
 use Rattle.ice_journal_laws.proofs.Heads.{headed, tested_leads, all_left}
 use Rattle.ice_journal_laws.proofs.Plaining.{Wrote, whole_says}

@@ -6,8 +6,8 @@ use Rattle.ice_defs.specs.Round.{Submission, Judged, IsNextVerdict}
 use Rattle.ice_defs.specs.Bound.{Multipliers}
 use Rattle.ice_defs.specs.Session.{standings}
 use Rattle.ice_defs.specs.declared.Group.TheVariants.{Assign, Final, Rival, Provisional, Without}
-use Rattle.ice_rounds.proofs.Names.{false_at_others, of_name_stays}
-use Rattle.ice_rounds.proofs.Others.{own_submissions_tell, others_swap}
+use Rattle.ice_round_laws.proofs.Names.{false_at_others, of_name_stays}
+use Rattle.ice_round_laws.proofs.Others.{own_submissions_tell, others_swap}
 use Rattle.ice_journal.specs.Records.{Record, Version, version_1, version_2, Kind, assign_kind, regret_kind, session_kind, exchange_kind, prices_kind}
 use Rattle.ice_journal.specs.Records as line
 use Rattle.ice_journal.specs.Plain.{all_zero}

@@ -11,7 +11,7 @@ use Rattle.ice_defs.specs.Fraction.{Fraction, whole, IsFraction, Equals, less, f
 use Rattle.ice_defs.specs.Cut.{cut_down}
 use Rattle.ice_defs.specs.Exchange.{Bidder, Exchange, trees_of, opening_bounds}
 use Rattle.ice_defs.specs.Tree.{Tree}
-use Rattle.ice_rows.specs.Laws.{AreSatisfied}
+use Rattle.ice_row_laws.specs.Laws.{AreSatisfied}
 use Rattle.ice_defs.specs.Bounds.{Bounds}
 use Rattle.ice_defs.specs.Trade.{Assignment}
 use Rattle.ice_defs.specs.Session.{Going, Payment, Closed, Session}

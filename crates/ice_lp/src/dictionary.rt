@@ -3,7 +3,7 @@ ghost use Rattle.std.specs.Prelude.{ℕ, slice_index_or, slice_set, ◌≡◌, �
 ghost use Rattle.std.specs.Result.{result_ok};
 ghost use Rattle.ice_defs.specs.Fraction.{fraction_at};
 ghost use Rattle.ice_defs.specs.Dictionary.{all_of, pivot_entry, pivot_entries, pivot_row, other_entry, other_entries, other_row, other_constant, new_left, no_left, pivoted};
-ghost use Rattle.ice_programs.specs.Solutions.{IsDictionary, IsPivot};
+ghost use Rattle.ice_program_laws.specs.Solutions.{IsDictionary, IsPivot};
 ghost use Rattle.ice_lp.specs.Replacing.{replaced, keeping};
 ghost use Rattle.ice_lp.specs.Shapes.{AreLong, IsWideLeft, IsWideObjective};
 

@@ -2,7 +2,7 @@
 ghost use Rattle.std.specs.Prelude.{ℕ, ◌≡◌, ◌<◌, ◌≤◌, ◌+◌, ◌-◌, length, IfOk, IfErr};
 ghost use Rattle.ice_defs.specs.Dictionary.{choice};
 ghost use Rattle.ice_defs.specs.Trace.{end_from, trace_end};
-ghost use Rattle.ice_programs.specs.Solutions.{IsDictionary};
+ghost use Rattle.ice_program_laws.specs.Solutions.{IsDictionary};
 ghost use Rattle.ice_lp.specs.Turning.{choice_value, IsPivotTurn};
 ghost use Rattle.ice_lp.specs.Ending.{end_of, IsEnd};
 ghost use Rattle.ice_lp.specs.Answers.{IsAnswer, IsCertified};

@@ -10,7 +10,7 @@ ghost use Rattle.ice_migrate.specs.Stopped.{counted, StandsAt, failure_of};
 use crate::counts::Counts;
 use crate::place::Place;
 use crate::records::Records;
-use ice_pieces::Rule;
+use ice_check::Rule;
 
 /// The test that a journal fails: its line, from 1, and its rule.
 #[derive(Clone, Copy)]

@@ -9,8 +9,8 @@ ghost use Rattle.ice_migrate.specs.Found.{Tells, IsUnfit};
 
 use crate::behind::{FailedTest, order_fault};
 use crate::records::Records;
+use ice_check::{Answer, CheckEnd, Rule, check};
 use ice_journal::{Kind, Line, Version};
-use ice_pieces::{Answer, CheckEnd, Rule, check};
 use std::alloc::Global;
 
 /// Why bytes are no journal that is brought to version 2.

@@ -2,8 +2,8 @@
 use crate::gathered::Gathered;
 use crate::judging::{Unfit, judge};
 use crate::packing::put_packed;
+use ice_check::Rule;
 use ice_edge::{MemSink, SinkFault};
-use ice_pieces::Rule;
 use std::alloc::{AllocError, Global};
 use std::test::Fail;
 

@@ -13,11 +13,11 @@ use Rattle.ice_defs.specs.Trade.{tree_of, set_of, weights_of}
 use Rattle.ice_defs.proofs.Sums.{sum_below-zero}
 use Rattle.ice_frac.proofs.Ring.{cancel_le, scale_le}
 use Rattle.ice_certificate.proofs.Worths.{value-within}
-use Rattle.ice_rows.specs.Sizes.{IsSizedWithin}
+use Rattle.ice_row_laws.specs.Sizes.{IsSizedWithin}
 use Rattle.ice_pricing_laws.specs.Laws.{balance_at}
 use Rattle.ice_pricing_laws.proofs.Accuracy.{bound_is_point, point-size, least-at, least_is_accurate}
 use Rattle.ice_pricing_laws.proofs.Solved.{are_over-own}
-use Rattle.ice_rows.proofs.Priced.{violation-ge}
+use Rattle.ice_row_laws.proofs.Priced.{violation-ge}
 use Rattle.ice_pricing_laws.proofs.Excess.{excess}
 use Rattle.ice_pricing_laws.proofs.Feasible.{free, free-within}
 use Rattle.ice_pricing_laws.proofs.Lists.{all-each}

@@ -2,7 +2,7 @@
 ghost use Rattle.std.specs.Prelude.{◌≡◌, ◌<◌, length, IfOk, IfErr, IfSome, IsTrue};
 ghost use Rattle.ice_defs.specs.Exchange.{trees_of};
 ghost use Rattle.ice_defs.specs.Weighing.{weighted_weights};
-ghost use Rattle.ice_rows.specs.Laws.{AreSatisfied};
+ghost use Rattle.ice_row_laws.specs.Laws.{AreSatisfied};
 ghost use Rattle.ice_pricing.specs.Provisional.{provisional_of};
 ghost use Rattle.ice_price.specs.Ends.{IsPriceEnd, IsPriced, IsRunPriced, IsRunStopped};
 ghost use Rattle.ice_price.specs.Works.{IsMoreWork, HasTurns};
@@ -12,7 +12,7 @@ use crate::ends::{PoolMember, PriceEnd, Stop};
 use crate::stages::StageAt;
 use crate::turn::run_stage;
 use crate::work::RunWork;
-use ice_cuts::{GivenUp, Work, cut_prices};
+use ice_cutting_planes::{GivenUp, Work, cut_prices};
 use ice_pricing::{Pricing, Provisional, Scratch, weighted_values};
 use ice_trade::Exchange;
 use ice_tree::{Assignment, Bounds};

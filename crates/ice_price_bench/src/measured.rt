@@ -2,7 +2,7 @@
 
 use crate::provisional::best_sets;
 use crate::searches::searched;
-use ice_cuts::{Work, cut_prices};
+use ice_cutting_planes::{Work, cut_prices};
 use ice_price::{PriceEnd, Pricing, RunWork, run_prices};
 use ice_pricing::{Provisional, weighted_values};
 use ice_search::SearchEnd;

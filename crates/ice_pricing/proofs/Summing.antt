@@ -4,8 +4,8 @@ use Rattle.std.specs.List.{AllByRecursion}
 use Rattle.std.proofs.lemmas.List.{take_more}
 use Rattle.ice_defs.specs.Rows.{Row, IsRow}
 use Rattle.ice_defs.proofs.Lists.{all_push}
-use Rattle.ice_rows.specs.Sums.{RowSums, AreSums, IsWithRow, AreZero}
-use Rattle.ice_rows.proofs.Sums.{zero_is_sums, row_is_added}
+use Rattle.ice_row_laws.specs.Sums.{RowSums, AreSums, IsWithRow, AreZero}
+use Rattle.ice_row_laws.proofs.Sums.{zero_is_sums, row_is_added}
 use Rattle.ice_pricing.specs.Provisional.{ProvisionalTrade}
 
 -- the sums of the first rows, which are rows

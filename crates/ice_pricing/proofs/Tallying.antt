@@ -5,8 +5,8 @@ use Rattle.std.specs.List.{AllByRecursion}
 use Rattle.ice_defs.specs.Prices.{Prices}
 use Rattle.ice_defs.specs.Rows.{Row, IsRow, PassesAccuracy, PassesBalance}
 use Rattle.ice_defs.proofs.Lists.{all_push}
-use Rattle.ice_rows.specs.Sums.{RowSums, AreZero, IsWithRow, SumsPassAccuracy, SumsPassBalance}
-use Rattle.ice_rows.proofs.Sums.{zero_is_sums, row_is_added, sums_decide_accuracy, sums_decide_balance}
+use Rattle.ice_row_laws.specs.Sums.{RowSums, AreZero, IsWithRow, SumsPassAccuracy, SumsPassBalance}
+use Rattle.ice_row_laws.proofs.Sums.{zero_is_sums, row_is_added, sums_decide_accuracy, sums_decide_balance}
 use Rattle.ice_pricing.specs.Provisional.{ProvisionalTrade}
 use Rattle.ice_pricing.specs.Tallies.{RowTally, IsTallyOf}
 

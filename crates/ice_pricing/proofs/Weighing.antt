@@ -9,7 +9,7 @@ use Rattle.ice_defs.specs.Exchange.{Bidder, Exchange, trees_of, opening_bounds}
 use Rattle.ice_defs.specs.Lawful.{IsBidder, IsExchange}
 use Rattle.ice_defs.specs.Weighing.{weighted_list, weighted_weights}
 use Rattle.ice_best.specs.Nets.{AreAtMostTrillion}
-use Rattle.ice_net.proofs.Modest.{weighted-modest}
+use Rattle.ice_best_at_prices.proofs.Modest.{weighted-modest}
 use Rattle.ice_trade.proofs.Weighted.{length-trees, length-bounds, bidder_bounds}
 use Rattle.ice_tree.proofs.Filling.{weights_of-weighted, length-weighted_list}
 use Rattle.ice_tree.specs.Alike.{AreAlike, HasWeightPerNode}

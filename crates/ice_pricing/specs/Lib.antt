@@ -4,5 +4,5 @@ pub mod Tallies
 pub mod Lawful
 pub mod Bounding
 pub use Rattle.ice_certificate.specs.Excess
-pub use Rattle.ice_net.specs.Net
-pub use Rattle.ice_rows.specs.Laws
+pub use Rattle.ice_best_at_prices.specs.Net
+pub use Rattle.ice_row_laws.specs.Laws

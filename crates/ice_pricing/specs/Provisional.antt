@@ -6,7 +6,7 @@ use Rattle.ice_defs.specs.Trade.{Assignment, tree_of, weights_of}
 use Rattle.ice_defs.specs.Exchange.{Exchange, trees_of}
 use Rattle.ice_best.specs.Nets.{AreAtMostTrillion}
 use Rattle.ice_tree.specs.Alike.{HasWeightPerNode}
-use Rattle.ice_rows.specs.Laws.{AreSatisfied}
+use Rattle.ice_row_laws.specs.Laws.{AreSatisfied}
 
 pub record ProvisionalTrade : Type 0 where
   pub trees : List Tree

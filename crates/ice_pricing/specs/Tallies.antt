@@ -2,7 +2,7 @@
 use Rattle.std.specs.Prelude.{ℕ, ◌*◌, ◌^◌, ◌≤◌, ◌≡◌, List, length}
 use Rattle.std.specs.List.{AllByRecursion}
 use Rattle.ice_defs.specs.Rows.{Row, IsRow}
-use Rattle.ice_rows.specs.Sums.{RowSums, AreSums}
+use Rattle.ice_row_laws.specs.Sums.{RowSums, AreSums}
 use Rattle.ice_pricing.specs.Provisional.{ProvisionalTrade}
 
 -- how many there are, and their sums

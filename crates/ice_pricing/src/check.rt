@@ -2,7 +2,7 @@
 ghost use Rattle.std.specs.Prelude.{◌≡◌, length, IsTrue};
 ghost use Rattle.ice_defs.specs.Exchange.{trees_of};
 ghost use Rattle.ice_tree.specs.Alike.{HasWeightPerNode};
-ghost use Rattle.ice_rows.specs.Laws.{AreSatisfied};
+ghost use Rattle.ice_row_laws.specs.Laws.{AreSatisfied};
 ghost use Rattle.ice_pricing.specs.Provisional.{AreModest, provisional_of};
 ghost use Rattle.ice_pricing.specs.Priced.{IsLimited, PassesTests, AreBalanced};
 

@@ -4,7 +4,7 @@ ghost use Rattle.ice_defs.specs.Exchange.{trees_of};
 ghost use Rattle.ice_defs.specs.Set.{value};
 ghost use Rattle.ice_defs.specs.Trade.{tree_of, set_of, weights_of};
 ghost use Rattle.ice_tree.specs.Alike.{HasWeightPerNode};
-ghost use Rattle.ice_rows.specs.Laws.{AreSatisfied};
+ghost use Rattle.ice_row_laws.specs.Laws.{AreSatisfied};
 ghost use Rattle.ice_certificate.specs.Excess.{IsGreatestExcess};
 ghost use Rattle.ice_pricing.specs.Provisional.{AreModest, IsProvisional, provisional_of};
 ghost use Rattle.ice_pricing.specs.Priced.{HasViolation};

@@ -2,7 +2,7 @@
 ghost use Rattle.std.specs.Prelude.{◌≤◌, ◌<◌, ◌+◌, ◌^◌, IsTrue, IfSome, IfNone, unsigned_abs};
 ghost use Rattle.std.specs.List.{AllByRecursion};
 ghost use Rattle.ice_defs.specs.Rows.{IsRow, PassesAccuracy, PassesBalance};
-ghost use Rattle.ice_rows.specs.Sums.{AreSums, IsWithRow};
+ghost use Rattle.ice_row_laws.specs.Sums.{AreSums, IsWithRow};
 ghost use Rattle.ice_pricing.specs.Priced.{IsLimited};
 
 use crate::certificate::{Certificate, CertificateRow};

@@ -15,8 +15,8 @@ use Rattle.ice_defs.specs.PricingRun.{Member, StageAt, first_stage, accuracy_pro
 use Rattle.ice_defs.proofs.Products.{times-le}
 use Rattle.ice_frac.proofs.Fractions.{AtMost-trans, Equals_from_AtMost, AtMost-left}
 use Rattle.ice_frac.proofs.Ring.{cancel_le, scale_le, turn3}
-use Rattle.ice_rows.specs.Laws.{AreSatisfied}
-use Rattle.ice_rows.proofs.Priced.{violation-ge}
+use Rattle.ice_row_laws.specs.Laws.{AreSatisfied}
+use Rattle.ice_row_laws.proofs.Priced.{violation-ge}
 use Rattle.ice_pricing_laws.specs.Laws.{AreMembers, LeastIsAccurate}
 use Rattle.ice_pricing_laws.proofs.Lists.{all-each, length-only_at}
 use Rattle.ice_pricing_laws.proofs.Dots.{over-le}

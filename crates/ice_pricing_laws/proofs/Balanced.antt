@@ -22,7 +22,7 @@ use Rattle.ice_pricing_laws.proofs.Excess.{excess, excess-balance}
 use Rattle.ice_pricing_laws.proofs.Solved.{den_of, num_at, den_of-pos, are_over-own, prices-pos, are_prices-over, nums_with, point_with, point_with-size, point_with-over, nums_with-price, nums_with-last, point_with-prices}
 use Rattle.ice_pricing_laws.proofs.Tops.{top-keeps}
 use Rattle.ice_pricing_laws.proofs.Accuracy.{each-below, none-le}
-use Rattle.ice_rows.proofs.Balanced.{top-low, top-high}
+use Rattle.ice_row_laws.proofs.Balanced.{top-low, top-high}
 
 module _ (ts : List Tree) (ws : List Weights) (sets : Assignment) (goods : ℕ) (cap : ℤ) where
   pub violation-one : (p : Prices) (a b : ℤ) → IsViolation ts ws sets p a → IsViolation ts ws sets p b → a ≡ b

@@ -18,11 +18,11 @@ use Rattle.ice_defs.specs.PricingRun.{Member, accuracy_program, balance_program,
 use Rattle.ice_defs.proofs.Products.{times-le}
 use Rattle.ice_frac.proofs.Ring.{is_diff, diff_same, diff_pos, diffs}
 use Rattle.ice_frac.proofs.Fractions.{Equals-trans, Equals_from_AtMost, AtMost_from_Equals}
-use Rattle.ice_rows.specs.Laws.{AreSatisfied}
+use Rattle.ice_row_laws.specs.Laws.{AreSatisfied}
 use Rattle.ice_defs.proofs.Multiples.{times_less, times_swap, times_turn, times_keep, times_cancel, one_time}
-use Rattle.ice_rows.proofs.Weighted.{total_weight, weighted_sum-ones}
-use Rattle.ice_rows.proofs.Priced.{violation-ge, rows-le}
-use Rattle.ice_rows.proofs.Accurate.{wanted-le}
+use Rattle.ice_row_laws.proofs.Weighted.{total_weight, weighted_sum-ones}
+use Rattle.ice_row_laws.proofs.Priced.{violation-ge, rows-le}
+use Rattle.ice_row_laws.proofs.Accurate.{wanted-le}
 use Rattle.ice_pricing_laws.specs.Weights.{rows_with, AreWeights, DualsPassAccuracy, DualsPassBalance}
 use Rattle.ice_pricing_laws.proofs.Lists.{length-map_below}
 use Rattle.ice_pricing_laws.proofs.Dens.{IsOver, AreOver}

@@ -15,7 +15,7 @@ use Rattle.ice_defs.specs.PricingLimit.{Stage, accuracy_stage, balance_stage, fa
 use Rattle.ice_defs.specs.PricingRun.{Member, StageAt, first_stage, balance_program, stage_program, solution_prices, HasNoneToAdd, excess_of, IsAccurateStage, IsRunState, starts, follows, turns, common_den, duals_at}
 use Rattle.ice_frac.proofs.Fractions.{AtMost-trans, Equals-trans, num-AtMost}
 use Rattle.ice_frac.proofs.Ring.{cancel_ℤ}
-use Rattle.ice_rows.specs.Laws.{AreSatisfied}
+use Rattle.ice_row_laws.specs.Laws.{AreSatisfied}
 use Rattle.ice_pricing_laws.specs.Laws.{AreMembers, balance_at}
 use Rattle.ice_pricing_laws.specs.Ends.{certificate_at, AreCertified, LeastHasViolation, AccuracyStageEnds, AccurateStageGives, BalanceComesAfter, BalanceStageEnds, RunIsFeasible, RunIsWithin}
 use Rattle.ice_pricing_laws.specs.Weights.{certificate_with, AreWeights, weights_of_duals, nums_of}

@@ -13,7 +13,7 @@ use Rattle.ice_defs.proofs.Sums.{sum_below-same}
 use Rattle.ice_defs.proofs.Products.{times_add, times-le, sum_below-times}
 use Rattle.ice_frac.proofs.Ring.{is_diff, diff_same, diff_pos, diffs, mul_assoc_ℤ}
 use Rattle.ice_defs.proofs.Multiples.{times_less, times_swap, times_turn, times_cancel}
-use Rattle.ice_rows.proofs.Costs.{cost_of-less}
+use Rattle.ice_row_laws.proofs.Costs.{cost_of-less}
 use Rattle.ice_pricing_laws.proofs.Programs.{above, MeetsAccuracy, MeetsBalance}
 
 -- ---- integers

@@ -12,8 +12,8 @@ use Rattle.ice_defs.specs.Program.{Constraint, Program}
 use Rattle.ice_defs.specs.PricingLimit.{Stage, accuracy_stage, balance_stage, fairness_stage}
 use Rattle.ice_defs.specs.PricingRun.{Member, only_at, worth_above, units_above, balance_program, program_at}
 use Rattle.ice_defs.proofs.Lists.{all-append, all-from}
-use Rattle.ice_rows.specs.Sizes.{IsSizedWithin}
-use Rattle.ice_rows.proofs.Sizes.{times-within}
+use Rattle.ice_row_laws.specs.Sizes.{IsSizedWithin}
+use Rattle.ice_row_laws.proofs.Sizes.{times-within}
 use Rattle.ice_pricing_laws.specs.Sizes.{IsSizedRow, IsMemberWithin, AccuracyIsSized, BalanceIsSized, StageIsShaped}
 use Rattle.ice_pricing_laws.proofs.Lists.{all-map, all-each, all-below, length-map_below, length-only_at, get_or-only_at}
 use Rattle.ice_pricing_laws.proofs.Programs.{above}

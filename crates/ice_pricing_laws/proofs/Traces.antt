@@ -11,8 +11,8 @@ use Rattle.ice_defs.specs.Program.{Program, IsLeast, AreDuals}
 use Rattle.ice_defs.specs.Trace.{TraceEnd, least_end, infeasible_end, wide_end, pivots_end, trace_end, point_of, duals_of}
 use Rattle.ice_defs.specs.PricingLimit.{Stage, accuracy_stage, balance_stage, fairness_stage}
 use Rattle.ice_defs.specs.PricingRun.{Member, stage_program, program_at, point_at, duals_at}
-use Rattle.ice_programs.specs.Laws.{AreCosts}
-use Rattle.ice_programs.proofs.Ends.{least_end_gives_duals, least_end_gives_least}
+use Rattle.ice_program_laws.specs.Laws.{AreCosts}
+use Rattle.ice_program_laws.proofs.Ends.{least_end_gives_duals, least_end_gives_least}
 use Rattle.ice_pricing_laws.specs.Traces.{TracesSolve}
 use Rattle.ice_pricing_laws.proofs.Sizes.{only_at-holds}
 

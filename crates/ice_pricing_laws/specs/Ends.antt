@@ -9,7 +9,7 @@ use Rattle.ice_defs.specs.Rows.{Certificate, PassesAccuracy, PassesBalance}
 use Rattle.ice_defs.specs.Fraction.{Fraction, Equals}
 use Rattle.ice_defs.specs.Program.{IsLeast, IsInfeasible}
 use Rattle.ice_defs.specs.PricingRun.{Member, StageAt, first_stage, accuracy_program, stage_program, solution, solution_prices, allowed, weights_at, HasNoneToAdd, IsAccurateStage, IsRunState, common_den}
-use Rattle.ice_rows.specs.Laws.{AreSatisfied}
+use Rattle.ice_row_laws.specs.Laws.{AreSatisfied}
 use Rattle.ice_pricing_laws.specs.Laws.{AreMembers, balance_at}
 use Rattle.ice_pricing_laws.specs.Weights.{certificate_with, nums_of}
 

@@ -11,7 +11,7 @@ use Rattle.ice_defs.specs.Fraction.{Fraction, whole, Equals, times, fraction_at}
 use Rattle.ice_defs.specs.Frac.{lowest}
 use Rattle.ice_defs.specs.Program.{IsLeast, AreDuals, AreNonNegative}
 use Rattle.ice_defs.specs.PricingRun.{Member, first_stage, accuracy_program, balance_program, solution_prices, HasNoneToAdd, common_den, num_over}
-use Rattle.ice_rows.specs.Laws.{AreSatisfied}
+use Rattle.ice_row_laws.specs.Laws.{AreSatisfied}
 use Rattle.ice_pricing_laws.specs.Laws.{AreMembers, balance_at}
 
 -- a pool's members with weights, those of weight 0 left out

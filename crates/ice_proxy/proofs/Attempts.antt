@@ -8,7 +8,7 @@ use Rattle.ice_defs.specs.Prices.{Prices}
 use Rattle.ice_defs.specs.Rules.{net_at, IsBestThroughout, IsAhead, IsLoss, IsMrpar, GainsMore, Improves}
 use Rattle.ice_defs.specs.Round.{Standing}
 use Rattle.ice_defs.specs.Lawful.{AreBounds}
-use Rattle.ice_net.specs.Net.{IsBestAtPrices}
+use Rattle.ice_best_at_prices.specs.Net.{IsBestAtPrices}
 use Rattle.ice_rules.specs.Profiles.{AreAgainst, AreInFavour, AreCentre}
 use Rattle.ice_rules.proofs.Losses.{AreOrdered, loss_is, loss_not_negative, best_from_none, none_from_best, ahead_from, ahead_gives, gains_from, gains_give, best_if_any, mrpar_gives, improves_not}
 use Rattle.ice_rules.proofs.Reflected.{tabulated, length-tabulated, weight_of-tabulated, centre_is_good}

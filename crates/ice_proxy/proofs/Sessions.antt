@@ -20,11 +20,11 @@ use Rattle.ice_defs.specs.Lawful.{AreBounds, IsExchange}
 use Rattle.ice_defs.specs.Session.{standings_from, standings, Going, Closed}
 use Rattle.ice_defs.specs.Right.{IsRightFrom, bounds_after_round, bounds_after_rounds, final_bounds}
 use Rattle.ice_defs.proofs.Naming.{bytes_eq-same}
-use Rattle.ice_rounds.specs.Keeping.{HaveBounds}
-use Rattle.ice_rounds.proofs.Keeping.{rounds_keep_bounds, opening_have_bounds}
-use Rattle.ice_rounds.proofs.Naming.{standings_are_named}
+use Rattle.ice_round_laws.specs.Keeping.{HaveBounds}
+use Rattle.ice_round_laws.proofs.Keeping.{rounds_keep_bounds, opening_have_bounds}
+use Rattle.ice_round_laws.proofs.Naming.{standings_are_named}
 use Rattle.ice_rules.proofs.Exact.{accepted_alone}
-use Rattle.ice_promise.proofs.Promised.{right_gives_headline}
+use Rattle.ice_headline_laws.proofs.Promised.{right_gives_headline}
 use Rattle.ice_proxy.specs.Proposals.{proposal, IsProxyBid}
 use Rattle.ice_proxy.specs.Sessions.{IsProxyRound, IsProxyFrom, HoldTruths, AreAccepted, HoldThroughout}
 use Rattle.ice_proxy.specs.Laws.{ProxiesHold, ProxiesReachRegret}

@@ -13,8 +13,8 @@ use Rattle.ice_defs.specs.Regret.{IsRegret}
 use Rattle.ice_defs.specs.Searched.{IsFound}
 use Rattle.ice_defs.specs.Exchange.{Exchange, trees_of, exact_of, market_of}
 use Rattle.ice_defs.proofs.Starts.{meets_free_side}
-use Rattle.ice_laws.proofs.Perturbed.{perturbed_gives_regret, perturbed_attains}
-use Rattle.ice_laws.proofs.Trades.{regret_bounds_trades}
+use Rattle.ice_regret_laws.proofs.Perturbed.{perturbed_gives_regret, perturbed_attains}
+use Rattle.ice_regret_laws.proofs.Trades.{regret_bounds_trades}
 use Rattle.ice_defs.specs.Conditions.{AreBoundsOf}
 use Rattle.ice_search.specs.Results.{AreWritten}
 use Rattle.ice_regret.specs.Regretted.{IsRegretOf, proved_rival}

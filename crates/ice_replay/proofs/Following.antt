@@ -14,9 +14,9 @@ use Rattle.ice_journal_laws.specs.State.{Place, at_regret, at_prices, at_accurac
 use Rattle.ice_journal_laws.specs.Next.{next, next_at, to_line, go_to, or_stop, after_all}
 use Rattle.ice_journal_laws.specs.Tests.{Fails, IsStop}
 use Rattle.ice_journal_laws.specs.Progress.{Progress, nothing, other_kind, passing, failed, out_of_memory, TakesOn, passes_on, fails_at, list_fails_at, IsAfter, Leads}
-use Rattle.ice_check.specs.declared.due.DueRegret.{DueRegret}
-use Rattle.ice_check.specs.Checking.{Checking, HasCome}
-use Rattle.ice_check.specs.Due.{is_regret_place, awaits_regret, is_prices_place, awaits_prices, IsDue, TellsDue}
+use Rattle.ice_check_records.specs.declared.due.DueRegret.{DueRegret}
+use Rattle.ice_check_records.specs.Checking.{Checking, HasCome}
+use Rattle.ice_check_records.specs.Due.{is_regret_place, awaits_regret, is_prices_place, awaits_prices, IsDue, TellsDue}
 use Rattle.ice_replay.specs.declared.settlement.Replay.{Replay}
 use Rattle.ice_replay.specs.declared.watch.Watch.TheVariants as watch
 use Rattle.ice_replay.specs.Settlements.{OfSession, IsSession, is_session_head, Settles, prices_from}

@@ -10,8 +10,8 @@ use Rattle.ice_journal.specs.Spelling.{text_of, line_of}
 use Rattle.ice_journal.specs.Journal.{bytes_of, IsJournal}
 use Rattle.ice_journal_laws.specs.Progress.{Progress, nothing, Leads, stays}
 use Rattle.ice_journal_laws.proofs.Leading.{leads_more}
-use Rattle.ice_check.specs.Checking.{Checking, HasCome, ComesTo}
-use Rattle.ice_check.proofs.Reading.{HasRead}
+use Rattle.ice_check_records.specs.Checking.{Checking, HasCome, ComesTo}
+use Rattle.ice_check_records.proofs.Reading.{HasRead}
 use Rattle.ice_replay.specs.declared.watch.Watch.{Watch}
 use Rattle.ice_replay.specs.declared.watch.Watch.TheVariants as watch
 use Rattle.ice_replay.specs.Watching.{IsWatched, WatchesOn}

@@ -15,7 +15,7 @@ use Rattle.ice_journal_laws.specs.Fields.{is_spent, is_limit, is_pool, is_round_
 use Rattle.ice_journal_laws.specs.State.{Place, at_section, at_group, at_log, at_regret, at_prices, at_balance_rows, at_spent_sets, at_spent_log, at_pool, at_end, done, State, goods_at}
 use Rattle.ice_journal_laws.specs.Next.{next, next_at, go_to, to_line, bidder_count, if_true, after_section, section_ended, open_after, after_all}
 use Rattle.ice_journal_laws.specs.Tests.{IsStop}
-use Rattle.ice_check.specs.Due.{is_regret_place, is_prices_place}
+use Rattle.ice_check_records.specs.Due.{is_regret_place, is_prices_place}
 use Rattle.ice_replay.specs.Settlements.{prices_from}
 
 -- behind a stop

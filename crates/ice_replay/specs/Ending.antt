@@ -9,7 +9,7 @@ use Rattle.ice_journal_laws.specs.declared.answer.CheckEnd.TheVariants as ending
 use Rattle.ice_journal_laws.specs.declared.rule.Rule.TheVariants as rule
 use Rattle.ice_journal_laws.specs.Progress.{Progress, nothing, Leads}
 use Rattle.ice_journal_laws.specs.Answers.{EndsWith}
-use Rattle.ice_check.specs.Checking.{Checking, HasCome}
+use Rattle.ice_check_records.specs.Checking.{Checking, HasCome}
 use Rattle.ice_replay.specs.declared.settlement.Replay.{Replay}
 use Rattle.ice_replay.specs.declared.settlement.ReplayEnd.{ReplayEnd}
 use Rattle.ice_replay.specs.declared.settlement.ReplayEnd.TheVariants.{Grammar, Unended, OtherKind, No, NoSettlement, NoMemory}

@@ -8,7 +8,7 @@ use Rattle.ice_journal_laws.specs.State.{at_regret, State, begun, goods_at}
 use Rattle.ice_journal_laws.specs.Fields.{prices_in}
 use Rattle.ice_journal_laws.specs.Next.{next, after_all}
 use Rattle.ice_journal_laws.specs.Checks.{FirstFailure}
-use Rattle.ice_check.specs.Due.{is_prices_place}
+use Rattle.ice_check_records.specs.Due.{is_prices_place}
 
 -- the journal is one of a session, and this holds of the state behind its head and the records from there on
 abbrev pub OfSession : (State → List Record → Type 0) → List Record → Type 0

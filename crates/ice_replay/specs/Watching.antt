@@ -7,9 +7,9 @@ use Rattle.ice_journal.specs.Records as line
 use Rattle.ice_journal_laws.specs.declared.rule.Rule.TheVariants as rule
 use Rattle.ice_journal_laws.specs.State.{State}
 use Rattle.ice_journal_laws.specs.Progress.{Progress, nothing, passing, failed, IsAfter, Leads}
-use Rattle.ice_check.specs.declared.due.DueRegret.{DueRegret}
-use Rattle.ice_check.specs.Checking.{Checking, HasCome}
-use Rattle.ice_check.specs.Due.{TellsDue}
+use Rattle.ice_check_records.specs.declared.due.DueRegret.{DueRegret}
+use Rattle.ice_check_records.specs.Checking.{Checking, HasCome}
+use Rattle.ice_check_records.specs.Due.{TellsDue}
 use Rattle.ice_replay.specs.declared.settlement.Replay.{Replay}
 use Rattle.ice_replay.specs.declared.watch.Watch.{Watch}
 use Rattle.ice_replay.specs.declared.watch.Watch.TheVariants as watch

@@ -12,7 +12,7 @@ mod records;
 mod settlement;
 mod watch;
 
-pub use ice_check::Rule;
+pub use ice_check_records::Rule;
 pub use laws::bytes_have_one_replay;
 pub use putting::put_replay;
 pub use reading::replay;

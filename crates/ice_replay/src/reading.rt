@@ -1,14 +1,14 @@
 //! The replay of a settlement from the bytes of a journal.
 ghost use Rattle.std.specs.Prelude.{◌≡◌};
 ghost use Rattle.ice_journal_laws.specs.Progress.{nothing};
-ghost use Rattle.ice_check.specs.Checking.{HasCome};
+ghost use Rattle.ice_check_records.specs.Checking.{HasCome};
 ghost use Rattle.ice_replay.specs.Replays.{ReplaysBytes};
 ghost use Rattle.ice_replay.specs.Ending.{ReadsAll};
 
 use crate::ending::conclude;
 use crate::settlement::{Replay, ReplayEnd};
 use crate::watch::Watch;
-use ice_check::Checker;
+use ice_check_records::Checker;
 use ice_journal::read_record;
 use ice_line::split_line;
 use std::alloc::Global;

@@ -2,13 +2,13 @@
 ghost use Rattle.std.specs.Prelude.{◌≡◌, ℕ, length, IfOk};
 ghost use Rattle.ice_journal.specs.Lines.{record_of};
 ghost use Rattle.ice_journal.specs.Records as records;
-ghost use Rattle.ice_check.specs.Checking as checker;
+ghost use Rattle.ice_check_records.specs.Checking as checker;
 ghost use Rattle.ice_replay.specs.Watching.{IsComeTo, IsStated, WatchesOn};
 
 use crate::bidders::all_bidders;
 use crate::records::{amount_in, is_session_head, prices_in};
 use crate::settlement::Replay;
-use ice_check::{Checker, DueRegret};
+use ice_check_records::{Checker, DueRegret};
 use ice_journal::Line;
 use std::alloc::{AllocError, Global};
 

@@ -1,28 +1,20 @@
--- what feasible sets of an exchange are worth
-pub mod Worth
--- what a search finds is a group that is shown and earned, and its records are in their ranges
-pub mod Found
--- final sets with their regret are shown and earned, and may be written
-pub mod Settling
--- how large a violation of provisional sets gets, and what their certificates may be written with
-pub mod Violations
--- a settlement that goes on is shown and earned, and may be written
-pub mod Openings
--- the last settlement of a session is shown, and may be written
-pub mod Closings
--- a session as it runs: it begins, a settlement opens a round, the round goes on, and it ends
-pub mod Rounds
--- what the journal of a session is, as far as it has come, and where it closes
-pub mod Sessions
--- what the journal of a session is in a round, and where it stops there
-pub mod RoundStops
--- a settlement that stops at a search that spent its branches: where it had come, and the journal
-pub mod Spending
--- what a limit of the pricing may be written with
-pub mod Limits
--- a settlement that stops at a limit of its pricing: the journal
-pub mod Limiting
--- verdicts may be written
+-- there is one verdict on a submission
 pub mod Verdicts
--- stops of a session, and what may be written, from what a settlement gives
-pub mod Ends
+-- names, and the submissions of one of them
+pub mod Names
+-- rounds with the same submissions of each name in the same order give the same verdicts
+pub mod Order
+-- rounds leave bounds that are bounds of the bidders' trees
+pub mod Keeping
+-- the entries that submissions leave, one after another, are the definition's
+pub mod Entering
+-- verdicts that are taken one at a time, by the entries that the earlier ones left, are those of a round
+pub mod Taking
+-- a submission looks at its bidder's entry alone, and changes that one alone
+pub mod Single
+-- a verdict looks at the earlier submissions of its own name alone
+pub mod Others
+-- the names of the entries are the bidders', and stay
+pub mod Naming
+-- small rounds, worked
+pub mod Worked

@@ -1,4 +1,4 @@
-pub mod Running
-pub mod Stops
-pub mod Written
 pub mod Laws
+pub mod Entries
+pub mod Running
+pub mod Keeping

@@ -1,85 +1,121 @@
-//! Laws of sessions that are run: settlements and rounds, one after another, are what their journals say, and the journals
-//! pass the checker's tests, or stop where the session does. It has no code.
+//! Laws of rounds: their order is free between bidders, one taken submission by submission is the round of the definition, and bounds stay bounds. It has no code.
 #![tactic(auto)]
 
-ghost use Rattle.ice_round_laws.specs.Laws.{RunBegins, RoundBegins, RoundGoesOn, RoundEnds, RunIsUnended, RoundIsUnended, RunCloses, RoundStops, RoundStaysOpen, RunSpends, RunIsLimited, VerdictMayBeWritten, OpeningMayBeWritten, ClosingMayBeWritten, SpentMayBeWritten, LimitMayBeWritten};
+ghost use Rattle.ice_round_laws.specs.Keeping.{RoundsKeepBounds};
+ghost use Rattle.ice_round_laws.specs.Laws.{OrderIsFree, OwnSubmissionsTell, OthersSwap};
+ghost use Rattle.ice_round_laws.specs.Running.{EntriesBegin, EntriesGoOn, EntriesAreDefined, EntriesTellBounds, EntriesTellVerdict, RoundsBegin, RoundsGoOn, VerdictsMakeRound, VerdictIsOne, NamesBegin, NamesStay, StandingsAreNamed, StandingIs, OneEntryDecides, NoEntryDecides, OneEntryChanges, AcceptedIsTaken, OthersChangeNothing, OtherEntriesStay};
 
-/// At its start a session of an exchange runs, with no settlement behind it.
-pub fn run_begins()
-    ensures { RunBegins }
+/// Rounds with the same submissions of each name in the same order give the same verdicts to each name and the same next bounds.
+pub fn order_is_free()
+    ensures { OrderIsFree }
 {}
 
-/// A settlement that goes on begins a round.
-pub fn round_begins()
-    ensures { RoundBegins }
+/// A verdict looks at the earlier submissions of its own name alone.
+pub fn own_submissions_tell()
+    ensures { OwnSubmissionsTell }
 {}
 
-/// One more submission with the next verdict leaves a round of the same settlement.
-pub fn round_goes_on()
-    ensures { RoundGoesOn }
+/// Two submissions of different names may change places.
+pub fn others_swap()
+    ensures { OthersSwap }
 {}
 
-/// Where a round ends the session runs on, with one more settlement behind it.
-pub fn round_ends()
-    ensures { RoundEnds }
+/// Rounds leave bounds that are bounds of the bidders' trees.
+pub fn rounds_keep_bounds()
+    ensures { RoundsKeepBounds }
 {}
 
-/// The journal of a session that runs passes every test so far, and no stop stands in it.
-pub fn run_is_unended()
-    ensures { RunIsUnended }
+/// Before any submission each bidder has its own bounds, and none was accepted.
+pub fn entries_begin()
+    ensures { EntriesBegin }
 {}
 
-/// So does the journal of a session in a round.
-pub fn round_is_unended()
-    ensures { RoundIsUnended }
+/// A submission and its verdict make of the definition's entries those after it.
+pub fn entries_go_on()
+    ensures { EntriesGoOn }
 {}
 
-/// The journal of a session that closes passes every test, and says a right session, which has the headline.
-pub fn run_closes()
-    ensures { RunCloses }
+/// The entries that a round's submissions leave, one after another, are the definition's.
+pub fn entries_are_defined()
+    ensures { EntriesAreDefined }
 {}
 
-/// The journal of a round without a submission may stop: the round has no file, its file is refused, or it can't be read.
-pub fn round_stops()
-    ensures { RoundStops }
+/// The bounds in the entries are the definition's next bounds.
+pub fn entries_tell_bounds()
+    ensures { EntriesTellBounds }
 {}
 
-/// Where the round has no file, the journal says a right session that is open.
-pub fn round_stays_open()
-    ensures { RoundStaysOpen }
+/// The next verdict goes by the entries alone.
+pub fn entries_tell_verdict()
+    ensures { EntriesTellVerdict }
 {}
 
-/// The journal of a session whose search is spent says how far it came, and that all branches are used.
-pub fn run_spends()
-    ensures { RunSpends }
+/// A round without submissions is one.
+pub fn rounds_begin()
+    ensures { RoundsBegin }
 {}
 
-/// The journal of a session whose pricing ends at a limit says how far it came, and at which limit.
-pub fn run_is_limited()
-    ensures { RunIsLimited }
+/// A round with one submission more is a round with the next verdict.
+pub fn rounds_go_on()
+    ensures { RoundsGoOn }
 {}
 
-/// A verdict has a number that its record may have.
-pub fn verdict_may_be_written()
-    ensures { VerdictMayBeWritten }
+/// Verdicts taken one at a time by the entries are those of a round, and no others are.
+pub fn verdicts_make_round()
+    ensures { VerdictsMakeRound }
 {}
 
-/// A settlement that goes on has numbers that its records may have.
-pub fn opening_may_be_written()
-    ensures { OpeningMayBeWritten }
+/// There is at most one next verdict.
+pub fn verdicts_are_one()
+    ensures { VerdictIsOne }
 {}
 
-/// So has a settlement that closes.
-pub fn closing_may_be_written()
-    ensures { ClosingMayBeWritten }
+/// The entries have the bidders' names.
+pub fn names_begin()
+    ensures { NamesBegin }
 {}
 
-/// So has a settlement that stops at a spent search.
-pub fn spent_may_be_written()
-    ensures { SpentMayBeWritten }
+/// No submission changes the entries' names.
+pub fn names_stay()
+    ensures { NamesStay }
 {}
 
-/// So has one that stops at a limit of the pricing.
-pub fn limit_may_be_written()
-    ensures { LimitMayBeWritten }
+/// What the bidders of an exchange bring into a round has their names.
+pub fn standings_are_named()
+    ensures { StandingsAreNamed }
+{}
+
+/// Each bidder brings its own tree, bounds and set.
+pub fn standing_is_its_bidders()
+    ensures { StandingIs }
+{}
+
+/// The entry of a submission's bidder decides its verdict.
+pub fn one_entry_decides()
+    ensures { OneEntryDecides }
+{}
+
+/// Where no entry has the submission's name, the bidder is unknown.
+pub fn no_entry_decides()
+    ensures { NoEntryDecides }
+{}
+
+/// A submission changes its bidder's entry alone.
+pub fn one_entry_changes()
+    ensures { OneEntryChanges }
+{}
+
+/// An accepted submission gives its bounds to an entry that took none before.
+pub fn accepted_is_taken()
+    ensures { AcceptedIsTaken }
+{}
+
+/// A submission that isn't accepted changes nothing.
+pub fn others_change_nothing()
+    ensures { OthersChangeNothing }
+{}
+
+/// A submission leaves the entries of other names as they are.
+pub fn other_entries_stay()
+    ensures { OtherEntriesStay }
 {}

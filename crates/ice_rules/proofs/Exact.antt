@@ -9,7 +9,7 @@ use Rattle.ice_defs.specs.Rules.{net_at, IsBestThroughout, IsAhead, IsLoss, IsMr
 use Rattle.ice_defs.specs.declared.Verdict.{Verdict}
 use Rattle.ice_defs.specs.declared.Verdict.TheVariants.{Accepted, Loosened, Crossed, Mrpar, Improve, Repeated, UnknownBidder, WrongCount}
 use Rattle.ice_defs.specs.Judging.{IsNarrowed, IsJudged}
-use Rattle.ice_net.specs.Net.{IsBestAtPrices}
+use Rattle.ice_best_at_prices.specs.Net.{IsBestAtPrices}
 use Rattle.ice_rules.specs.Profiles.{AreAgainst, AreInFavour}
 use Rattle.ice_rules.specs.Laws.{ExactBidIsAccepted}
 use Rattle.ice_defs.proofs.Multiples.{one_time}

@@ -7,7 +7,7 @@ use Rattle.ice_defs.specs.Set.{NodeSet, has, IsSatisfied, Weights, weight_of}
 use Rattle.ice_defs.specs.Bounds.{Bounds, IsInside}
 use Rattle.ice_defs.specs.Prices.{Prices}
 use Rattle.ice_defs.specs.Rules.{net_at, IsAhead, IsBestThroughout, IsLoss, IsMrpar, GainsMore, Improves}
-use Rattle.ice_net.specs.Net.{IsBestAtPrices}
+use Rattle.ice_best_at_prices.specs.Net.{IsBestAtPrices}
 use Rattle.ice_defs.proofs.Products.{times-le}
 use Rattle.ice_rules.specs.Profiles.{AreAgainst, AreInFavour}
 use Rattle.ice_rules.specs.Centre.{IsAsGoodAsAny}

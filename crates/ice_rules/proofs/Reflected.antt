@@ -8,7 +8,7 @@ use Rattle.ice_defs.specs.Bounds.{Bounds, IsInside}
 use Rattle.ice_defs.specs.Prices.{Prices, cost_of}
 use Rattle.ice_defs.specs.Rules.{net_at}
 use Rattle.ice_defs.proofs.Sums.{sum_below-same, sum_below-add}
-use Rattle.ice_net.specs.Net.{IsBestAtPrices}
+use Rattle.ice_best_at_prices.specs.Net.{IsBestAtPrices}
 use Rattle.ice_defs.proofs.Products.{times_add, times-le, sum_below-times}
 use Rattle.ice_rules.specs.Profiles.{AreCentre}
 use Rattle.ice_rules.specs.Centre.{IsAsGoodAsAny}

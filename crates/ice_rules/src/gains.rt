@@ -6,7 +6,7 @@ ghost use Rattle.ice_rules.specs.Centre.{IsAsGoodAsAny};
 
 use crate::profiles::{against, centre, in_favour};
 use crate::standing::Standing;
-use ice_net::{Scratch, best_at_prices, net};
+use ice_best_at_prices::{Scratch, best_at_prices, net};
 use ice_tree::NodeSet;
 
 pub(crate) fn is_less(a: i128, b: i128) -> bool

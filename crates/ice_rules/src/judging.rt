@@ -9,8 +9,8 @@ ghost use Rattle.ice_rules.specs.Verdicts.{values, IsVerdict};
 
 use crate::rules::{improvement, mrpar};
 use crate::standing::Standing;
+use ice_best_at_prices::Scratch;
 use ice_defs::Verdict;
-use ice_net::Scratch;
 use ice_tree::Bounds;
 
 /// The least node whose lower value is above its upper one.

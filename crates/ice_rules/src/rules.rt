@@ -5,7 +5,7 @@ ghost use Rattle.ice_defs.specs.Rules.{IsMrpar, Improves};
 
 use crate::gains::{best_at_centre, is_ahead, is_best_throughout, is_less, least_gain, loss};
 use crate::standing::Standing;
-use ice_net::Scratch;
+use ice_best_at_prices::Scratch;
 use ice_terms::Prices;
 use ice_tree::Bounds;
 

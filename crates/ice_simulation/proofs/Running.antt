@@ -11,11 +11,11 @@ use Rattle.ice_defs.specs.Exchange.{Bidder, Exchange, trees_of, names_of, openin
 use Rattle.ice_defs.specs.Lawful.{AreBounds}
 use Rattle.ice_defs.specs.Session.{Going, standings}
 use Rattle.ice_defs.specs.Right.{bounds_after_round, bounds_after_rounds}
-use Rattle.ice_rounds.specs.Keeping.{HaveBounds}
-use Rattle.ice_rounds.proofs.Naming.{standings_are_named}
+use Rattle.ice_round_laws.specs.Keeping.{HaveBounds}
+use Rattle.ice_round_laws.proofs.Naming.{standings_are_named}
 use Rattle.ice_round.specs.SessionAt.{SessionAt, RoundAt, session_after}
-use Rattle.ice_round_laws.specs.Running.{IsInRound, IsRunning}
-use Rattle.ice_round_laws.proofs.Rounds.{round_ends}
+use Rattle.ice_session_laws.specs.Running.{IsInRound, IsRunning}
+use Rattle.ice_session_laws.proofs.Rounds.{round_ends}
 use Rattle.ice_proxy.specs.Sessions.{IsProxyRound, IsProxyFrom, HoldTruths}
 use Rattle.ice_proxy.proofs.Sessions.{all_hold, all_sure}
 use Rattle.ice_proxy_laws.specs.Laws.{IsProxyFront}

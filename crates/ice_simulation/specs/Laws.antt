@@ -5,7 +5,7 @@ use Rattle.ice_defs.specs.Exchange.{Exchange, opening_bounds}
 use Rattle.ice_defs.specs.Lawful.{IsExchange}
 use Rattle.ice_defs.specs.Session.{Going, standings}
 use Rattle.ice_round.specs.SessionAt.{SessionAt, RoundAt, session_after}
-use Rattle.ice_round_laws.specs.Running.{IsInRound}
+use Rattle.ice_session_laws.specs.Running.{IsInRound}
 use Rattle.ice_proxy.specs.Sessions.{IsProxyFrom, HoldTruths, AreAccepted}
 use Rattle.ice_proxy_laws.specs.Laws.{IsProxyFront}
 use Rattle.ice_simulation.specs.TruthFile.{truth_fault, truth_lists}

@@ -16,4 +16,3 @@ then_put {old = old} {mid = mid} {f = f} {g = g} piece rest (Err fault) new h ta
 pub first_fails : {old new : Option (List ℕ)} {f g : ℕ} (piece rest : List ℕ) (put : Result (Unit {0}) SinkFault) (fault : SinkFault) → put ≡ Err fault → FailsIn piece old new f g → IsPut (piece ++ rest) put old new f g
 first_fails {old = old} {new = new} {f = f} {g = g} piece rest put fault is fails =
     subst (λ r. IsPut (piece ++ rest) r old new f g) (sym is) (record { front = front-append old new piece rest fails.front; rose = fails.rose; later = fails.later })
-

@@ -6,9 +6,9 @@ ghost use Rattle.ice_journal.specs.Lines.{record_of};
 ghost use Rattle.ice_journal_laws.specs.Answers.{AnswersJournal};
 ghost use Rattle.ice_statement.specs.Judging.{is_session, end_at, has_bidder, MayState, IsEnd, Finds};
 
+use ice_check::{Answer, CheckEnd, Rule, check};
 use ice_journal::{Kind, Line, read_record};
 use ice_line::split_line;
-use ice_pieces::{Answer, CheckEnd, Rule, check};
 use std::alloc::Global;
 
 /// Why there is no statement.
@@ -68,7 +68,10 @@ fn end_at(line: &Line, name: &[u8]) -> Option<bool>
     ensures { result ≡ end_at name.now (record_of line.now) }
 {
     match line {
-        Line::Bidder { name: other, own: _ } => {
+        Line::Bidder {
+            name: other,
+            own: _,
+        } => {
             if name == other.bytes() {
                 Some(true)
             } else {

@@ -8,6 +8,6 @@ mod putting;
 #[cfg(test)]
 mod tests;
 
-pub use ice_pieces::Rule;
+pub use ice_check::Rule;
 pub use judging::{StatementEnd, judge};
 pub use putting::put_statement;

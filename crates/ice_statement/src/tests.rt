@@ -1,8 +1,8 @@
 //! Tests of what is judged and put.
 use crate::judging::{StatementEnd, judge};
 use crate::putting::put_statement;
+use ice_check::Rule;
 use ice_edge::{MemSink, SinkFault};
-use ice_pieces::Rule;
 use std::alloc::{AllocError, Global};
 use std::test::Fail;
 
@@ -157,7 +157,10 @@ const CASES: [Case; 14] = [
     },
     Case {
         lines: &CLOSED,
-        changes: &[(26, "submit zz 1 16 1 18\n"), (27, "verdict 45\nsubmit b 1 16 1 18\nverdict accepted\n")],
+        changes: &[
+            (26, "submit zz 1 16 1 18\n"),
+            (27, "verdict 45\nsubmit b 1 16 1 18\nverdict accepted\n"),
+        ],
         name: "s",
         found: Ok(&SELLER),
     },

@@ -8,7 +8,7 @@ use Rattle.std.proofs.lemmas.Option.{none-some, slice_get_within}
 use Rattle.std.proofs.lemmas.List.{append-nil, map-append, length-map}
 use Rattle.std.proofs.lemmas.List.Concat.{flat_map-cons}
 use Rattle.ice_defs.proofs.Naming.{bytes_eq-same}
-use Rattle.ice_rounds.proofs.Names.{false_at_others}
+use Rattle.ice_round_laws.proofs.Names.{false_at_others}
 use Rattle.ice_defs.specs.declared.NodeKind.{NodeKind}
 use Rattle.ice_defs.specs.declared.NodeKind.TheVariants.{Choose, Buy, Sell}
 use Rattle.ice_defs.specs.Sum.{numbers_below}

@@ -17,7 +17,7 @@ use Rattle.ice_defs.specs.Exchange.{Bidder, names_of}
 use Rattle.ice_defs.specs.Lawful.{AreBounds}
 use Rattle.ice_defs.specs.Session.{standings_from, standings}
 use Rattle.ice_defs.proofs.Naming.{bytes_eq-same}
-use Rattle.ice_rounds.proofs.Naming.{standings_are_named}
+use Rattle.ice_round_laws.proofs.Naming.{standings_are_named}
 use Rattle.ice_rules.proofs.Exact.{exact_is_accepted, accepted_alone}
 use Rattle.ice_trial.specs.Truths.{IsTruth, AreTruths, truth_bids}
 use Rattle.ice_trial.specs.Laws.{TruthsAreAccepted}

@@ -18,7 +18,7 @@ use Rattle.ice_round.specs.Shown.{IsClosing, IsOpening}
 use Rattle.ice_round.specs.Ends.{IsLimitAt, at_pricing}
 use Rattle.ice_settled.specs.declared.settled.Closing.{Closing}
 use Rattle.ice_settled.specs.declared.settled.Opening.{Opening}
-use Rattle.ice_round_laws.specs.Running.{IsRunning}
+use Rattle.ice_session_laws.specs.Running.{IsRunning}
 use Rattle.ice_trial.proofs.Exact.{exact_bounds_have_no_regret}
 use Rattle.ice_trial.specs.declared.summary.Summary.{Summary}
 use Rattle.ice_trial.specs.declared.trial.TruthRound.{TruthRound}

@@ -6,8 +6,8 @@ use Rattle.ice_defs.specs.Trade.{Assignment, total_value, IsBestOfAll}
 use Rattle.ice_defs.specs.Bounds.{Bounds}
 use Rattle.ice_defs.specs.Weighing.{lower_weights, perturbed_list, perturbed_weights}
 use Rattle.ice_defs.specs.Regret.{IsRegret}
-use Rattle.ice_laws.proofs.Perturbed.{perturbed_gives_regret}
-use Rattle.ice_laws.proofs.Regrets.{regret_is_one}
+use Rattle.ice_regret_laws.proofs.Perturbed.{perturbed_gives_regret}
+use Rattle.ice_regret_laws.proofs.Regrets.{regret_is_one}
 use Rattle.ice_trial.specs.Truths.{AreExact}
 use Rattle.ice_trial.specs.Laws.{ExactBoundsHaveNoRegret}
 

@@ -8,8 +8,8 @@ use Rattle.ice_journal.specs.Ranges.{IsRecord}
 use Rattle.ice_journal_laws.specs.Written.{judged_records}
 use Rattle.ice_verdicts.specs.Judges.{Round, bidders_in, bidder_named, with_taken, round_after, IsAfter}
 use Rattle.ice_round.specs.SessionAt.{RoundAt}
-use Rattle.ice_round_laws.specs.Running.{IsInRound}
-use Rattle.ice_round_laws.proofs.Rounds.{round_goes_on}
+use Rattle.ice_session_laws.specs.Running.{IsInRound}
+use Rattle.ice_session_laws.proofs.Rounds.{round_goes_on}
 use Rattle.ice_trial.specs.Rounds.{GoesOnBy, Submits, HaveSubmitted}
 
 -- ---- what a submission leaves as it was

@@ -18,9 +18,9 @@ use Rattle.ice_round.specs.Shown.{IsOpening}
 use Rattle.ice_settled.specs.declared.settled.Opening.{Opening}
 use Rattle.ice_write_session.specs.Writable.{IsWritableOpening}
 use Rattle.ice_write_session.proofs.Lawful.{opening_are_records}
-use Rattle.ice_round_laws.specs.Running.{IsRunning, IsInRound}
-use Rattle.ice_round_laws.proofs.Rounds.{round_begins, round_ends}
-use Rattle.ice_round_laws.proofs.Ends.{opening_may_be_written}
+use Rattle.ice_session_laws.specs.Running.{IsRunning, IsInRound}
+use Rattle.ice_session_laws.proofs.Rounds.{round_begins, round_ends}
+use Rattle.ice_session_laws.proofs.Ends.{opening_may_be_written}
 use Rattle.ice_trial.specs.Truths.{AreTruths, AreExact, truth_bids}
 use Rattle.ice_trial.proofs.Accepted.{truths_are_accepted}
 use Rattle.ice_trial.specs.declared.trial.TruthRound.{TruthRound}

@@ -4,7 +4,7 @@ use Rattle.ice_defs.specs.Bounds.{Bounds}
 use Rattle.ice_defs.specs.Exchange.{Exchange}
 use Rattle.ice_round.specs.SessionAt.{SessionAt}
 use Rattle.ice_round.specs.Ends.{IsHaltOf, IsSpentAt, IsLimitAt}
-use Rattle.ice_round_laws.specs.Running.{IsRunning}
+use Rattle.ice_session_laws.specs.Running.{IsRunning}
 use Rattle.ice_trial.specs.declared.trial.TruthRound.{TruthRound}
 use Rattle.ice_trial.specs.declared.trial.TrialEnd.{TrialEnd}
 use Rattle.ice_trial.specs.declared.trial.TrialEnd.TheVariants as ends

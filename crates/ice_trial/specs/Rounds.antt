@@ -8,7 +8,7 @@ use Rattle.ice_defs.specs.Session.{Going}
 use Rattle.ice_round.specs.SessionAt.{SessionAt, RoundAt}
 use Rattle.ice_settled.specs.Shown.{going_of}
 use Rattle.ice_write_session.specs.Writable.{IsWritableOpening}
-use Rattle.ice_round_laws.specs.Running.{IsRunning, IsInRound}
+use Rattle.ice_session_laws.specs.Running.{IsRunning, IsInRound}
 use Rattle.ice_trial.specs.Truths.{AreExact, truth_bids}
 use Rattle.ice_trial.specs.declared.trial.TruthRound.{TruthRound}
 

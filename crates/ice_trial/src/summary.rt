@@ -3,8 +3,8 @@ ghost use Rattle.std.specs.Prelude.{◌≡◌};
 
 use ice_frac::Frac;
 use ice_regret::Regret;
-use ice_settled::Closing;
 use ice_search::Found;
+use ice_settled::Closing;
 
 /// The figures of a trial that closed.
 #[derive(Drop)]

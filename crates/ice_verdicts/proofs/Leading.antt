@@ -15,13 +15,13 @@ use Rattle.ice_defs.specs.Exchange.{Exchange, Bidder, names_of, trees_of}
 use Rattle.ice_defs.specs.Lawful.{IsExchange}
 use Rattle.ice_defs.specs.Session.{standings_from}
 use Rattle.ice_defs.proofs.Naming.{same-bytes_eq, bytes_eq-same}
-use Rattle.ice_rounds.specs.Entries.{Entry, with_bounds, entry_after, entries_after, is_entered, IsVerdictBy, entry_of, entries_of}
-use Rattle.ice_rounds.specs.Running.{names_in}
-use Rattle.ice_rounds.proofs.Names.{false_at_others}
-use Rattle.ice_rounds.proofs.Naming.{standings_are_named, standing_is}
-use Rattle.ice_rounds.proofs.Single.{one_entry_decides, no_entry_decides, one_entry_changes, accepted_is_taken, others_change_nothing}
-use Rattle.ice_rounds.proofs.Entering.{entries_go_on, entries_tell_bounds}
-use Rattle.ice_rounds.proofs.Taking.{entries_tell_verdict}
+use Rattle.ice_round_laws.specs.Entries.{Entry, with_bounds, entry_after, entries_after, is_entered, IsVerdictBy, entry_of, entries_of}
+use Rattle.ice_round_laws.specs.Running.{names_in}
+use Rattle.ice_round_laws.proofs.Names.{false_at_others}
+use Rattle.ice_round_laws.proofs.Naming.{standings_are_named, standing_is}
+use Rattle.ice_round_laws.proofs.Single.{one_entry_decides, no_entry_decides, one_entry_changes, accepted_is_taken, others_change_nothing}
+use Rattle.ice_round_laws.proofs.Entering.{entries_go_on, entries_tell_bounds}
+use Rattle.ice_round_laws.proofs.Taking.{entries_tell_verdict}
 use Rattle.ice_verdicts.specs.Judges.{Round, IsRoundOf, bidders_in, bidder_in, is_marked, bidder_named, IsVerdictOf, with_taken, marks_after, IsAfter}
 use Rattle.ice_verdicts.specs.Laws.{RoundBegins, VerdictIsNext, RoundGoesOn}
 

@@ -9,7 +9,7 @@ use Rattle.ice_defs.specs.Prices.{Prices}
 use Rattle.ice_defs.specs.Exchange.{Bidder, Exchange, trees_of, opening_bounds}
 use Rattle.ice_defs.specs.Lawful.{AreBounds, IsExchange}
 use Rattle.ice_defs.proofs.EmptySets.{set_of-empty, empty_satisfied, length-empty_sets}
-use Rattle.ice_rounds.proofs.Keeping.{bounds_at, opening_have_bounds}
+use Rattle.ice_round_laws.proofs.Keeping.{bounds_at, opening_have_bounds}
 use Rattle.ice_verdicts.specs.Judges.{Round, IsRoundOf, IsAfter}
 use Rattle.ice_verdicts.proofs.Leading.{round_begins}
 

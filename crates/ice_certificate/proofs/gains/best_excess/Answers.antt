@@ -2,7 +2,7 @@ use Rattle.std.proofs.Common.{◌≡◌, ◌∙◌, ap, sym, ◌-ℤ◌, arith, 
 use mir.Syntax.{w128}
 use Rattle.std.proofs.lemmas.Int.{ints}
 use Rattle.ice_defs.specs.Rules.{net_at}
-use Rattle.ice_net.specs.Net.{IsBestAtPrices}
+use Rattle.ice_best_at_prices.specs.Net.{IsBestAtPrices}
 use Rattle.ice_certificate.proofs.gains.best_excess.Goals as goal
 
 pub returns-clause-greatest : goal.returns-clause-greatest

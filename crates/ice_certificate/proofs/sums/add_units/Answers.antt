@@ -3,7 +3,7 @@ use mir.Syntax.{w128}
 use Rattle.std.proofs.lemmas.Int.{ints}
 use Rattle.ice_defs.specs.Set.{weight_of}
 use Rattle.ice_best.proofs.Sales.{put_each}
-use Rattle.ice_rows.specs.Sizes.{IsSizedWithin}
+use Rattle.ice_row_laws.specs.Sizes.{IsSizedWithin}
 use Rattle.ice_certificate.proofs.sums.add_units.Goals as goal
 
 pub overflow_add-sums : goal.overflow_add-sums

@@ -1,7 +1,7 @@
 use Rattle.std.proofs.Common.{◌^◌, ◌≤◌, length, arith}
 use Rattle.std.proofs.lemmas.Int.{ints}
 use Rattle.ice_defs.specs.Set.{value}
-use Rattle.ice_rows.specs.Sizes.{IsSizedWithin}
+use Rattle.ice_row_laws.specs.Sizes.{IsSizedWithin}
 use Rattle.ice_certificate.proofs.Worths.{value-within}
 use Rattle.ice_certificate.proofs.sums.worth_above.Goals as goal
 

@@ -6,8 +6,8 @@ use Rattle.ice_journal.specs.Journal.{bytes_of}
 use Rattle.ice_search.specs.Results.{proved_spent}
 use Rattle.ice_write_session.specs.Records.{halt_records, spent_records, limit_records}
 use Rattle.ice_write_session.specs.Writable.{IsWritable}
-use Rattle.ice_round_laws.specs.Written.{begun_records}
-use Rattle.ice_round_laws.proofs.Ends.{spent_may_be_written, limit_may_be_written}
+use Rattle.ice_session_laws.specs.Written.{begun_records}
+use Rattle.ice_session_laws.proofs.Ends.{spent_may_be_written, limit_may_be_written}
 use Rattle.ice_gen.specs.Generated.{generated, truths}
 use Rattle.ice_trial.specs.Rounds.{goings_of}
 use Rattle.ice_cli.specs.GenServed.{summary_text}

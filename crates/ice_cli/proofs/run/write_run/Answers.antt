@@ -2,7 +2,7 @@ use Rattle.std.proofs.Common.{[], map, refl}
 use Rattle.std.specs.Prelude.{string_bytes}
 use Rattle.ice_cli.proofs.Parts.{later_refl}
 use Rattle.ice_cli.proofs.RunPlaying.{begins, begins_without_memory, begin_fails}
-use Rattle.ice_round_laws.proofs.Rounds.{run_begins}
+use Rattle.ice_session_laws.proofs.Rounds.{run_begins}
 use Rattle.ice_cli.proofs.run.write_run.Goals as goal
 
 pub same-exchange : goal.same-exchange

@@ -1,7 +1,7 @@
 use Rattle.std.proofs.Common.{◌≡◌, ◌<◌, [], ◌∷◌, length, sym, refl, rules, arith, get_or}
 use Rattle.std.proofs.lemmas.Result.{err_from_is_err_and}
 use Rattle.ice_defs.specs.Round.{Judged}
-use Rattle.ice_round_laws.proofs.Verdicts.{verdict_may_be_written}
+use Rattle.ice_session_laws.proofs.Verdicts.{verdict_may_be_written}
 use Rattle.ice_trial.specs.Rounds.{GoesOnBy}
 use Rattle.ice_trial.proofs.Submitting.{goes_on_one}
 use Rattle.ice_cli.proofs.RunJudging.{none_judged, one_judged, one_fails, all_judged}

@@ -6,7 +6,7 @@ use Rattle.ice_journal.specs.Spelling.{line_of}
 use Rattle.ice_journal.specs.Journal.{bytes_of}
 use Rattle.ice_section.specs.Described.{section_records}
 use Rattle.ice_write.proofs.Loops.{fails_as, first_fails, then_put}
-use Rattle.ice_round_laws.specs.Written.{begun_records}
+use Rattle.ice_session_laws.specs.Written.{begun_records}
 use Rattle.ice_cli.proofs.run_journal.put_begin.Goals as goal
 
 pub returns-in_err-put_record : goal.returns-in_err-put_record

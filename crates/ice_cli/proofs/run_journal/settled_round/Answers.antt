@@ -5,7 +5,7 @@ use Rattle.ice_journal.specs.Journal.{bytes_of}
 use Rattle.ice_search.specs.Results.{proved_spent}
 use Rattle.ice_write_session.specs.Records.{opening_records}
 use Rattle.ice_write_session.specs.Writable.{IsWritable, IsWritableOpening}
-use Rattle.ice_round_laws.proofs.Ends.{opening_may_be_written, closing_may_be_written, spent_may_be_written, limit_may_be_written}
+use Rattle.ice_session_laws.proofs.Ends.{opening_may_be_written, closing_may_be_written, spent_may_be_written, limit_may_be_written}
 use Rattle.ice_cli.proofs.RunPlaying.{ends_without_memory, ends_closed, ends_spent, ends_limited, opens, opening_fails}
 use Rattle.ice_cli.proofs.run_journal.settled_round.Goals as goal
 

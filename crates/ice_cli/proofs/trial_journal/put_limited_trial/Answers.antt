@@ -2,7 +2,7 @@ use Rattle.std.proofs.Common.{◌++◌}
 use Rattle.std.proofs.lemmas.Result.{err_from_is_err_and}
 use Rattle.ice_write_session.specs.Records.{halt_records, limit_records}
 use Rattle.ice_write_session.proofs.Puts.{fails_first, put_last, put_failed}
-use Rattle.ice_round_laws.specs.Written.{begun_records}
+use Rattle.ice_session_laws.specs.Written.{begun_records}
 use Rattle.ice_cli.proofs.trial_journal.put_limited_trial.Goals as goal
 
 pub returns-in_err-put_begin : goal.returns-in_err-put_begin

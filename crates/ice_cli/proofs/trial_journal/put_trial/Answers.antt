@@ -1,7 +1,7 @@
 use Rattle.std.proofs.Common.{◌++◌}
 use Rattle.std.proofs.lemmas.Result.{err_from_is_err_and}
 use Rattle.ice_write_session.proofs.Puts.{fails_first, put_last, put_failed}
-use Rattle.ice_round_laws.specs.Written.{begun_records}
+use Rattle.ice_session_laws.specs.Written.{begun_records}
 use Rattle.ice_cli.specs.GenJournal.{first_records}
 use Rattle.ice_cli.proofs.trial_journal.put_trial.Goals as goal
 

@@ -4,7 +4,7 @@ use Rattle.std.proofs.lemmas.Int.{ints}
 use Rattle.ice_defs.specs.Prices.{cost_of}
 use Rattle.ice_defs.specs.Set.{units}
 use Rattle.ice_defs.specs.Trade.{tree_of, set_of}
-use Rattle.ice_rows.specs.Sizes.{IsSizedWithin}
+use Rattle.ice_row_laws.specs.Sizes.{IsSizedWithin}
 use Rattle.ice_fair.specs.Trades.{num_at}
 use Rattle.ice_fair.proofs.gaps.gap.Goals as goal
 

@@ -3,7 +3,7 @@ use Rattle.std.specs.Int.{int_max}
 use mir.Syntax.{w128}
 use Rattle.std.proofs.lemmas.Int.{ints}
 use Rattle.ice_defs.proofs.Sums.{sum_below_more}
-use Rattle.ice_rows.specs.Sums.{units_in}
+use Rattle.ice_row_laws.specs.Sums.{units_in}
 use Rattle.ice_fair.specs.Trades.{held_units_by}
 use Rattle.ice_fair.proofs.held.asked.Goals as goal
 

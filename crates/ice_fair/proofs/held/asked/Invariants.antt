@@ -1,7 +1,7 @@
 use Rattle.std.proofs.Common.{◌≡◌, ◌*◌, ◌^◌, pos, ◌≤ℤ◌, ◌+ℤ◌, ◌*ℤ◌}
 use Rattle.std.specs.Int.{int_max}
 use Rattle.ice_defs.specs.Sum.{sum_below}
-use Rattle.ice_rows.specs.Sums.{units_in}
+use Rattle.ice_row_laws.specs.Sums.{units_in}
 use Rattle.ice_fair.specs.Trades.{held_units_by}
 use Rattle.ice_fair.proofs.held.asked.Given as goal
 

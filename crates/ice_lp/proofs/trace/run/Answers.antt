@@ -1,7 +1,7 @@
 use Rattle.std.proofs.Common.{◌≡◌, ◌∙◌, ◌-◌, ◌<◌, ◌≤◌, arith, sym, subst, Some}
 use Rattle.ice_defs.specs.Dictionary.{pivoted}
-use Rattle.ice_programs.specs.Solutions.{IsPivot}
-use Rattle.ice_programs.proofs.Pivot.{pivot_keeps_solutions}
+use Rattle.ice_program_laws.specs.Solutions.{IsPivot}
+use Rattle.ice_program_laws.proofs.Pivot.{pivot_keeps_solutions}
 use Rattle.ice_lp.specs.declared.trace.Turn.TheVariants.{Least, Unbounded, Pivot}
 use Rattle.ice_lp.specs.Turning.{IsPivotTurn}
 use Rattle.ice_lp.proofs.TraceEnds.{wide_err, choice_is, after_pivot, wide_pivot, spent, least_is, unbounded_is, wide_is}

@@ -5,7 +5,7 @@ use mir.Syntax.{w128}
 use mir.Val.{SFits}
 use Rattle.ice_defs.specs.Sum.{sum_over}
 use Rattle.ice_defs.specs.Right.{own_values}
-use Rattle.ice_promise.proofs.OwnValues.{own_count, own_sum}
+use Rattle.ice_headline_laws.proofs.OwnValues.{own_count, own_sum}
 use Rattle.ice_threshold.specs.Limits.{IsVickreyLimit}
 use Rattle.ice_trade.proofs.Weighted.{length-trees}
 use Rattle.ice_vickrey.specs.Economy.{economy_at}

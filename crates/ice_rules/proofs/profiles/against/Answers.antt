@@ -1,6 +1,6 @@
 use Rattle.std.proofs.Common.{◌≡◌, ◌∙◌, length, sym}
 use Rattle.ice_defs.proofs.Weights.{length-perturbed_list, weight_of-perturbed_list}
-use Rattle.ice_net.proofs.Modest.{perturbed-modest}
+use Rattle.ice_best_at_prices.proofs.Modest.{perturbed-modest}
 use Rattle.ice_rules.proofs.profiles.against.Goals as goal
 
 pub returns-clause-values : goal.returns-clause-values

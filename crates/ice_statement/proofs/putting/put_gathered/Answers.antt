@@ -26,7 +26,7 @@ loop-text-preserved g c = record {
   sets = omega (arith, c.loop-text.invariant.sets, c.take.ensures.sets, ap length c.in-Some.ensures.0, length-append c.in-Some.text.now (10 ∷ c.in-Some.after.now));
   put = λ journal is.
       one_put (gathering c.args.name.now) c.loop-text.gathering c.loop-text.rest.now c.in-Some.text.now c.in-Some.after.now journal (record_of c.in-Some-read_record.line) _ _ _ _ _ _
-          (c.loop-text.invariant.put journal is) c.in-Some.ensures c.in-Some-read_record.ensures c.take.new.self c.take.ensures.after c.in_ok-put_added.ensures;
+      (c.loop-text.invariant.put journal is) c.in-Some.ensures c.in-Some-read_record.ensures c.take.new.self c.take.ensures.after c.in_ok-put_added.ensures;
 }
 
 pub returns : goal.returns

@@ -1,7 +1,7 @@
 use Rattle.std.proofs.Common.{[], ◌∷◌, sym, refl, rules, arith}
 use Rattle.ice_defs.specs.Round.{Judged}
 use Rattle.ice_write_session.proofs.Ranges.{bid_is}
-use Rattle.ice_round_laws.proofs.Verdicts.{verdict_may_be_written}
+use Rattle.ice_session_laws.proofs.Verdicts.{verdict_may_be_written}
 use Rattle.ice_trial.specs.Rounds.{GoesOnBy}
 use Rattle.ice_trial.proofs.Submitting.{goes_on_one, none_submitted, one_submitted, all_submitted}
 use Rattle.ice_trial.proofs.round.submit_all.Goals as goal

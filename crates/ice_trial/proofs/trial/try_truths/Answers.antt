@@ -1,4 +1,4 @@
-use Rattle.ice_round_laws.proofs.Rounds.{run_begins}
+use Rattle.ice_session_laws.proofs.Rounds.{run_begins}
 use Rattle.ice_trial.proofs.trial.try_truths.Goals as goal
 
 pub settle_twice-requires-clause-running : goal.settle_twice-requires-clause-running

@@ -2,9 +2,9 @@ use Rattle.std.proofs.Common.{◌≡◌, ◌∙◌, ◌+◌, ◌*◌, ◌≤◌,
 use mir.Syntax.{w128}
 use Rattle.std.proofs.lemmas.Int.{ints}
 use Rattle.ice_defs.specs.Set.{weight_of, value, units}
-use Rattle.ice_rows.specs.Sums.{RowSums, units_in}
-use Rattle.ice_rows.specs.Sizes.{IsSizedWithin}
-use Rattle.ice_rows.proofs.Sizes.{times-within}
+use Rattle.ice_row_laws.specs.Sums.{RowSums, units_in}
+use Rattle.ice_row_laws.specs.Sizes.{IsSizedWithin}
+use Rattle.ice_row_laws.proofs.Sizes.{times-within}
 use Rattle.ice_certificate.proofs.sums.RowSums.add.Goals as goal
 
 pub add_units-requires-clause-sized : goal.add_units-requires-clause-sized

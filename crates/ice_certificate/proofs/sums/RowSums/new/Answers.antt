@@ -1,7 +1,7 @@
 use Rattle.std.proofs.Common.{pos, refl, arith, sym, subst}
 use Rattle.std.proofs.lemmas.Int.{ints}
 use Rattle.std.proofs.lemmas.List.{get_or-replicate}
-use Rattle.ice_rows.specs.Sizes.{IsSizedWithin}
+use Rattle.ice_row_laws.specs.Sizes.{IsSizedWithin}
 use Rattle.ice_certificate.proofs.sums.RowSums.new.Goals as goal
 
 nothing : IsSizedWithin 0 (pos 0)

@@ -1,7 +1,7 @@
 use Rattle.std.proofs.Common.{◌≡◌, ◌*◌, ◌^◌, ◌≤◌, ap, arith}
-use Rattle.ice_rows.specs.Sums.{RowSums}
+use Rattle.ice_row_laws.specs.Sums.{RowSums}
 use Rattle.std.proofs.lemmas.Int.{ints}
-use Rattle.ice_rows.specs.Sizes.{IsSizedWithin}
+use Rattle.ice_row_laws.specs.Sizes.{IsSizedWithin}
 use Rattle.ice_certificate.proofs.sums.RowSums.worth.Goals as goal
 
 pub returns-clause-low : goal.returns-clause-low

@@ -1,7 +1,7 @@
 use Rattle.std.proofs.Common.{◌≡◌, ◌∙◌, ap, pos, ◌-ℤ◌, ◌*ℤ◌, arith, rules, to_z, of_z}
 use mir.Syntax.{w128}
 use Rattle.std.proofs.lemmas.Int.{ints}
-use Rattle.ice_rows.specs.Sums.{wanted_in}
+use Rattle.ice_row_laws.specs.Sums.{wanted_in}
 use Rattle.ice_certificate.proofs.sums.RowSums.worth_at_cap.Goals as goal
 
 pub returns-clause-value : goal.returns-clause-value

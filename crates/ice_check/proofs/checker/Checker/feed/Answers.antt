@@ -1,24 +1,18 @@
-use Rattle.std.proofs.Common.{ℕ, IsTrue, ◌+◌, suc, refl, sym, ◌∙◌, ap, subst, add-one}
-use Rattle.ice_journal.specs.Lines.{record_of}
-use Rattle.ice_check.specs.declared.stage.Stage.{Stage}
-use Rattle.ice_check.specs.Checking.{Checking, HasCome}
-use Rattle.ice_check.specs.Stages.{IsProgress, is_ready_stage}
+use Rattle.std.proofs.Common.{[], ◌∷◌, ◌++◌, List, ℕ, sym, ◌∙◌, ap, subst, arith, append_assoc, length-append}
+use Rattle.ice_check.specs.Standing.{StandsFor}
+use Rattle.ice_check.proofs.Standing.{more_fed}
 use Rattle.ice_check.proofs.checker.Checker.feed.Goals as goal
 
-pub returns : goal.returns
-returns c =
-    let n = c.self.inside.next_line in
-    record {
-      after = λ p come.
-          let x = c.in_ok-next.ensures.after p (subst (λ (s : Stage). IsProgress n s p) (sym c.replace-stage.ensures.value) (subst (λ (v : Checking). HasCome v p) (sym c.self.view_is) come)) in
-          record {
-            after = x.after;
-            leads = x.leads;
-            come = subst (λ (s : Stage). IsProgress (n + 1) s x.after) (sym c.replace.ensures.after) (subst (λ (m : ℕ). IsProgress m c.in_ok-next.next x.after) (sym (add-one n)) x.stands);
-          };
-      line = add-one n ∙ ap (λ (v : Checking). suc v.line) c.self.view_is;
-      stopped = tt;
-      ready = λ p come is. refl;
-      once = λ is. refl;
-      stays = λ is. subst (λ (s : Stage). IsTrue (is_ready_stage s)) (sym c.replace.ensures.after) (c.in_ok-next.ensures.stays (subst (λ (s : Stage). IsTrue (is_ready_stage s)) (sym c.replace-stage.ensures.value) (subst (λ (v : Checking). IsTrue (is_ready_stage v.stage)) (sym c.self.view_is) is)));
-    }
+pub loop-text-preserved : goal.loop-text-preserved
+loop-text-preserved c =
+    let text = c.in-Some.text.now in
+    more_fed c.args.piece.now c.loop-text.rest.now (text ++ 10 ∷ []) c.in-Some.after.now c.args.self.now c.loop-text.self c.end_line.new.self c.loop-text.invariant
+    (c.in-Some.ensures.0 ∙ sym (append_assoc text (10 ∷ []) c.in-Some.after.now))
+    (omega (arith, c.in_ok-end_line.ensures.count, length-append text (10 ∷ [])))
+    c.in_ok-end_line.ensures.after c.in_ok-end_line.ensures.stays
+
+pub returns-clause-after : goal.returns-clause-after
+returns-clause-after c = λ bytes stands.
+    let fed = c.loop-text.invariant in
+    subst (λ (b : List ℕ). StandsFor c.go_on.new.self b) (append_assoc bytes fed.taken c.loop-text.rest.now ∙ ap (λ (l : List ℕ). bytes ++ l) (sym fed.parts))
+    (c.go_on.ensures.after (bytes ++ fed.taken) (fed.stands bytes stands))

@@ -1,6 +1,6 @@
 use Rattle.std.proofs.Common.{rules, IsTrue}
-use Rattle.ice_rows.specs.Sums.{SumsPassBalance}
-use Rattle.ice_rows.proofs.Sums.{sums_decide_balance}
+use Rattle.ice_row_laws.specs.Sums.{SumsPassBalance}
+use Rattle.ice_row_laws.proofs.Sums.{sums_decide_balance}
 use Rattle.ice_pricing.proofs.certificate.Certificate.passes_balance.Goals as goal
 
 pub returns-in-Some-clause-yes : goal.returns-in-Some-clause-yes

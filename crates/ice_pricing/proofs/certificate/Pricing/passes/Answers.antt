@@ -1,7 +1,7 @@
 use Rattle.std.proofs.Common.{◌≡◌, IsTrue, rules}
 use Rattle.ice_defs.specs.Prices.{ArePrices}
 use Rattle.ice_defs.specs.Rows.{PassesAccuracy, PassesBalance, HasCommonDivisor}
-use Rattle.ice_rows.proofs.Balanced.{tests_give_balanced}
+use Rattle.ice_row_laws.proofs.Balanced.{tests_give_balanced}
 use Rattle.ice_pricing.specs.Provisional.{IsProvisional}
 use Rattle.ice_pricing.specs.Priced.{HasViolation}
 use Rattle.ice_pricing.proofs.Violations.{violation-same}

@@ -1,5 +1,5 @@
 use Rattle.std.proofs.Common.{rules, sym, subst, IsTrue}
-use Rattle.ice_rows.specs.Sums.{SumsPassAccuracy}
+use Rattle.ice_row_laws.specs.Sums.{SumsPassAccuracy}
 use Rattle.ice_pricing.specs.Tallies.{IsTallyOf}
 use Rattle.ice_pricing.proofs.Tallying.{accuracy_passes, passes_accuracy}
 use Rattle.ice_pricing.proofs.tally.Tally.passes_accuracy.Goals as goal

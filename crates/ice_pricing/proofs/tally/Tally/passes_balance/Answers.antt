@@ -1,5 +1,5 @@
 use Rattle.std.proofs.Common.{rules, sym, subst, IsTrue}
-use Rattle.ice_rows.specs.Sums.{SumsPassBalance}
+use Rattle.ice_row_laws.specs.Sums.{SumsPassBalance}
 use Rattle.ice_pricing.specs.Tallies.{IsTallyOf}
 use Rattle.ice_pricing.proofs.Tallying.{balance_passes, passes_balance}
 use Rattle.ice_pricing.proofs.tally.Tally.passes_balance.Goals as goal

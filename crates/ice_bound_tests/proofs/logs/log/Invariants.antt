@@ -1,6 +1,0 @@
-use Rattle.std.specs.List.{AllByRecursion}
-use Rattle.ice_refute.specs.Code.{CountsGoods}
-use Rattle.ice_bound_tests.proofs.logs.log.Given as goal
-
-abbrev pub invariant-loop-plain : goal.invariant-loop-plain
-invariant-loop-plain l = AllByRecursion (CountsGoods 1) l.log

@@ -1,0 +1,83 @@
+-- What one more line makes of the whole lines.
+use Rattle.std.proofs.Common.{◌≡◌, ◌<◌, ◌≤◌, ◌+◌, ℕ, suc, Bool, true, false, List, [], ◌∷◌, ◌++◌, length, Contains, refl, sym, ◌∙◌, ap, subst, arith, append_assoc, add-one, inr}
+use Rattle.ice_journal.specs.Records.{Record}
+use Rattle.ice_journal.specs.Ranges.{IsRecord}
+use Rattle.ice_journal.specs.Spelling.{text_of, line_of}
+use Rattle.ice_journal.specs.Journal.{bytes_of, IsNoRecord, grammar, unended, IsLinesFault}
+use Rattle.ice_journal_laws.specs.Progress.{Progress, is_ready}
+use Rattle.ice_check_records.specs.Checking.{Checking, HasCome, ComesTo}
+use Rattle.ice_check_records.proofs.Reading.{HasRead, one_read, grammar_fault, unended_fault, all_read}
+use Rattle.ice_check.specs.Standing.{AreTaken, AreRead, AreReadiness, ReadsOn, IsWithin}
+use Rattle.std.specs.Prelude.{Some, Result, Ok, Err, IfOk}
+use Rattle.ice_check.specs.declared.lines.Lines.{Lines}
+use Rattle.ice_check.specs.declared.lines.Lines.TheVariants as known
+
+-- the taken lines, before bytes that come after them
+before : (c : Checking) (whole rest : List ℕ) (h : AreTaken c whole) → HasRead (whole ++ rest) rest (length h.journal) c
+before c whole rest h = record {
+  records = h.journal;
+  lawful = h.spelled.lawful;
+  count_is = refl;
+  bytes_are = ap (λ (l : List ℕ). l ++ rest) h.spelled.spelled;
+  progress = h.progress;
+  leads = h.leads;
+  come = h.come;
+  line = h.line ∙ sym (add-one (length h.journal));
+}
+
+-- the line of a record
+pub one_more : (c d : Checking) (whole : List ℕ) (r : Record) → AreTaken c whole → IsRecord r → ((p : Progress) → HasCome c p → ComesTo p r d) → d.line ≡ suc c.line → AreTaken d (whole ++ line_of r)
+one_more c d whole r h is takes line =
+    let after = one_read (whole ++ line_of r) (line_of r) (text_of r) [] (length h.journal) c d r (before c whole (line_of r) h) refl is refl takes line in
+    record {
+      journal = after.records;
+      spelled = all_read (whole ++ line_of r) [] (length h.journal + 1) d after refl;
+      line = omega (arith, after.line, after.count_is);
+      progress = after.progress;
+      leads = after.leads;
+      come = after.come;
+    }
+
+-- the line of no record
+pub at_fault : (c : Checking) (whole text : List ℕ) → AreTaken c whole → ¬ Contains text 10 → IsNoRecord text → IsLinesFault (whole ++ (text ++ 10 ∷ [])) (grammar c.line)
+at_fault c whole text h one_line none =
+    subst (λ (n : ℕ). IsLinesFault (whole ++ (text ++ 10 ∷ [])) (grammar n)) (add-one (length h.journal) ∙ sym h.line)
+    (grammar_fault (whole ++ (text ++ 10 ∷ [])) (text ++ 10 ∷ []) text [] (length h.journal) c (before c whole (text ++ 10 ∷ []) h) refl one_line none)
+
+-- a line that has begun, where nothing more comes
+pub not_ended : (c : Checking) (whole text : List ℕ) → AreTaken c whole → ¬ Contains text 10 → 0 < length text → IsLinesFault (whole ++ text) (unended c.line)
+not_ended c whole text h one_line some =
+    subst (λ (n : ℕ). IsLinesFault (whole ++ text) (unended n)) (add-one (length h.journal) ∙ sym h.line)
+    (unended_fault (whole ++ text) text (length h.journal) c (before c whole text h) one_line some)
+
+-- the least line at fault stays it
+pub fault_stays : (whole more : List ℕ) (n : ℕ) → IsLinesFault whole (grammar n) → IsLinesFault (whole ++ more) (grammar n)
+fault_stays whole more n (text, after, comes, none) = (
+  text,
+  after ++ more,
+  record {
+    before = comes.before;
+    lawful = comes.lawful;
+    number_is = comes.number_is;
+    bytes_are =
+        ap (λ (l : List ℕ). l ++ more) comes.bytes_are ∙ append_assoc (bytes_of comes.before) (text ++ 10 ∷ after) more
+        ∙ ap (λ (l : List ℕ). bytes_of comes.before ++ l) (append_assoc text (10 ∷ after) more);
+    one_line = comes.one_line;
+  },
+  none,
+)
+
+-- whether the next lines want no memory
+pub taken_readiness : (c : Checking) (whole : List ℕ) (ready : Bool) → AreTaken c whole → ((p : Progress) → HasCome c p → ready ≡ is_ready p) → AreReadiness whole ready
+taken_readiness c whole true h is = inr (h.progress, (h.journal, h.spelled, h.leads), sym (is h.progress h.come))
+taken_readiness c whole false h is = (h.progress, (h.journal, h.spelled, h.leads), sym (is h.progress h.come))
+
+-- a line more, where its record is known
+pub with_record : {E : Type 0} (lines : Lines) (r : Record) (result : Result Lines E) → IfOk result (λ next. (whole : List ℕ) → AreRead lines whole → AreRead next (whole ++ line_of r)) → IfOk result (ReadsOn lines (Some r))
+with_record lines r (Ok next) goes = λ whole text read one_line reads. subst (λ (t : List ℕ). AreRead next (whole ++ (t ++ 10 ∷ []))) (sym reads.1) (goes whole read)
+with_record lines r (Err error) goes = tt
+
+pub within_more : (m n : ℕ) (lines : Lines) → m ≤ n → IsWithin m lines → IsWithin n lines
+within_more m n (known.Records checker) le h = omega (arith, le, h)
+within_more m n (known.Grammar line) le h = tt
+within_more m n known.OutOfMemory le h = tt

@@ -1,0 +1,6 @@
+use Rattle.ice_journal.specs.Lines.{record_of}
+use Rattle.ice_check_offer.proofs.Judging.{verdict_other}
+use Rattle.ice_check_offer.proofs.offer.Offer.take_verdict.Goals as goal
+
+pub returns-in-None : goal.returns-in-None
+returns-in-None c = λ number. verdict_other c.args.exchange.now number c.args.self.now c.args.due c.requires.place (record_of c.args.line.now) c.in-None.ensures

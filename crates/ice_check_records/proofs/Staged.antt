@@ -1,0 +1,55 @@
+-- What the stages of the checker stand for, behind the exchange and at the end.
+use Rattle.std.proofs.Common.{◌≡◌, ℕ, suc, Bool, true, false, refl, sym, ◌∙◌, ap, subst}
+use Rattle.std.specs.Prelude.{Option, Some, None, Ok, unwrap_or}
+use Rattle.ice_journal.specs.Records.{Record}
+use Rattle.ice_journal_laws.specs.declared.answer.Answer.{Answer}
+use Rattle.ice_journal_laws.specs.declared.answer.Answer.TheVariants.{No}
+use Rattle.ice_journal_laws.specs.declared.rule.Rule.TheVariants as rule
+use Rattle.ice_journal_laws.specs.State.{State}
+use Rattle.ice_journal_laws.specs.Answers.{EndsWith}
+use Rattle.ice_journal_laws.specs.Progress.{Progress, nothing, other_kind, passing, failed, out_of_memory, is_ready, IsAfter}
+use Rattle.ice_check_offer.specs.declared.fault.Fault.{Fault}
+use Rattle.ice_check_records.specs.declared.groups.Groups.{Groups}
+use Rattle.ice_check_records.specs.declared.stage.Stage.{Stage}
+use Rattle.ice_check_records.specs.declared.stage.Stage.TheVariants as stage
+use Rattle.ice_check_records.specs.Groups.{StandsFor}
+use Rattle.ice_check_records.specs.Taking.{failure_at, IsTaken, Fails, IsAnswer}
+use Rattle.ice_check_records.specs.Stages.{IsProgress, is_ready_stage}
+use Rattle.ice_check_records.proofs.Knowing.{stands_goes, stands_fails}
+use Rattle.ice_check_records.proofs.Ending.{stands_ready}
+
+-- the tests have come to a state of which this is known
+abbrev pub IsBehind : Groups → ℕ → Progress → Type 0
+IsBehind g n p = (s : State) × (p ≡ passing s) × (s.line ≡ n) × StandsFor g s
+
+-- a record that passes
+pub record GoesBehind (after : Groups) (n : ℕ) (p : Progress) (r : Record) : Type 0 where
+  pub state : State
+  pub leads : IsAfter p r (passing state)
+  pub line : state.line ≡ suc n
+  pub stands : StandsFor after state
+
+pub goes_behind : (g after : Groups) (r : Record) (n : ℕ) (p : Progress) → IsTaken g.next g r after → IsBehind g n p → GoesBehind after n p r
+goes_behind g after r n p taken (s, is, line, stands) =
+    let x = stands_goes g r after taken s stands in
+    record { state = x.state; leads = subst (λ (q : Progress). IsAfter q r (passing x.state)) (sym is) x.passes; line = x.line ∙ ap suc line; stands = x.stands }
+
+-- or that fails
+pub fails_behind : (g : Groups) (r : Record) (fault : Fault) (n : ℕ) (p : Progress) → Fails g.next g r fault → IsBehind g n p → IsAfter p r (failed (failure_at n fault))
+fails_behind g r fault n p fails (s, is, line, stands) =
+    subst (λ (q : Progress). IsAfter q r (failed (failure_at n fault))) (sym is)
+    (subst (λ (m : ℕ). IsAfter (passing s) r (failed (failure_at m fault))) line (stands_fails g r fault fails s stands))
+
+-- what is answered
+pub answers_behind : (g : Groups) (n : ℕ) (found : Option Answer) (p : Progress) → IsAnswer g found → IsBehind g n p → EndsWith p (Ok (unwrap_or found (No n rule.Short)))
+answers_behind g n None p h (s, is, line, stands) = subst (λ (q : Progress). EndsWith q (Ok (No n rule.Short))) (sym is) (h s stands, sym line, refl)
+answers_behind g n (Some answer) p h (s, is, line, stands) = subst (λ (q : Progress). EndsWith q (Ok answer)) (sym is) (h s stands)
+
+-- whether memory may be wanted
+pub ready_progress : (n : ℕ) (s : Stage) (p : Progress) → IsProgress n s p → is_ready_stage s ≡ is_ready p
+ready_progress n stage.Begin p is = ap is_ready (sym is)
+ready_progress n stage.OtherKind p is = ap is_ready (sym is)
+ready_progress n (stage.Describing head section) p is = ap is_ready (sym is)
+ready_progress n (stage.Behind groups) p (s, is, line, stands) = sym (ap is_ready is ∙ stands_ready groups.value s stands)
+ready_progress n (stage.Failed line rule) p is = ap is_ready (sym is)
+ready_progress n stage.OutOfMemory p is = ap is_ready (sym is)

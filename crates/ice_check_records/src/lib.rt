@@ -1,0 +1,22 @@
+//! The checker of journals: it takes one record at a time, and answers yes or names the first failed test.
+#![tactic(auto)]
+
+mod broken;
+mod checker;
+mod closing;
+mod describing;
+mod due;
+mod groups;
+mod halt;
+mod head;
+mod lines;
+mod log;
+mod next;
+mod opening;
+mod stage;
+mod stated;
+mod steps_in;
+
+pub use checker::Checker;
+pub use due::DueRegret;
+pub use ice_journal_laws::{Answer, CheckEnd, Rule};

@@ -1,0 +1,148 @@
+//! How far the records of a journal have come.
+ghost use Rattle.std.specs.Prelude.{◌≡◌, ◌≢◌, ℕ, suc, length, Err, IsTrue, IfOk, IfSome, IsOk};
+ghost use Rattle.ice_journal.specs.Lines.{record_of};
+ghost use Rattle.ice_journal.specs.Ranges.{IsRecord};
+ghost use Rattle.ice_journal_laws.specs.Progress.{Progress};
+ghost use Rattle.ice_journal_laws.specs.Answers.{EndsWith};
+ghost use Rattle.ice_check_records.specs.Stages.{IsProgress, is_ready_stage, IsAtLine, IsKept, LeadsOn, TakesFurther, failed_stage};
+ghost use Rattle.ice_check_records.specs.Taking.{failure_at};
+ghost use Rattle.ice_check_records.specs.Due.{awaits_prices, TellsDue};
+
+use crate::describing::{begin, describe};
+use crate::due::DueRegret;
+use crate::groups::Groups;
+use crate::halt::Halt;
+use crate::head::Head;
+use ice_check_offer::Fault;
+use ice_journal::Line;
+use ice_journal_laws::{Answer, CheckEnd, Rule};
+use ice_section::Section;
+use std::alloc::{AllocError, Global};
+
+/// How far the records of a journal have come.
+#[derive(Drop)]
+pub(crate) enum Stage {
+    /// No record is read yet.
+    Begin,
+    /// The first record is no head of a kind that is checked.
+    OtherKind,
+    /// The exchange is being described.
+    Describing(Head, Box<Section>),
+    /// What stands behind the exchange is being stated, or the journal has ended.
+    Behind(Box<Groups>),
+    /// The first failed test.
+    Failed { line: u64, rule: Rule },
+    /// No memory was left for a record.
+    OutOfMemory,
+}
+
+/// A record behind a complete exchange.
+fn take(mut groups: Box<Groups>, line: &Line) -> Result<Stage, Halt>
+    requires kept { IsKept (Stage.Behind groups) }
+    requires lawful { IsRecord (record_of line.now) }
+    ensures leads { LeadsOn (Stage.Behind groups) (record_of line.now) result }
+    ensures ready { result ≢ Err Halt.NoMemory }
+    ensures stays { IfOk result (λ next. IsTrue (is_ready_stage next)) }
+{
+    groups.take(line)?;
+    Ok(Stage::Behind(groups))
+}
+
+/// The stage of a fault that is found at the line with this number.
+fn failed(number: u64, fault: Fault) -> Stage
+    ensures { result ≡ failed_stage (failure_at number fault) }
+{
+    match fault {
+        Fault::Here(rule) => Stage::Failed { line: number, rule },
+        Fault::List(rule) => Stage::Failed {
+            line: number.saturating_sub(1),
+            rule,
+        },
+    }
+}
+
+impl Stage {
+    /// The stage after a record.
+    fn step(self, alloc: Global, line: &Line) -> Result<Stage, Halt>
+        requires kept { IsKept self }
+        requires lawful { IsRecord (record_of line.now) }
+        ensures leads { LeadsOn self (record_of line.now) result }
+        ensures ready { IsTrue (is_ready_stage self) → result ≢ Err Halt.NoMemory }
+        ensures stays { IsTrue (is_ready_stage self)
+            → IfOk result (λ next. IsTrue (is_ready_stage next)) }
+    {
+        match self {
+            Stage::Begin => begin(alloc, line),
+            Stage::OtherKind => Ok(Stage::OtherKind),
+            Stage::Describing(head, section) => describe(alloc, head, section, line),
+            Stage::Behind(groups) => take(groups, line),
+            Stage::Failed { line, rule } => Ok(Stage::Failed { line, rule }),
+            Stage::OutOfMemory => Err(Halt::NoMemory),
+        }
+    }
+
+    /// The stage after a record, which stands in the line with this number.
+    pub(crate) fn after(self, alloc: Global, number: u64, line: &Line) -> Result<Stage, AllocError>
+        requires within { IsAtLine number self }
+        requires lawful { IsRecord (record_of line.now) }
+        ensures after { IfOk result (λ next. (p : Progress) → IsProgress number self p
+            → TakesFurther number next p (record_of line.now)) }
+        ensures within { IfOk result (λ next. IsAtLine (suc number) next) }
+        ensures ready { IsTrue (is_ready_stage self) → IsOk result }
+        ensures stays { IsTrue (is_ready_stage self)
+            → IfOk result (λ next. IsTrue (is_ready_stage next)) }
+    {
+        match self.step(alloc, line) {
+            Ok(next) => Ok(next),
+            Err(Halt::Fails(fault)) => Ok(failed(number, fault)),
+            Err(Halt::NoMemory) => Err(AllocError),
+        }
+    }
+
+    /// What the tests find, where the records so far are the whole journal and the line with this number would be the next.
+    pub(crate) fn answer(&self, number: u64) -> Result<Answer, CheckEnd>
+        requires { IsKept self.now }
+        ensures { (p : Progress) → IsProgress number self.now p → EndsWith p result }
+    {
+        let short = Answer::No {
+            line: number,
+            rule: Rule::Short,
+        };
+        match self {
+            Stage::Begin | Stage::OtherKind => Err(CheckEnd::OtherKind),
+            Stage::Describing(_, _) => Ok(short),
+            Stage::Behind(groups) => Ok(groups.answer().unwrap_or(short)),
+            Stage::Failed { line, rule } => Ok(Answer::No {
+                line: *line,
+                rule: *rule,
+            }),
+            Stage::OutOfMemory => Err(CheckEnd::NoMemory),
+        }
+    }
+
+    /// The settlement whose regret comes next, where one does.
+    pub(crate) fn due(&self) -> Option<DueRegret<'_>>
+        requires { IsKept self.now }
+        ensures tells { (n : ℕ) (p : Progress) → IsProgress n self.now p → TellsDue result p }
+        ensures count { IfSome result (λ due. length due.bounds.now
+            ≡ length due.exchange.now.bidders) }
+    {
+        match self {
+            Stage::Behind(groups) => groups.due(),
+            _ => None,
+        }
+    }
+
+    /// Whether the prices of a settlement come next, or a stop in their place.
+    pub(crate) fn awaits_prices(&self) -> bool
+        ensures { (n : ℕ) (p : Progress) → IsProgress n self.now p → result ≡ awaits_prices p }
+    {
+        match self {
+            Stage::Behind(groups) => groups.awaits_prices(),
+            _ => false,
+        }
+    }
+
+    /// Drops the stage.
+    pub(crate) fn discard(self) {}
+}

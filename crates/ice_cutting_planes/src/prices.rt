@@ -1,0 +1,118 @@
+//! Prices by cutting planes.
+ghost use Rattle.ice_cutting_planes.specs.Works.{IsMoreWork};
+
+use crate::dictionary::{Dictionary, Point};
+use crate::equation::Variable;
+use crate::numbers::{divisor, divisor_of, product, quotient};
+use crate::rounding::Rounding;
+use crate::stage::CutSearch;
+use crate::work::{GivenUp, Work};
+use ice_pricing::{Pricing, Provisional};
+use ice_terms::Prices;
+use std::alloc::Global;
+
+/// A violation over its denominator.
+#[derive(Clone, Copy)]
+struct Violation {
+    num: i128,
+    den: i128,
+}
+
+impl Violation {
+    /// The violation at the end of the first stage, in lowest terms: the last column of its point.
+    fn of(point: &Point) -> Violation {
+        let num = point.nums.last().copied().unwrap_or(0);
+        let shared = divisor(num, point.den);
+        Violation {
+            num: quotient(num, shared),
+            den: quotient(point.den, shared),
+        }
+    }
+
+    /// The violation times a denominator.
+    fn over(&self, den: i128) -> Result<i128, GivenUp> {
+        let shared = divisor(den, self.den);
+        product(self.num, quotient(den, shared))
+    }
+}
+
+/// The dictionary of the second stage, with the cuts whose multipliers stand on the left at the end of the first.
+fn second_dictionary(
+    alloc: Global,
+    goods: u8,
+    violation: &Violation,
+    first: &Dictionary,
+) -> Result<Dictionary, GivenUp> {
+    let mut second = Dictionary::balance(alloc, goods, violation.num, violation.den)?;
+    for equation in &first.left {
+        if let Variable::Cut(number) = equation.variable {
+            if let Some(cut) = first.cuts.get(number) {
+                let _is_added = second.add(alloc, cut.copy())?;
+            }
+        }
+    }
+    Ok(second)
+}
+
+/// Rounds prices whose denominator is too long.
+fn round_to_fit(
+    found: &mut Rounding,
+    search: &mut CutSearch<'_>,
+    work: &mut Work,
+) -> Result<(), GivenUp>
+    ensures { IsMoreWork work.old work.new }
+{
+    if found.fits()? {
+        return Ok(());
+    }
+    work.is_rounded = true;
+    found.round_all(search)
+}
+
+/// Prices in hundredths as prices in whole units.
+fn whole_prices(alloc: Global, found: &Rounding) -> Result<Prices, GivenUp> {
+    let whole = product(found.den, 100)?;
+    let shared = divisor_of(whole, &found.nums);
+    let den = i64::try_from(quotient(whole, shared)).map_err(|_| GivenUp::Long)?;
+    let nums: Vec<i128> = found
+        .nums
+        .iter()
+        .map(|num| quotient(*num, shared))
+        .collect(alloc)?;
+    Prices::new(den, &nums).ok_or(GivenUp::Long)
+}
+
+/// Looks for prices of a provisional trade that are accurate and then balanced, with their violation and certificates.
+///
+/// What it finds isn't promised to be so, nor to be within the limits of prices and certificates. It gives up with `Wide`
+/// where a number doesn't fit; with `Spent` where a stage has more than 400 columns or takes more than 400 turns, where
+/// `work` has 5,000 pivots and one more is to be taken, and where nothing bounds an entering variable; with `Long` where a
+/// denominator or a weight is above 2^32; and with `NoMemory` at any time. What it does is added to `work`, in which no
+/// count falls.
+pub fn cut_prices(
+    alloc: Global,
+    trade: &Provisional<'_>,
+    work: &mut Work,
+) -> Result<Pricing, GivenUp>
+    ensures { IsMoreWork work.old work.new }
+{
+    let goods = trade.goods();
+    let mut search = CutSearch::new(alloc, trade);
+    let mut first = Dictionary::accuracy(alloc, goods, trade.cap())?;
+    let violation = Violation::of(&search.run_stage(&mut first, work)?);
+    let accuracy = first.certificate(alloc)?;
+    let mut second = second_dictionary(alloc, goods, &violation, &first)?;
+    let mut point = search.run_stage(&mut second, work)?;
+    let balance = second.certificate(alloc)?;
+    point.nums.truncate(usize::from(goods));
+    let mut found = Rounding::of(point.den, point.nums, &second.asked)?;
+    round_to_fit(&mut found, &mut search, work)?;
+    let prices = whole_prices(alloc, &found)?;
+    let delta = violation.over(i128::from(prices.den()))?;
+    Ok(Pricing {
+        prices,
+        delta,
+        accuracy,
+        balance,
+    })
+}

@@ -1,5 +1,0 @@
-use Rattle.ice_laws.proofs.Trades.{assignments_trade}
-use Rattle.ice_laws.proofs.assignments_are_trades.Goals as goal
-
-pub returns : goal.returns
-returns c = assignments_trade

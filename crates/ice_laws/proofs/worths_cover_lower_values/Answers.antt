@@ -1,5 +1,0 @@
-use Rattle.ice_laws.proofs.Worths.{worth_covers_lower}
-use Rattle.ice_laws.proofs.worths_cover_lower_values.Goals as goal
-
-pub returns : goal.returns
-returns c = worth_covers_lower

@@ -1,5 +1,0 @@
-use Rattle.ice_pieces.proofs.Interleaving.{order_keeps_yes}
-use Rattle.ice_pieces.proofs.laws.order_of_rounds_keeps_yes.Goals as goal
-
-pub returns : goal.returns
-returns c = order_keeps_yes

@@ -1,5 +1,0 @@
-use Rattle.ice_round_laws.proofs.Ends.{closing_may_be_written}
-use Rattle.ice_round_laws.proofs.closing_may_be_written.Goals as goal
-
-pub returns : goal.returns
-returns c = closing_may_be_written

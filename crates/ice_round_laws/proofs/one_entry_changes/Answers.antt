@@ -1,0 +1,5 @@
+use Rattle.ice_round_laws.proofs.Single.{one_entry_changes}
+use Rattle.ice_round_laws.proofs.one_entry_changes.Goals as goal
+
+pub returns : goal.returns
+returns c = one_entry_changes

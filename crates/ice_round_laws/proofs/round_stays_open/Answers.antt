@@ -1,5 +1,0 @@
-use Rattle.ice_round_laws.proofs.RoundStops.{round_stays_open}
-use Rattle.ice_round_laws.proofs.round_stays_open.Goals as goal
-
-pub returns : goal.returns
-returns c = round_stays_open

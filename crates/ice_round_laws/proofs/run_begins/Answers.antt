@@ -1,5 +1,0 @@
-use Rattle.ice_round_laws.proofs.Rounds.{run_begins}
-use Rattle.ice_round_laws.proofs.run_begins.Goals as goal
-
-pub returns : goal.returns
-returns c = run_begins

@@ -1,5 +1,0 @@
-use Rattle.ice_round_laws.proofs.Ends.{spent_may_be_written}
-use Rattle.ice_round_laws.proofs.spent_may_be_written.Goals as goal
-
-pub returns : goal.returns
-returns c = spent_may_be_written

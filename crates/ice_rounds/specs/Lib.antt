@@ -1,4 +1,0 @@
-pub mod Laws
-pub mod Entries
-pub mod Running
-pub mod Keeping

@@ -1,0 +1,4 @@
+pub mod Running
+pub mod Stops
+pub mod Written
+pub mod Laws
