@@ -1,8 +1,10 @@
-//! Linear programs of the size at which prices of an exchange are found at the limits, drawn by a generator.
+//! Linear programs of the size at which prices of an exchange are found at the limits, drawn by a
+//! generator.
 //!
-//! A column is the price of one of 32 goods, the last one how far the prices are from accurate. A row for each good
-//! keeps its price within a cap. Each of 200 rows more stands for another set of a bidder: at the prices of the
-//! units by which it differs from the own set, it may gain no more than the last column.
+//! A column is the price of one of 32 goods, the last one how far the prices are from accurate. A
+//! row for each good keeps its price within a cap. Each of 200 rows more stands for another set of
+//! a bidder: at the prices of the units by which it differs from the own set, it may gain no more
+//! than the last column.
 ghost use Rattle.std.specs.Prelude.{◌≡◌, ◌+◌, length, pos, ◌≤ℤ◌, All, IfOk};
 ghost use Rattle.ice_lp.specs.Limits.{IsNumber};
 
@@ -62,8 +64,8 @@ fn units(draws: &mut Draws) -> i64 {
     }
 }
 
-/// A row's coefficients and its least: what the other set gains at drawn prices, up to a number that is mostly
-/// below 0.
+/// A row's coefficients and its least: what the other set gains at drawn prices, up to a number
+/// that is mostly below 0.
 fn set_row(alloc: Global, prices: &[i64], draws: &mut Draws) -> Result<(Vec<i128>, i64), AllocError>
     ensures same_length { IfOk result (λ made. length made.0.items ≡ length prices.now + 1) }
     ensures sized { IfOk result (λ made. All IsNumber made.0.items) }

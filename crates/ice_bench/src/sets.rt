@@ -1,4 +1,5 @@
-//! Calls of `best` on one tree of 196 nodes and depth 4, a weight of which changes before each call.
+//! Calls of `best` on one tree of 196 nodes and depth 4, a weight of which changes before each
+//! call.
 ghost use Rattle.std.specs.Prelude.{◌≡◌, ◌<◌, length};
 
 use ice_best::{Fixing, Scratch, best};

@@ -53,8 +53,9 @@ fn drawn_costs(alloc: Global, draws: &mut Draws, columns: usize) -> Result<Vec<i
     Ok(made)
 }
 
-/// Draws a program of 2 to 4 columns and 1 to 5 rows, and solves it. The line has the costs, then each row, with
-/// its least behind its coefficients, and then the point and the duals, or the mix, or why there is no answer.
+/// Draws a program of 2 to 4 columns and 1 to 5 rows, and solves it. The line has the costs, then
+/// each row, with its least behind its coefficients, and then the point and the duals, or the mix,
+/// or why there is no answer.
 pub fn line_of_one(alloc: Global, draws: &mut Draws) -> Result<String, AllocError> {
     let columns = 2 + draws.below(3) as usize;
     let rows = 1 + draws.below(5);

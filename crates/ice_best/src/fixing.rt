@@ -10,8 +10,8 @@ use ice_tree::Tree;
 use std::alloc::{AllocError, Global};
 use std::marker::Model;
 
-/// A fixing of one tree, seen as one mark per node. A set meets it where it has each Must node and no Never node.
-/// It takes no memory.
+/// A fixing of one tree, seen as one mark per node. A set meets it where it has each Must node and
+/// no Never node. It takes no memory.
 #[derive(Drop)]
 pub struct Fixing {
     marks: ArrayVec<Mark, 200>,

@@ -1,5 +1,5 @@
-//! The best set of a tree: the greatest value of a satisfied set that meets a fixing, and the greatest sale of a good. Net
-//! weights, by which it is also the greatest net at rates.
+//! The best set of a tree: the greatest value of a satisfied set that meets a fixing, and the
+//! greatest sale of a good. Net weights, by which it is also the greatest net at rates.
 #![tactic(auto)]
 
 mod best_set;

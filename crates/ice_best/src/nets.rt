@@ -84,8 +84,8 @@ fn net_weight(weight: i128, scale: u64, times: u8, cost: i128) -> i128
     times_scale(weight, scale) - times_cost(times, cost)
 }
 
-/// Makes the weight of one node in `out` what the node nets at rates: `scale` times its weight, less `times` times what its
-/// units cost. The limits are those of `fill_net_weights`.
+/// Makes the weight of one node in `out` what the node nets at rates: `scale` times its weight,
+/// less `times` times what its units cost. The limits are those of `fill_net_weights`.
 pub fn put_net_weight(
     out: &mut Weights,
     tree: &Tree,
@@ -111,10 +111,12 @@ pub fn put_net_weight(
     out.put(node, net_weight(weights.get(node), scale, times, cost));
 }
 
-/// Makes `out` the weights by which the value of a set is its net at rates: `scale` times its value, less `times` times
-/// what its units cost. A unit of a good costs the good's rate, and nothing where the good has no rate.
+/// Makes `out` the weights by which the value of a set is its net at rates: `scale` times its
+/// value, less `times` times what its units cost. A unit of a good costs the good's rate, and
+/// nothing where the good has no rate.
 ///
-/// The scale is at most 2^32, each rate at most 2^62 in size, and each weight at most 1,000,000,000,000. Takes no memory.
+/// The scale is at most 2^32, each rate at most 2^62 in size, and each weight at most
+/// 1,000,000,000,000. Takes no memory.
 pub fn fill_net_weights(
     out: &mut Weights,
     tree: &Tree,

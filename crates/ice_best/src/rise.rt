@@ -1,5 +1,5 @@
-//! A change of a node's gain followed to the entry of its parent, whose choice is made anew only where it may not stay the
-//! best.
+//! A change of a node's gain followed to the entry of its parent, whose choice is made anew only
+//! where it may not stay the best.
 ghost use Rattle.std.specs.Prelude.{◌≡◌, ◌<◌, ◌≤◌, length, IfSome};
 ghost use Rattle.ice_defs.specs.Set.{IsSmall};
 ghost use Rattle.ice_defs.specs.Tree.{IsTree, parent_of};
@@ -11,7 +11,8 @@ use crate::fixing::Fixing;
 use crate::table::Table;
 use ice_tree::{Tree, Weights};
 
-/// Brings the entry of a node to its weight, which was `before`, and says how much more the node adds.
+/// Brings the entry of a node to its weight, which was `before`, and says how much more the node
+/// adds.
 pub(crate) fn weigh(
     tree: &Tree,
     weights: &Weights,
@@ -36,8 +37,9 @@ pub(crate) fn weigh(
     more
 }
 
-/// How much more a best choice of children adds where it stays the best though one of them, that now adds `gain`, adds
-/// `more` than it did; `choice` is what it added before. None where it may not stay so. `all`: all children must be taken.
+/// How much more a best choice of children adds where it stays the best though one of them, that
+/// now adds `gain`, adds `more` than it did; `choice` is what it added before. None where it may
+/// not stay so. `all`: all children must be taken.
 fn rise_of_choice(
     taken: bool,
     all: bool,
@@ -57,8 +59,8 @@ fn rise_of_choice(
     }
 }
 
-/// Brings the entry of a node's parent to the node's gain, which is `more` than it was, and says how much more the parent
-/// adds.
+/// Brings the entry of a node's parent to the node's gain, which is `more` than it was, and says
+/// how much more the parent adds.
 pub(crate) fn follow(
     tree: &Tree,
     weights: &Weights,

@@ -43,8 +43,8 @@ fn sale_weights(tree: &Tree, good: u8) -> Weights
     weights
 }
 
-/// The greatest value of minus the units of the good, over the satisfied sets: what the tree may sell of it at most.
-/// It is at least 0, since the empty set sells nothing. Takes no memory.
+/// The greatest value of minus the units of the good, over the satisfied sets: what the tree may
+/// sell of it at most. It is at least 0, since the empty set sells nothing. Takes no memory.
 pub fn greatest_sale(tree: &Tree, good: u8, scratch: &mut Scratch) -> i64
     ensures value { result ≡ greatest_sale tree.now good }
     ensures greatest { IsGreatest {X = Nodes} (IsSatisfied tree.now)

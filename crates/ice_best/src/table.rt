@@ -1,5 +1,5 @@
-//! The table of a tree: what each node adds where it is inside. It is filled once, and renewed where a weight or a mark
-//! changes.
+//! The table of a tree: what each node adds where it is inside. It is filled once, and renewed
+//! where a weight or a mark changes.
 ghost use Rattle.std.specs.Prelude.{◌≡◌, ◌<◌, ◌≤◌, ◌&&◌, length, replicate, false, ℤ, IsTrue, IfSome, IfNone, if◌then◌else◌, pos, ◌≤ℤ◌};
 ghost use Rattle.ice_defs.specs.Tree.{Tree as Nodes};
 ghost use Rattle.ice_defs.specs.Set.{NodeSet as Set, Weights as NodeWeights, has, value, IsSmall};
@@ -16,8 +16,9 @@ use crate::fixing::Fixing;
 use crate::rise::{follow, weigh};
 use ice_tree::{NodeSet, Tree, Weights};
 
-/// The room that `best`, `greatest_sale` and the tables work in. It takes no memory, and what it holds between two calls
-/// does not matter: make one and use it for all calls, since making it costs time.
+/// The room that `best`, `greatest_sale` and the tables work in. It takes no memory, and what it
+/// holds between two calls does not matter: make one and use it for all calls, since making it
+/// costs time.
 #[derive(Drop)]
 pub struct Scratch {
     /// The table of `best`.
@@ -36,8 +37,8 @@ impl Scratch {
     }
 }
 
-/// What the nodes of one tree are worth at weights and a fixing, kept while the weights and the marks change one by one.
-/// It takes no memory.
+/// What the nodes of one tree are worth at weights and a fixing, kept while the weights and the
+/// marks change one by one. It takes no memory.
 #[derive(Drop)]
 pub struct Table {
     /// What each node adds where it is inside, with the best choice below it.
@@ -114,11 +115,12 @@ impl Table {
         fill_all(tree, weights, fixing, self, &mut scratch.offers);
     }
 
-    /// Makes it the table at these weights, where it was the table at weights that may differ at this node alone, whose
-    /// weight was `before`.
+    /// Makes it the table at these weights, where it was the table at weights that may differ at
+    /// this node alone, whose weight was `before`.
     ///
-    /// Takes no memory. Time: a few steps for each node above it, up to one that adds as much as before, and a pass over
-    /// the children, and a sort of them, of those whose best choice may become another.
+    /// Takes no memory. Time: a few steps for each node above it, up to one that adds as much as
+    /// before, and a pass over the children, and a sort of them, of those whose best choice may
+    /// become another.
     pub fn renew(
         &mut self,
         tree: &Tree,
@@ -155,10 +157,12 @@ impl Table {
         }
     }
 
-    /// Makes it the table at this fixing, where it was the table at a fixing that may differ at this node alone.
+    /// Makes it the table at this fixing, where it was the table at a fixing that may differ at
+    /// this node alone.
     ///
-    /// Takes no memory. Time: a pass over the children, and a sort of them, of this node and of each above it, up to one
-    /// that adds as much as before, and must and may be inside as before. No other node is looked at.
+    /// Takes no memory. Time: a pass over the children, and a sort of them, of this node and of
+    /// each above it, up to one that adds as much as before, and must and may be inside as before.
+    /// No other node is looked at.
     pub fn renew_mark(
         &mut self,
         tree: &Tree,
@@ -182,8 +186,8 @@ impl Table {
         }
     }
 
-    /// The greatest value of an open set: a satisfied set of the tree that meets the fixing. None comes exactly where no
-    /// set is open.
+    /// The greatest value of an open set: a satisfied set of the tree that meets the fixing. None
+    /// comes exactly where no set is open.
     pub fn greatest(&self) -> Option<i128>
         ensures some { (t : Nodes) (w : NodeWeights) (x : Marks) → IsTableOf t w x self.now
             → IfSome result (IsGreatest (IsOpen t x) (λ s. value s w)) }
@@ -200,8 +204,8 @@ impl Table {
         Some(root_value(root, gain))
     }
 
-    /// Makes `out` an open set of the greatest value; of several it may be any. Where no set is open, `out` becomes the
-    /// empty set.
+    /// Makes `out` an open set of the greatest value; of several it may be any. Where no set is
+    /// open, `out` becomes the empty set.
     pub fn best_set(&self, tree: &Tree, out: &mut NodeSet)
         ensures set { (w : NodeWeights) (x : Marks) → IsTableOf tree.now w x self.now → (v : ℤ)
             → IsGreatest (IsOpen tree.now x) (λ s. value s w) v → IsOpen tree.now x out.new

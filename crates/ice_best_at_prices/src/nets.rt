@@ -8,8 +8,8 @@ use ice_best::{Fixing, Scratch, best, fill_net_weights};
 use ice_terms::Prices;
 use ice_tree::{NodeSet, Tree, Weights};
 
-/// A satisfied set of the greatest net at prices, and its net: its value at weights, times the prices' denominator, less
-/// what its units cost so many times.
+/// A satisfied set of the greatest net at prices, and its net: its value at weights, times the
+/// prices' denominator, less what its units cost so many times.
 #[derive(Drop)]
 pub struct BestAtPrices {
     /// The set, one bit a node.
@@ -30,10 +30,11 @@ fn net_weights(tree: &Tree, weights: &Weights, times: u8, prices: &Prices) -> We
     nets
 }
 
-/// The net of a set: its value at the weights, times the prices' denominator, less what its units cost so many times.
-/// Where the weights are `times` times the true values, so is the net.
+/// The net of a set: its value at the weights, times the prices' denominator, less what its units
+/// cost so many times. Where the weights are `times` times the true values, so is the net.
 ///
-/// Each weight is at most 1,000,000,000,000 in size. A good without a price costs nothing. Takes no memory.
+/// Each weight is at most 1,000,000,000,000 in size. A good without a price costs nothing. Takes no
+/// memory.
 pub fn net(tree: &Tree, set: &NodeSet, weights: &Weights, times: u8, prices: &Prices) -> i128
     requires set { length set.now ≡ length tree.now }
     requires nodes { length weights.now ≡ length tree.now }
@@ -45,10 +46,11 @@ pub fn net(tree: &Tree, set: &NodeSet, weights: &Weights, times: u8, prices: &Pr
     tree.value(set, &net_weights(tree, weights, times, prices))
 }
 
-/// A satisfied set of the tree whose net is the greatest, and that net; of several sets any may be taken.
+/// A satisfied set of the tree whose net is the greatest, and that net; of several sets any may be
+/// taken.
 ///
-/// With weighted values, which are in hundredths, `times` is 100. Each weight is at most 1,000,000,000,000 in size. A good
-/// without a price costs nothing. Takes no memory.
+/// With weighted values, which are in hundredths, `times` is 100. Each weight is at most
+/// 1,000,000,000,000 in size. A good without a price costs nothing. Takes no memory.
 pub fn best_at_prices(
     tree: &Tree,
     weights: &Weights,

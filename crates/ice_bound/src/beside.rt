@@ -1,4 +1,5 @@
-//! Whether the sum of the greatest nets reaches a number where the multiplier of one good is one more, or one less.
+//! Whether the sum of the greatest nets reaches a number where the multiplier of one good is one
+//! more, or one less.
 ghost use Rattle.std.specs.Prelude.{◌≡◌, ℕ, ◌*◌, ◌^◌, ◌<◌, ◌≤◌, ◌↔◌, length, vec_len, IsTrue, if◌then◌else◌, pos, neg_ℤ, ℤ, ◌≤ℤ◌};
 ghost use Rattle.ice_defs.specs.Bound.{IsNetSum};
 ghost use Rattle.ice_defs.specs.Set.{has, leaf_units, units};
@@ -16,8 +17,8 @@ use ice_best::{Fixings, Scratch};
 use ice_tree::{AllWeights, Assignment, NodeKind, NodeSet, Tree};
 use std::marker::Model;
 
-/// The nets and sets that are found at multipliers, and the multipliers `moved`, where that of one good is one more, or
-/// one less. No bidder is dead.
+/// The nets and sets that are found at multipliers, and the multipliers `moved`, where that of one
+/// good is one more, or one less. No bidder is dead.
 #[derive(Drop)]
 pub(crate) struct Beside<'a> {
     pub(crate) trees: &'a [Tree],
@@ -155,7 +156,8 @@ impl<'a> Beside<'a> {
         after_cost(net, units, self.rises)
     }
 
-    /// The bidder's greatest net at the moved multipliers, None where it is dead. Its table moves there and back.
+    /// The bidder's greatest net at the moved multipliers, None where it is dead. Its table moves
+    /// there and back.
     fn greatest_net(&self, bidder: u8, table: &mut NetTable, scratch: &mut Scratch) -> Option<i128>
         requires bidder { bidder < length self.now.trees }
         requires table { IsTableBeside self.now bidder table.old }
@@ -212,8 +214,9 @@ impl<'a> Beside<'a> {
         total
     }
 
-    /// Whether the sum of the greatest nets is at least this at the moved multipliers. The sets as they stand give a number
-    /// that the sum is not below; it is raised bidder by bidder, until it tells.
+    /// Whether the sum of the greatest nets is at least this at the moved multipliers. The sets as
+    /// they stand give a number that the sum is not below; it is raised bidder by bidder, until it
+    /// tells.
     pub(crate) fn reaches(
         &self,
         least: i128,

@@ -20,8 +20,8 @@ pub fn floor_64th(total: i128) -> i128
 }
 
 impl Room {
-    /// T, the sum over the bidders of the greatest net of a satisfied set that meets the fixing, in 64ths. Where a bidder
-    /// has no such set, the first such bidder is the error.
+    /// T, the sum over the bidders of the greatest net of a satisfied set that meets the fixing, in
+    /// 64ths. Where a bidder has no such set, the first such bidder is the error.
     pub fn total(
         &mut self,
         trees: &[Tree],
@@ -70,14 +70,16 @@ impl Room {
     }
 }
 
-/// The bound at the fixings: `Dead` with the first bidder that has no satisfied set that meets its fixing, and where
-/// there is no such bidder `AtMost` the floor of T / 64. Here T is the sum over the bidders of the greatest net, which is
-/// 64 times the value of a set less the multipliers times its units, over the satisfied sets that meet the fixing.
+/// The bound at the fixings: `Dead` with the first bidder that has no satisfied set that meets its
+/// fixing, and where there is no such bidder `AtMost` the floor of T / 64. Here T is the sum over
+/// the bidders of the greatest net, which is 64 times the value of a set less the multipliers times
+/// its units, over the satisfied sets that meet the fixing.
 ///
-/// No feasible assignment that meets the fixings is worth more than an `AtMost`, and after `Dead` there is none.
+/// No feasible assignment that meets the fixings is worth more than an `AtMost`, and after `Dead`
+/// there is none.
 ///
-/// There are at most 40 trees. Each weight is at most 100,000,000,000 in size, and no multiplier of a good that isn't
-/// exact is negative. Takes no memory. Time: one pass over each tree.
+/// There are at most 40 trees. Each weight is at most 100,000,000,000 in size, and no multiplier of
+/// a good that isn't exact is negative. Takes no memory. Time: one pass over each tree.
 pub fn bound(
     trees: &[Tree],
     weights: &AllWeights,
@@ -98,7 +100,8 @@ pub fn bound(
     desk.room.bound(trees, weights, m, fixings)
 }
 
-/// `bound` at the fixings `desk.marks`. Changes neither public list of the desk, and takes no memory.
+/// `bound` at the fixings `desk.marks`. Changes neither public list of the desk, and takes no
+/// memory.
 pub fn bound_here(trees: &[Tree], weights: &AllWeights, m: &Multipliers, desk: &mut Desk) -> Bound
     requires few { length trees.now ≤ 40 }
     requires weights { AreWeightsOf trees.now weights.now }

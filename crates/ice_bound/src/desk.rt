@@ -8,9 +8,9 @@ use ice_best::Fixings;
 use ice_tree::Tree;
 use std::alloc::{AllocError, Global};
 
-/// The working memory of bounds and logs. `marks` is the side that `bound_here` looks at; `sides` has pairs of a bidder
-/// and a node, and room for 2,000 of them. What they hold between other calls does not matter. `room` knows which goods
-/// are exact.
+/// The working memory of bounds and logs. `marks` is the side that `bound_here` looks at; `sides`
+/// has pairs of a bidder and a node, and room for 2,000 of them. What they hold between other calls
+/// does not matter. `room` knows which goods are exact.
 #[derive(Drop)]
 pub struct Desk {
     /// The side that `bound_here` looks at.
@@ -23,8 +23,8 @@ pub struct Desk {
 }
 
 impl Desk {
-    /// A desk for these trees, with one truth value for each good, at most 32: whether it is exact. Takes all the memory
-    /// that bounds and logs of these trees need.
+    /// A desk for these trees, with one truth value for each good, at most 32: whether it is exact.
+    /// Takes all the memory that bounds and logs of these trees need.
     pub fn new(alloc: Global, trees: &[Tree], exact: &[bool]) -> Result<Desk, AllocError>
         requires { length exact.now ≤ 32 }
         ensures exact { IfOk result (λ desk. desk.room ≡ exact.now) }

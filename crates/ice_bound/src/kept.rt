@@ -25,8 +25,9 @@ use ice_tree::{AllWeights, Assignment, TotalUnits, Tree};
 use std::alloc::{AllocError, Global};
 use std::marker::Model;
 
-/// The bound of one list of trees at weights that stay, kept at hand while marks and multipliers change. For each bidder
-/// that isn't dead it has a relaxed set: a satisfied set that meets the bidder's fixing and has the greatest net.
+/// The bound of one list of trees at weights that stay, kept at hand while marks and multipliers
+/// change. For each bidder that isn't dead it has a relaxed set: a satisfied set that meets the
+/// bidder's fixing and has the greatest net.
 ///
 /// Only `new` takes memory.
 #[derive(Drop)]
@@ -105,10 +106,11 @@ fn step_beside(number: i64, rises: bool) -> i64
 }
 
 impl<'a> Kept<'a> {
-    /// Keeps these trees and weights, with all nodes free and all multipliers 0. There is one truth value for each good:
-    /// whether it is exact. Takes all the memory that is needed.
+    /// Keeps these trees and weights, with all nodes free and all multipliers 0. There is one truth
+    /// value for each good: whether it is exact. Takes all the memory that is needed.
     ///
-    /// There are at most 40 trees and at most 32 goods, and each weight is at most 100,000,000,000 in size.
+    /// There are at most 40 trees and at most 32 goods, and each weight is at most 100,000,000,000
+    /// in size.
     pub fn new(
         alloc: Global,
         trees: &'a [Tree],
@@ -173,8 +175,9 @@ impl<'a> Kept<'a> {
         &self.m
     }
 
-    /// The relaxed sets, one for each bidder that isn't dead. Where several sets of a bidder have the greatest net it may
-    /// be any of them. What stands in the place of a dead bidder does not matter.
+    /// The relaxed sets, one for each bidder that isn't dead. Where several sets of a bidder have
+    /// the greatest net it may be any of them. What stands in the place of a dead bidder does not
+    /// matter.
     pub fn sets(&self) -> &Assignment
         ensures value { result.now ≡ self.now.sets }
         ensures relaxed { AreRelaxedSets self.now }
@@ -196,8 +199,8 @@ impl<'a> Kept<'a> {
         value_of(self.trees, &self.found.sets, self.weights)
     }
 
-    /// The sum of the bidders' greatest nets, in 64ths, which is the sum of the relaxed sets' nets; or the first bidder
-    /// that has no satisfied set that meets its fixing.
+    /// The sum of the bidders' greatest nets, in 64ths, which is the sum of the relaxed sets' nets;
+    /// or the first bidder that has no satisfied set that meets its fixing.
     pub fn net_sum(&self) -> NetSum
         ensures answer { IsNetAnswer self.now.trees self.now.weights self.now.multipliers
             self.now.marks result }
@@ -219,9 +222,9 @@ impl<'a> Kept<'a> {
         }
     }
 
-    /// Gives a node of a bidder's tree another mark. Time: a pass over the children, and a sort of them, of this node and of
-    /// each above it, up to one that adds as much as before, and must and may be inside as before; and a step for each node
-    /// of the tree, which reads the relaxed set.
+    /// Gives a node of a bidder's tree another mark. Time: a pass over the children, and a sort of
+    /// them, of this node and of each above it, up to one that adds as much as before, and must and
+    /// may be inside as before; and a step for each node of the tree, which reads the relaxed set.
     pub fn mark(&mut self, bidder: u8, node: u16, mark: Mark)
         requires bidder { bidder < length self.old.trees }
         requires node { node < length (tree_of self.old.trees bidder) }

@@ -7,8 +7,8 @@ ghost use Rattle.ice_bound.specs.Leaves.{is_leaf_of, IsNextLeaf, AreLeavesOf, Ar
 use ice_tree::{NodeKind, Tree};
 use std::alloc::{AllocError, Global};
 
-/// The leaves of a tree, good by good: the first leaf of each of 32 goods, and behind each leaf the next one of its good. In
-/// the place of a leaf that isn't there stands the number of nodes.
+/// The leaves of a tree, good by good: the first leaf of each of 32 goods, and behind each leaf the
+/// next one of its good. In the place of a leaf that isn't there stands the number of nodes.
 #[derive(Drop)]
 pub(crate) struct Leaves {
     first: [u8; 32],

@@ -5,7 +5,8 @@ ghost use Rattle.ice_bound.specs.Multipliers.{multiplier_of, IsInRange, AreInRan
 use arrayvec::ArrayVec;
 use std::marker::Model;
 
-/// One multiplier for each good, at most 32 of them, each from -2^56 to 2^56 and counted in 64ths. They take no memory.
+/// One multiplier for each good, at most 32 of them, each from -2^56 to 2^56 and counted in 64ths.
+/// They take no memory.
 #[derive(Drop)]
 pub struct Multipliers {
     numbers: ArrayVec<i64, 32>,

@@ -17,8 +17,8 @@ use crate::net::NetWeights;
 use ice_best::{Fixing, Scratch, Table};
 use ice_tree::{NodeSet, Tree, Weights};
 
-/// What the nodes of one tree net at multipliers, and its table at these nets and a fixing. They are kept while one thing
-/// after another changes: the multiplier of a good, or the mark of a node.
+/// What the nodes of one tree net at multipliers, and its table at these nets and a fixing. They
+/// are kept while one thing after another changes: the multiplier of a good, or the mark of a node.
 #[derive(Drop)]
 pub(crate) struct NetTable {
     nets: NetWeights,
@@ -109,7 +109,8 @@ impl NetTable {
         }
     }
 
-    /// Brings it to a fixing that differs in the one that it was made at in the mark of this node alone.
+    /// Brings it to a fixing that differs in the one that it was made at in the mark of this node
+    /// alone.
     pub(crate) fn renew_mark(
         &mut self,
         tree: &Tree,
@@ -130,7 +131,8 @@ impl NetTable {
             .renew_mark(tree, &self.nets.weights, fixing, node, scratch);
     }
 
-    /// The greatest net of a set that is satisfied and meets the fixing; None where there is no such set.
+    /// The greatest net of a set that is satisfied and meets the fixing; None where there is no
+    /// such set.
     pub(crate) fn greatest(&self) -> Option<i128>
         ensures net { (t : Nodes) (w : NodeWeights) (m : Numbers) (x : Marks)
             → IsNetTable t w m x self.now

@@ -107,7 +107,8 @@ fn times_top(den: u64, top: i128) -> i128
 }
 
 impl RowSums {
-    /// What the rows are worth by weight, less what their wanted units cost at the cap, in hundredths.
+    /// What the rows are worth by weight, less what their wanted units cost at the cap, in
+    /// hundredths.
     fn worth_at_cap(&self, goods: u8, cap: i64) -> i128
         requires goods { goods ≤ 32 }
         requires cap_low { pos 0 ≤ℤ cap }
@@ -119,8 +120,9 @@ impl RowSums {
         self.worth() - 100 * cap_cost(cap, self.wanted(goods))
     }
 
-    /// What the rows' violation comes to by weight where they pass the balance test: their worth less what the
-    /// certificate's denominator costs at the greatest price, in hundredths and times the prices' denominator.
+    /// What the rows' violation comes to by weight where they pass the balance test: their worth
+    /// less what the certificate's denominator costs at the greatest price, in hundredths and times
+    /// the prices' denominator.
     fn worth_at_top(&self, prices: &Prices, den: u64) -> i128
         requires { den ≤ 2 ^ 32 }
         ensures value { result ≡ (pos prices.now.den *ℤ self.now.worth)
@@ -131,12 +133,12 @@ impl RowSums {
         times_den(den_of(prices), self.worth()) - 100 * times_top(den, top(prices))
     }
 
-    /// Whether the sums pass the accuracy test of a certificate with the denominator `den`, from 1 on:
-    /// the weights sum to at most `den`, and `den` times the violation is what the rows are worth by
-    /// weight, less what their wanted units cost at the cap in hundredths, times the denominator of the
-    /// prices. Where these are the sums of rows, no prices of so many goods, at most 32, within the cap
-    /// have a violation below `violation` over that denominator. The cap is at most 1,000,000,000.
-    /// Takes no memory.
+    /// Whether the sums pass the accuracy test of a certificate with the denominator `den`, from 1
+    /// on: the weights sum to at most `den`, and `den` times the violation is what the rows are
+    /// worth by weight, less what their wanted units cost at the cap in hundredths, times the
+    /// denominator of the prices. Where these are the sums of rows, no prices of so many goods, at
+    /// most 32, within the cap have a violation below `violation` over that denominator. The cap is
+    /// at most 1,000,000,000. Takes no memory.
     pub fn pass_accuracy(
         &self,
         goods: u8,
@@ -160,10 +162,10 @@ impl RowSums {
         are_equal(worth, den, violation, den_of(prices))
     }
 
-    /// Whether the rows pass the balance test of a certificate with the denominator `den`, from 1 to 2^32: the wanted
-    /// units sum to at most `den`, and what the rows are worth by weight above the violation is `den` by the greatest
-    /// price, in hundredths. Then no prices of so many goods, at most 32, with this violation have a lower greatest
-    /// price. Takes no memory.
+    /// Whether the rows pass the balance test of a certificate with the denominator `den`, from 1
+    /// to 2^32: the wanted units sum to at most `den`, and what the rows are worth by weight above
+    /// the violation is `den` by the greatest price, in hundredths. Then no prices of so many
+    /// goods, at most 32, with this violation have a lower greatest price. Takes no memory.
     pub fn pass_balance(&self, goods: u8, prices: &Prices, violation: i128, den: u64) -> bool
         requires goods { goods ≤ 32 }
         requires den { 0 < den }

@@ -17,9 +17,9 @@ pub struct Excess {
     pub amount: i128,
 }
 
-/// The greatest amount by which a satisfied set's net at the prices beats that of the bidder's own set, and such a set;
-/// of several any may be taken. A net is the worth at the weights, which are in hundredths, less what the units cost,
-/// all times the prices' denominator.
+/// The greatest amount by which a satisfied set's net at the prices beats that of the bidder's own
+/// set, and such a set; of several any may be taken. A net is the worth at the weights, which are
+/// in hundredths, less what the units cost, all times the prices' denominator.
 ///
 /// Each weight is at most 1,000,000,000,000 in size. Takes no memory.
 pub fn best_excess(

@@ -1,4 +1,5 @@
-//! The tests of certificates of prices: whether prices are accurate, and balanced, as weighted sets show.
+//! The tests of certificates of prices: whether prices are accurate, and balanced, as weighted sets
+//! show.
 #![tactic(auto)]
 
 mod certified;

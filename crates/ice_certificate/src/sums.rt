@@ -11,10 +11,12 @@ ghost use Rattle.ice_certificate.specs.Bounded.{AddsRow};
 use ice_tree::{NodeSet, Tree, Units, Weights};
 use std::marker::Model;
 
-/// The sums of the rows of a certificate that were added so far: of their weights, of what they are worth by weight
-/// above the bidders' own sets, and of the units that they ask for by weight above these, good by good.
+/// The sums of the rows of a certificate that were added so far: of their weights, of what they are
+/// worth by weight above the bidders' own sets, and of the units that they ask for by weight above
+/// these, good by good.
 ///
-/// The weights sum to at most 2^40, so 200 rows of weights up to 2^32 always fit. It takes no memory.
+/// The weights sum to at most 2^40, so 200 rows of weights up to 2^32 always fit. It takes no
+/// memory.
 #[derive(Drop)]
 pub struct RowSums {
     weight: u64,
@@ -45,7 +47,8 @@ fn by_weight(weight: u64, number: i128) -> i128
     i128::from(weight) * number
 }
 
-/// What a set is worth above another one of the same tree. Each weight is at most 1,000,000,000,000 in size.
+/// What a set is worth above another one of the same tree. Each weight is at most 1,000,000,000,000
+/// in size.
 pub fn worth_above(tree: &Tree, weights: &Weights, own: &NodeSet, set: &NodeSet) -> i128
     requires own { length own.now ≡ length tree.now }
     requires set { length set.now ≡ length tree.now }
@@ -118,9 +121,11 @@ impl RowSums {
         }
     }
 
-    /// Adds a row: a set with a weight, for a bidder with this tree, these weights of its nodes and this own set.
+    /// Adds a row: a set with a weight, for a bidder with this tree, these weights of its nodes and
+    /// this own set.
     ///
-    /// Each weight of a node is at most 1,000,000,000,000 in size, and the rows' weights sum to at most 2^40.
+    /// Each weight of a node is at most 1,000,000,000,000 in size, and the rows' weights sum to at
+    /// most 2^40.
     pub fn add(&mut self, tree: &Tree, weights: &Weights, own: &NodeSet, weight: u64, set: &NodeSet)
         requires own { length own.now ≡ length tree.now }
         requires set { length set.now ≡ length tree.now }

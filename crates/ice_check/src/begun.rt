@@ -9,7 +9,8 @@ ghost use Rattle.ice_check.specs.Standing.{IsTextOf};
 use arrayvec::ArrayVec;
 use ice_journal::{Line, read_record};
 
-/// What is kept of the text of a line whose newline has not come: the whole text, as long as a record may have it.
+/// What is kept of the text of a line whose newline has not come: the whole text, as long as a
+/// record may have it.
 #[derive(Drop)]
 pub(crate) struct Begun {
     text: ArrayVec<u8, 8192>,
@@ -58,8 +59,8 @@ impl Begun {
         }
     }
 
-    /// The record of the line, if it is the text of one, where these are its last bytes. The next line has not begun. It
-    /// takes no memory.
+    /// The record of the line, if it is the text of one, where these are its last bytes. The next
+    /// line has not begun. It takes no memory.
     pub(crate) fn end(&mut self, last: &[u8]) -> Option<Line>
         ensures read { (text : List ℕ) → IsTextOf self.old text
             → Reads (option_map record_of result) IsRecord text_of (text ++ last.now) }

@@ -12,8 +12,9 @@ use std::alloc::{AllocError, Global};
 use std::marker::Model;
 use std::mem;
 
-/// A checker of one journal, seen as the number of its bytes, what is kept of the line that has begun, and what is known of the
-/// whole lines. It takes the bytes in pieces, and keeps none but those of that line.
+/// A checker of one journal, seen as the number of its bytes, what is kept of the line that has
+/// begun, and what is known of the whole lines. It takes the bytes in pieces, and keeps none but
+/// those of that line.
 #[derive(Drop)]
 pub struct Checker {
     count: u64,
@@ -82,8 +83,8 @@ impl Checker {
 
     /// Takes the next bytes.
     ///
-    /// There are fewer than 2^63 with them. After `NoMemory` it takes no more bytes, and each later call answers `NoMemory`.
-    /// Where `ready` is true, no memory is wanted.
+    /// There are fewer than 2^63 with them. After `NoMemory` it takes no more bytes, and each later
+    /// call answers `NoMemory`. Where `ready` is true, no memory is wanted.
     pub fn feed(&mut self, piece: &[u8]) -> Result<(), AllocError>
         requires { self.old.count + length piece.now < 2 ^ 63 }
         ensures after { OnOk result ((bytes : List ℕ) → StandsFor self.old bytes
@@ -107,8 +108,8 @@ impl Checker {
         Ok(())
     }
 
-    /// Whether the whole lines hold the exchange and one record after it, or no record matters any more: then `feed` wants no
-    /// memory.
+    /// Whether the whole lines hold the exchange and one record after it, or no record matters any
+    /// more: then `feed` wants no memory.
     pub fn ready(&self) -> bool
         ensures at { result ≡ is_ready_at self.now }
         ensures of { (bytes : List ℕ) → StandsFor self.now bytes → IsReadiness bytes result }

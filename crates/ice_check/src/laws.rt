@@ -8,8 +8,8 @@ pub fn records_are_short()
     ensures { RecordsAreShort }
 {}
 
-/// The yes to a session, and its regret and surplus, don't depend on the order in which the submissions of different bidders come
-/// in a round.
+/// The yes to a session, and its regret and surplus, don't depend on the order in which the
+/// submissions of different bidders come in a round.
 pub fn order_of_rounds_keeps_yes()
     ensures { OrderOfRoundsKeepsYes }
 {}

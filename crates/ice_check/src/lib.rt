@@ -1,5 +1,5 @@
-//! The checker of journals whose bytes come in pieces, cut anywhere. It keeps how far the tests have come and the line that has
-//! begun, and no other bytes.
+//! The checker of journals whose bytes come in pieces, cut anywhere. It keeps how far the tests
+//! have come and the line that has begun, and no other bytes.
 #![tactic(auto)]
 
 mod begun;

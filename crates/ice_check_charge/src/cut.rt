@@ -13,7 +13,8 @@ use crate::lines::{StatedCut, threshold_in};
 use ice_journal::Line;
 use ice_journal_laws::Rule;
 
-/// Whether a cut of this numerator, which leaves so much, is in range and leaves the whole total unless it is 0.
+/// Whether a cut of this numerator, which leaves so much, is in range and leaves the whole total
+/// unless it is 0.
 fn is_spent(num: i64, left: i128, total: i128) -> bool
     ensures yes { IsTrue result → IsSpent num left total }
     ensures no { result ≡ false → ¬ IsSpent num left total }
@@ -59,9 +60,10 @@ fn take_stated(withouts: &[i64], total: i64, stated: &StatedCut) -> Result<Charg
     }
 }
 
-/// Takes the record of the cut and the surplus, by the greatest values without each bidder and the total, which is the
-/// value of the final sets. It fails `Order` where it is another record, and `Threshold` where the cut is not the least
-/// one that the total pays for, or the surplus is not what is left.
+/// Takes the record of the cut and the surplus, by the greatest values without each bidder and the
+/// total, which is the value of the final sets. It fails `Order` where it is another record, and
+/// `Threshold` where the cut is not the least one that the total pays for, or the surplus is not
+/// what is left.
 pub fn take_threshold(withouts: &[i64], total: i64, line: &Line) -> Result<Charge, Rule>
     requires few { length withouts.now ≤ 40 }
     requires lawful { IsRecord (record_of line.now) }

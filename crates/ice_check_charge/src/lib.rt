@@ -1,4 +1,5 @@
-//! What a session that closes charges: its cut, its surplus and its payments, tested record by record. It takes no memory.
+//! What a session that closes charges: its cut, its surplus and its payments, tested record by
+//! record. It takes no memory.
 #![tactic(auto)]
 
 mod amounts;

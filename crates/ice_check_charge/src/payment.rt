@@ -60,8 +60,9 @@ fn take_stated(charge: &Charge, due: &Due<'_>, stated: &StatedPayment<'_>) -> Re
     }
 }
 
-/// Takes the record of a bidder's payment. It fails `Order` where it is another record, or is of another bidder, and
-/// `Payment` where its Vickrey discount, its discount or its payment is not what is due at the charge's cut.
+/// Takes the record of a bidder's payment. It fails `Order` where it is another record, or is of
+/// another bidder, and `Payment` where its Vickrey discount, its discount or its payment is not
+/// what is due at the charge's cut.
 pub fn take_payment(charge: &Charge, due: &Due<'_>, line: &Line) -> Result<(), Rule>
     requires worth { IsWorth due.now.worth }
     requires lawful { IsRecord (record_of line.now) }

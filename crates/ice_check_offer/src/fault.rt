@@ -6,6 +6,7 @@ use ice_journal_laws::Rule;
 pub enum Fault {
     /// The record fails this test.
     Here(Rule),
-    /// The list of rows that ended before the record fails this test, which names the list's last line.
+    /// The list of rows that ended before the record fails this test, which names the list's last
+    /// line.
     List(Rule),
 }

@@ -1,4 +1,5 @@
-//! What a settlement that goes on offers: its prices with their certificates, and the round at them, tested record by record.
+//! What a settlement that goes on offers: its prices with their certificates, and the round at
+//! them, tested record by record.
 #![tactic(auto)]
 
 mod fault;

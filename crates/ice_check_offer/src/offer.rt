@@ -19,8 +19,9 @@ use ice_tree::{AllWeights, Assignment, Bounds};
 use ice_verdicts::Judge;
 use std::alloc::{AllocError, Global};
 
-/// What a settlement offers: its bounds, provisional sets and prices, with what is known of its round; and what comes
-/// next in it. It keeps neither a row nor a submission, and takes memory only when it is made.
+/// What a settlement offers: its bounds, provisional sets and prices, with what is known of its
+/// round; and what comes next in it. It keeps neither a row nor a submission, and takes memory only
+/// when it is made.
 #[derive(Drop)]
 pub struct Offer {
     pub(crate) place: Place,
@@ -77,8 +78,9 @@ impl Offer {
         self.place = Place::Prices;
     }
 
-    /// Takes the next record, or tells the first test that fails; then it is of no more use. The weights are the weighted
-    /// values of the offer's bounds, in hundredths, and the number is that of the settlement. Takes no memory.
+    /// Takes the next record, or tells the first test that fails; then it is of no more use. The
+    /// weights are the weighted values of the offer's bounds, in hundredths, and the number is that
+    /// of the settlement. Takes no memory.
     pub fn take(
         &mut self,
         exchange: &Exchange,

@@ -5,7 +5,7 @@ use Rattle.std.proofs.lemmas.Bool.{or_parts, true≢false, false≢true}
 use Rattle.std.proofs.lemmas.Option.{none-some}
 use Rattle.ice_defs.specs.Exchange.{Settings}
 use Rattle.ice_defs.specs.declared.Group.TheVariants.{Assign, Final}
-use Rattle.ice_journal.specs.Records.{Record, Version, version_1, Kind, assign_kind, regret_kind, session_kind}
+use Rattle.ice_journal.specs.Records.{Record, version_1, assign_kind, regret_kind, session_kind}
 use Rattle.ice_journal.specs.Records as line
 use Rattle.ice_journal.specs.Lines.{version_of}
 use Rattle.ice_section.specs.Section.{Section, order, take_record, may_end, exchange_in}

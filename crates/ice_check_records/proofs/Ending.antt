@@ -1,33 +1,32 @@
 -- What the records behind a group make of what is known of a journal: the regret, the offer, the cut, the payments and the end; and what is answered.
-use Rattle.std.proofs.Common.{◌≡◌, ◌≢◌, ◌<◌, ◌≤◌, ◌-ℤ◌, ℕ, zero, suc, Bool, true, false, cond, eqb, List, [], ◌∷◌, length, ℤ, pos, refl, sym, ◌∙◌, ap, subst, arith, ◌⊎◌, inl, inr}
-use Rattle.std.specs.Prelude.{◌||◌, int_le, Option, Some, None, Result, Ok, Err}
-use Rattle.std.proofs.lemmas.Bool.{eqb-true, eqb-false, or_parts, false≢true}
+use Rattle.std.proofs.Common.{◌≡◌, ◌≢◌, ◌<◌, ◌-ℤ◌, ℕ, suc, Bool, true, false, cond, eqb, List, [], length, ℤ, pos, refl, sym, ◌∙◌, ap, subst, arith, ◌⊎◌, inl, inr}
+use Rattle.std.specs.Prelude.{int_le, Some, None, Result, Ok, Err}
+use Rattle.std.proofs.lemmas.Bool.{eqb-false, or_parts, false≢true}
 use Rattle.arrayvec.specs.ArrayVec.{ArrayVec}
 use Rattle.ice_defs.specs.declared.Group.{Group}
-use Rattle.ice_defs.specs.declared.Group.TheVariants.{Assign, Final, Rival, Provisional, Without}
+use Rattle.ice_defs.specs.declared.Group.TheVariants.{Assign, Final, Provisional, Without}
 use Rattle.ice_defs.specs.Bounds.{Bounds}
-use Rattle.ice_defs.specs.Fraction.{Fraction, whole}
+use Rattle.ice_defs.specs.Fraction.{whole}
 use Rattle.ice_defs.specs.Trade.{Assignment}
 use Rattle.ice_defs.specs.Weighing.{weighted_weights}
-use Rattle.ice_defs.specs.Exchange.{Exchange, trees_of, exact_of, opening_bounds}
+use Rattle.ice_defs.specs.Exchange.{Exchange, trees_of, opening_bounds}
 use Rattle.ice_defs.specs.Lawful.{IsExchange}
 use Rattle.ice_defs.specs.Group.{group_weights}
 use Rattle.ice_defs.specs.Session.{closes}
-use Rattle.ice_tree.specs.Alike.{HasSetPerTree}
 use Rattle.ice_journal.specs.declared.line.Version.{Version}
 use Rattle.ice_journal.specs.Records.{Record, EndWord, closed_end, open_end}
 use Rattle.ice_journal.specs.Records as line
 use Rattle.ice_journal_laws.specs.declared.answer.Answer.{Answer}
 use Rattle.ice_journal_laws.specs.declared.rule.Rule.{Rule}
-use Rattle.ice_journal_laws.specs.State.{Place, at_group, at_regret, at_payment, at_end, at_section, done, State}
+use Rattle.ice_journal_laws.specs.State.{Place, at_group, at_payment, at_end, done, State}
 use Rattle.ice_journal_laws.specs.Fields.{Closing, is_end, same_end}
 use Rattle.ice_journal_laws.specs.Next.{to_line, go_to, settled}
 use Rattle.ice_journal_laws.specs.Assigning.{described}
 use Rattle.ice_journal_laws.specs.Answers.{EndsWith}
-use Rattle.ice_journal_laws.specs.Progress.{passing, failed, TakesOn, is_ready_at}
+use Rattle.ice_journal_laws.specs.Progress.{passing, TakesOn, is_ready_at}
 use Rattle.ice_journal_laws.proofs.Settling.{amount_right, ends}
 use Rattle.ice_check_charge.specs.declared.due.Due.{Due}
-use Rattle.ice_check_charge.specs.Charging.{PassesCut, AwaitsPayment, TakesPayment, paid}
+use Rattle.ice_check_charge.specs.Charging.{PassesCut, AwaitsPayment, TakesPayment}
 use Rattle.ice_check_offer.specs.declared.fault.Fault.{Fault}
 use Rattle.ice_check_offer.specs.declared.fault.Fault.TheVariants.{Here, List as OfList}
 use Rattle.ice_check_offer.specs.declared.offer.Offer.{Offer}
@@ -46,8 +45,7 @@ use Rattle.ice_check_records.specs.declared.groups.Groups.{Groups}
 use Rattle.ice_check_records.specs.declared.log.LogWalk.{LogWalk}
 use Rattle.ice_check_records.specs.Heads.{version_of_head, kind_of_head, end_of, HasRegret, IsSession, IsGroupOf}
 use Rattle.ice_check_records.specs.Openings.{Opens, CanOpen, opened_next, opened_value, opened_place}
-use Rattle.ice_check_records.specs.Logs.{IsWalkOf}
-use Rattle.ice_check_records.specs.Groups.{place_at, known_in, IsOffering, StandsFor, weights_for, AreKept, HasSettled, HasOffered, IsClosing, IsReady}
+use Rattle.ice_check_records.specs.Groups.{place_at, known_in, IsOffering, StandsFor, AreKept, HasSettled, HasOffered, IsClosing, IsReady}
 use Rattle.ice_check_records.specs.Taking.{Goes, IsTaken, Fails, Begins, behind_regret, behind_payment, Pays, AnswersHere, IsAnswer}
 use Rattle.ice_check_records.proofs.Knowing.{goes_on}
 use Rattle.ice_check_records.proofs.Walks.{few_trees}

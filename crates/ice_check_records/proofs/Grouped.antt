@@ -1,13 +1,13 @@
 -- What the records of a group's head and sets make of what is known of a journal behind its exchange.
-use Rattle.std.proofs.Common.{◌≡◌, ◌≢◌, ◌<◌, ◌≤◌, ℕ, suc, Bool, List, [], ◌∷◌, ◌++◌, length, ℤ, pos, true, refl, sym, ◌∙◌, ap, subst, arith, length-append}
+use Rattle.std.proofs.Common.{◌≡◌, ◌≢◌, ◌<◌, suc, Bool, List, [], ◌∷◌, ◌++◌, length, ℤ, true, refl, sym, ◌∙◌, ap, subst, arith, length-append}
 use Rattle.std.specs.Prelude.{Some, Result, Ok, Err}
 use Rattle.std.proofs.lemmas.Bool.{false≢true}
 use Rattle.ice_defs.specs.Set.{NodeSet, IsSatisfied}
 use Rattle.ice_defs.specs.Trade.{Assignment, tree_of, total_value}
 use Rattle.ice_defs.specs.Bound.{Multipliers}
 use Rattle.ice_defs.specs.Steps.{Side}
-use Rattle.ice_defs.specs.Exchange.{Exchange, trees_of, exact_of}
-use Rattle.ice_defs.specs.Group.{start_of, group_weights}
+use Rattle.ice_defs.specs.Exchange.{trees_of, exact_of}
+use Rattle.ice_defs.specs.Group.{start_of}
 use Rattle.ice_defs.specs.declared.Group.{Group}
 use Rattle.ice_defs.specs.declared.Group.TheVariants.{Assign, Final, Rival, Provisional, Without}
 use Rattle.ice_journal.specs.Records.{Record, EndWord, assign_end}
@@ -32,7 +32,7 @@ use Rattle.ice_journal_laws.proofs.Sets.{IsFit, set_on, sets_short, sets_misvalu
 use Rattle.ice_check_records.specs.Heads.{end_of, IsGroupOf, HasLog}
 use Rattle.ice_check_records.specs.Stating.{Stating}
 use Rattle.ice_check_records.specs.Stages.{IsBroken}
-use Rattle.ice_check_records.specs.Groups.{at_hand, final_stated, final_in, known_in, weights_for, AreKept, IsGroupAt, IsReady}
+use Rattle.ice_check_records.specs.Groups.{at_hand, known_in, weights_for, AreKept, IsGroupAt}
 use Rattle.ice_check_records.specs.Taking.{IsTaken, Fails, Takes, HasOpened, HasBegun, HasKeptFinal, with_final, FollowsSets, FailsAsWhole, are_short, are_misvalued, LogFollows, Closes}
 use Rattle.ice_check_records.proofs.Knowing.{goes_on}
 use Rattle.ice_check_records.proofs.Placing.{broken_fails, left_out_fails, is_fit}

@@ -1,5 +1,5 @@
 -- A state keeps what is known of it.
-use Rattle.std.proofs.Common.{◌≡◌, ℕ, suc, refl, sym, subst, cond, Bool, true, false}
+use Rattle.std.proofs.Common.{◌≡◌, ℕ, suc, refl, sym, subst}
 use Rattle.std.specs.Prelude.{Result, Ok, Err}
 use Rattle.ice_defs.specs.declared.Group.{Group}
 use Rattle.ice_defs.specs.declared.Group.TheVariants.{Assign, Final, Rival, Provisional, Without}

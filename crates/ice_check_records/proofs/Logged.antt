@@ -11,7 +11,7 @@ use Rattle.ice_defs.specs.Bound.{Multipliers}
 use Rattle.ice_defs.specs.Steps.{Side}
 use Rattle.ice_defs.specs.Bounds.{Bounds}
 use Rattle.ice_defs.specs.Weighing.{weighted_weights}
-use Rattle.ice_defs.specs.Exchange.{Exchange, trees_of, exact_of}
+use Rattle.ice_defs.specs.Exchange.{trees_of, exact_of}
 use Rattle.ice_journal.specs.Records.{Record, Version}
 use Rattle.ice_check_records.specs.declared.head.Head.{Head}
 use Rattle.ice_check_records.specs.declared.head.Head.TheVariants as head
@@ -24,15 +24,13 @@ use Rattle.ice_check_records.specs.declared.next.Next.TheVariants as coming
 use Rattle.ice_check_records.specs.declared.groups.Groups.{Groups}
 use Rattle.ice_check_records.specs.declared.log.LogWalk.{LogWalk}
 use Rattle.ice_journal_laws.specs.State.{at_log, at_group, at_prices, at_threshold, State, exchange_at, weights_at}
-use Rattle.ice_journal_laws.specs.Next.{to_line, go_to, after_log, after_step, bidder_count}
-use Rattle.ice_journal_laws.specs.Progress.{passing, failed, TakesOn}
+use Rattle.ice_journal_laws.specs.Next.{to_line, go_to, after_log, after_step}
 use Rattle.ice_journal_laws.specs.Stepping.{PassesStep, FailsStep}
 use Rattle.ice_journal_laws.proofs.Walking.{record_fails, record_passes}
 use Rattle.ice_check_records.specs.Heads.{version_of_head, HasRegret, IsSession, IsGroupOf, HasLog}
-use Rattle.ice_check_records.specs.Stating.{Stating}
-use Rattle.ice_check_records.specs.Groups.{at_hand, final_stated, final_in, known_in, IsOffering, StandsFor, weights_for, AreKept, IsGroupAt, HasOpen, HasSettled, HasOffered, IsClosing, IsReady}
-use Rattle.ice_check_records.specs.Taking.{Goes, IsTaken, Fails, HasKeptFinal, with_final, behind_without, HasLeft, LeavesGroup}
-use Rattle.ice_check_records.proofs.Knowing.{known_again, stands_known}
+use Rattle.ice_check_records.specs.Groups.{at_hand, known_in, IsOffering, StandsFor, weights_for, AreKept, HasOpen, IsReady}
+use Rattle.ice_check_records.specs.Taking.{IsTaken, Fails, HasKeptFinal, behind_without, HasLeft, LeavesGroup}
+use Rattle.ice_check_records.proofs.Knowing.{known_again}
 
 -- ---- a group is complete
 

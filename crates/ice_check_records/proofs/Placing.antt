@@ -1,5 +1,5 @@
 -- What the stages of the checker make of a record.
-use Rattle.std.proofs.Common.{◌≡◌, ◌<◌, ◌≤◌, ◌+◌, ◌^◌, ℕ, suc, false, [], length, map, take, set, replicate, refl, sym, ◌∙◌, ap, subst, arith, ◌⊎◌, inl, inr}
+use Rattle.std.proofs.Common.{◌≡◌, ◌<◌, ◌≤◌, ◌+◌, ℕ, false, [], length, map, take, set, replicate, refl, sym, ◌∙◌, ap, subst, arith, ◌⊎◌, inl, inr}
 use Rattle.std.specs.Prelude.{◌&&◌, Option, Some, None, IfSome, Err}
 use Rattle.std.proofs.lemmas.Bool.{cases_order}
 use Rattle.std.proofs.lemmas.List.{get_or-set_other, get_or-set_same, get_or-map, length-set, length-map, length-replicate, length-take-le}

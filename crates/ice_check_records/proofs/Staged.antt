@@ -1,5 +1,5 @@
 -- What the stages of the checker stand for, behind the exchange and at the end.
-use Rattle.std.proofs.Common.{◌≡◌, ℕ, suc, Bool, true, false, refl, sym, ◌∙◌, ap, subst}
+use Rattle.std.proofs.Common.{◌≡◌, ℕ, suc, refl, sym, ◌∙◌, ap, subst}
 use Rattle.std.specs.Prelude.{Option, Some, None, Ok, unwrap_or}
 use Rattle.ice_journal.specs.Records.{Record}
 use Rattle.ice_journal_laws.specs.declared.answer.Answer.{Answer}
@@ -7,7 +7,7 @@ use Rattle.ice_journal_laws.specs.declared.answer.Answer.TheVariants.{No}
 use Rattle.ice_journal_laws.specs.declared.rule.Rule.TheVariants as rule
 use Rattle.ice_journal_laws.specs.State.{State}
 use Rattle.ice_journal_laws.specs.Answers.{EndsWith}
-use Rattle.ice_journal_laws.specs.Progress.{Progress, nothing, other_kind, passing, failed, out_of_memory, is_ready, IsAfter}
+use Rattle.ice_journal_laws.specs.Progress.{Progress, passing, failed, is_ready, IsAfter}
 use Rattle.ice_check_offer.specs.declared.fault.Fault.{Fault}
 use Rattle.ice_check_records.specs.declared.groups.Groups.{Groups}
 use Rattle.ice_check_records.specs.declared.stage.Stage.{Stage}

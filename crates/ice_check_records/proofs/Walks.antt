@@ -1,5 +1,5 @@
 -- The weights, the sides and the sets that a walk of an exchange's logs begins with.
-use Rattle.std.proofs.Common.{◌≡◌, ◌<◌, ◌≤◌, ℕ, zero, suc, Bool, List, [], ◌∷◌, length, map, replicate, false, refl, sym, ◌∙◌, ap, subst, arith, ℤ}
+use Rattle.std.proofs.Common.{◌≡◌, ◌<◌, ◌≤◌, ℕ, zero, suc, Bool, List, [], ◌∷◌, length, map, replicate, false, refl, sym, ◌∙◌, ap, subst, arith}
 use Rattle.std.specs.List.{AllByRecursion}
 use Rattle.std.proofs.lemmas.List.{length-map, get_or-map, length-replicate, get_or-replicate}
 use Rattle.ice_defs.specs.declared.Group.{Group}
@@ -10,7 +10,7 @@ use Rattle.ice_defs.specs.Set.{Weights}
 use Rattle.ice_defs.specs.Fixing.{Fixing, mark_of}
 use Rattle.ice_defs.specs.Trade.{Assignment, tree_of, fixing_of}
 use Rattle.ice_defs.specs.Bounds.{Bounds}
-use Rattle.ice_defs.specs.Exchange.{Bidder, Exchange, trees_of, exact_of}
+use Rattle.ice_defs.specs.Exchange.{Bidder, Exchange, trees_of}
 use Rattle.ice_defs.specs.Lawful.{IsBidder, IsExchange}
 use Rattle.ice_defs.specs.Group.{free_side, start_of, group_weights}
 use Rattle.ice_tree.specs.Alike.{AreAlike, AreChosen, HasSetPerTree}

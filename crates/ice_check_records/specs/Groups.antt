@@ -1,10 +1,10 @@
 -- What is known of the states of a journal behind its exchange.
-use Rattle.std.specs.Prelude.{ℕ, suc, ◌<◌, ◌≤◌, ◌≡◌, List, [], ◌∷◌, length, ℤ, pos}
+use Rattle.std.specs.Prelude.{◌<◌, ◌≤◌, ◌≡◌, List, [], length}
 use Rattle.ice_defs.specs.declared.Group.{Group}
 use Rattle.ice_defs.specs.declared.Group.TheVariants.{Assign, Final, Rival, Provisional, Without}
 use Rattle.ice_defs.specs.Set.{Weights}
 use Rattle.ice_defs.specs.Round.{Judged}
-use Rattle.ice_defs.specs.Exchange.{Exchange, trees_of, exact_of}
+use Rattle.ice_defs.specs.Exchange.{trees_of, exact_of}
 use Rattle.ice_defs.specs.Group.{group_weights}
 use Rattle.ice_defs.specs.Lawful.{IsExchange}
 use Rattle.ice_tree.specs.Alike.{HasSetPerTree}

@@ -2,7 +2,6 @@
 use Rattle.std.specs.Prelude.{◌≡◌, ◌<◌, Bool, List, length, ℤ, Option, Some, None}
 use Rattle.std.specs.List.{AllByRecursion}
 use Rattle.ice_defs.specs.Tree.{Tree}
-use Rattle.ice_defs.specs.Set.{Weights}
 use Rattle.ice_defs.specs.Bound.{Multipliers}
 use Rattle.ice_defs.specs.Steps.{Step, Side, with_mark}
 use Rattle.ice_defs.specs.Fixing.{mark_of}

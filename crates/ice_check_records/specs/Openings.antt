@@ -1,5 +1,5 @@
 -- What the record behind a complete exchange begins.
-use Rattle.std.specs.Prelude.{◌≡◌, Bool, true, false, ◌||◌, is_some, List, [], ℤ, pos, Option, Some, None}
+use Rattle.std.specs.Prelude.{◌≡◌, Bool, true, false, ◌||◌, is_some, [], ℤ, pos, Option, Some, None}
 use Rattle.ice_defs.specs.declared.Group.TheVariants as group
 use Rattle.ice_journal.specs.Records.{Record}
 use Rattle.ice_check_records.specs.declared.head.Head.{Head}

@@ -1,7 +1,7 @@
 -- What a record makes of a journal behind its exchange.
-use Rattle.std.specs.Prelude.{ℕ, suc, ◌-◌, ◌≡◌, ◌≢◌, ◌==◌, Bool, if◌then◌else◌, IsTrue, List, [], ◌∷◌, length, ℤ, pos, Option, Some, None, Result, Ok, Err}
+use Rattle.std.specs.Prelude.{ℕ, suc, ◌-◌, ◌≡◌, ◌≢◌, ◌==◌, Bool, if◌then◌else◌, IsTrue, List, [], ◌∷◌, length, ℤ, Option, Some, None, Result, Ok, Err}
 use Rattle.ice_defs.specs.declared.Group.{Group}
-use Rattle.ice_defs.specs.declared.Group.TheVariants.{Assign, Final, Rival, Provisional, Without}
+use Rattle.ice_defs.specs.declared.Group.TheVariants.{Assign, Final, Provisional, Without}
 use Rattle.ice_defs.specs.Exchange.{Exchange, trees_of, exact_of}
 use Rattle.ice_defs.specs.Group.{start_of}
 use Rattle.ice_defs.specs.Trade.{total_value}
@@ -26,7 +26,7 @@ use Rattle.ice_check_records.specs.declared.next.Next.{Next}
 use Rattle.ice_check_records.specs.declared.next.Next.TheVariants as next
 use Rattle.ice_check_records.specs.declared.opening.Opening.{Opening}
 use Rattle.ice_check_records.specs.declared.groups.Groups.{Groups}
-use Rattle.ice_check_records.specs.Heads.{version_of_head, kind_of_head, IsGroupOf}
+use Rattle.ice_check_records.specs.Heads.{version_of_head, kind_of_head}
 use Rattle.ice_check_records.specs.Openings.{opened_place}
 use Rattle.ice_check_records.specs.Logs.{IsWalkOf}
 use Rattle.ice_check_records.specs.Groups.{at_hand, known_in, IsOffering, StandsFor, weights_for, AreKept, IsReady}

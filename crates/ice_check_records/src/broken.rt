@@ -1,5 +1,4 @@
 //! The rule that a set breaks by itself.
-ghost use Rattle.std.specs.Prelude.{◌≡◌};
 ghost use Rattle.ice_check_records.specs.Stages.{IsBroken};
 
 use ice_journal_laws::Rule;

@@ -15,8 +15,8 @@ use std::alloc::{AllocError, Global};
 use std::marker::Model;
 use std::mem;
 
-/// A checker of one journal, seen as the number of the next line and what is known of how far the tests have come. It takes the
-/// records one after another, and keeps neither them nor their bytes.
+/// A checker of one journal, seen as the number of the next line and what is known of how far the
+/// tests have come. It takes the records one after another, and keeps neither them nor their bytes.
 #[derive(Drop)]
 pub struct Checker {
     alloc: Global,
@@ -50,7 +50,8 @@ impl Checker {
 
     /// Takes the next record.
     ///
-    /// Fewer than 2^63 records came before it. After `NoMemory` it takes no more records, and each later call answers `NoMemory`. Where `ready` is true, no memory is wanted.
+    /// Fewer than 2^63 records came before it. After `NoMemory` it takes no more records, and each
+    /// later call answers `NoMemory`. Where `ready` is true, no memory is wanted.
     pub fn feed(&mut self, line: &Line) -> Result<(), AllocError>
         requires lawful { IsRecord (record_of line.now) }
         requires few { self.old.line < 2 ^ 63 }
@@ -70,7 +71,8 @@ impl Checker {
         Ok(())
     }
 
-    /// Whether the exchange and one record after it are taken, or no record matters any more: then `feed` wants no memory.
+    /// Whether the exchange and one record after it are taken, or no record matters any more: then
+    /// `feed` wants no memory.
     pub fn ready(&self) -> bool
         ensures at { result ≡ is_ready_checker self.now }
         ensures progress { (p : Progress) → HasCome self.now p → result ≡ is_ready p }
@@ -88,7 +90,8 @@ impl Checker {
         self.next_line
     }
 
-    /// The settlement whose regret the next record is to state, where it is to state one and no test has failed.
+    /// The settlement whose regret the next record is to state, where it is to state one and no
+    /// test has failed.
     pub fn due_regret(&self) -> Option<DueRegret<'_>>
         ensures tells { (p : Progress) → HasCome self.now p → TellsDue result p }
         ensures count { IfSome result (λ due. length due.bounds.now
@@ -97,15 +100,16 @@ impl Checker {
         self.stage.due()
     }
 
-    /// Whether the next record is to state the prices of a settlement, or to begin a stop in their place, and no test has
-    /// failed.
+    /// Whether the next record is to state the prices of a settlement, or to begin a stop in their
+    /// place, and no test has failed.
     pub fn awaits_prices(&self) -> bool
         ensures { (p : Progress) → HasCome self.now p → result ≡ awaits_prices p }
     {
         self.stage.awaits_prices()
     }
 
-    /// What the tests find, where the records taken so far are the whole journal. It wants no memory.
+    /// What the tests find, where the records taken so far are the whole journal. It wants no
+    /// memory.
     pub fn finish(self) -> Result<Answer, CheckEnd>
         ensures { (p : Progress) → HasCome self p → EndsWith p result }
     {

@@ -71,7 +71,8 @@ fn difference(one: i64, other: i64) -> i128
     i128::from(one) - i128::from(other)
 }
 
-/// Whether a group leaves out the bidder after the first `taken` ones, and this set of it isn't empty.
+/// Whether a group leaves out the bidder after the first `taken` ones, and this set of it isn't
+/// empty.
 fn is_left_out(group: Group, taken: u8, set: &NodeSet) -> bool
     ensures { (found : tests.Stated) → length found.sets ≡ taken
         → (IsTrue result ↔ HasLeftOut (at_sets group found) (records.set set.now)) }
@@ -199,7 +200,8 @@ impl Groups {
         self.next = next;
     }
 
-    /// The sets of a group are all there and balanced: where they have the value that it states, its log begins.
+    /// The sets of a group are all there and balanced: where they have the value that it states,
+    /// its log begins.
     fn begin_log(&mut self, group: Group) -> Result<(), Rule>
         requires kept { AreKept self.old }
         requires full { length self.old.stated.sets ≡ length (trees_of self.old.stated.exchange) }
@@ -442,7 +444,8 @@ impl Groups {
         Ok(())
     }
 
-    /// Takes the next record, or tells the first test that fails; then it is of no more use. Takes no memory.
+    /// Takes the next record, or tells the first test that fails; then it is of no more use. Takes
+    /// no memory.
     pub(crate) fn take(&mut self, line: &Line) -> Result<(), Fault>
         requires lawful { IsRecord (record_of line.now) }
         requires kept { AreKept self.old }

@@ -1,4 +1,5 @@
-//! The checker of journals: it takes one record at a time, and answers yes or names the first failed test.
+//! The checker of journals: it takes one record at a time, and answers yes or names the first
+//! failed test.
 #![tactic(auto)]
 
 mod broken;

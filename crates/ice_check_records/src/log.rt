@@ -25,8 +25,8 @@ use ice_trade::Exchange;
 use ice_tree::{AllWeights, Assignment, Bounds, Tree};
 use std::alloc::{AllocError, Global};
 
-/// What a log is walked with: the weights of its group, the side that it begins with, where the walk has come, and the
-/// multipliers of the leaf before.
+/// What a log is walked with: the weights of its group, the side that it begins with, where the
+/// walk has come, and the multipliers of the leaf before.
 #[derive(Drop)]
 pub(crate) struct LogWalk {
     pub(crate) weights: AllWeights,
@@ -68,7 +68,8 @@ impl LogWalk {
         })
     }
 
-    /// Changes the weights to those of a group at these bounds, where the final sets are these if they matter.
+    /// Changes the weights to those of a group at these bounds, where the final sets are these if
+    /// they matter.
     pub(crate) fn weigh(
         &mut self,
         exchange: &Exchange,
@@ -186,8 +187,8 @@ impl LogWalk {
         self.step(trees, target, step)
     }
 
-    /// Takes the next record of the log, of a journal of this version, where no feasible sets are to be worth more than the
-    /// target. It answers the first test that the record fails.
+    /// Takes the next record of the log, of a journal of this version, where no feasible sets are
+    /// to be worth more than the target. It answers the first test that the record fails.
     pub(crate) fn take(
         &mut self,
         trees: &[Tree],

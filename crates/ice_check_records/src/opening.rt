@@ -7,7 +7,8 @@ use ice_defs::Group;
 /// What the record behind a complete exchange begins.
 #[derive(Clone, Copy)]
 pub(crate) enum Opening {
-    /// The sets of this group, which has this value; the sets of an assignment have none, which counts as 0.
+    /// The sets of this group, which has this value; the sets of an assignment have none, which
+    /// counts as 0.
     Sets { group: Group, value: i64 },
     /// The first settlement.
     Settlement,

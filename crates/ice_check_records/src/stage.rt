@@ -99,7 +99,8 @@ impl Stage {
         }
     }
 
-    /// What the tests find, where the records so far are the whole journal and the line with this number would be the next.
+    /// What the tests find, where the records so far are the whole journal and the line with this
+    /// number would be the next.
     pub(crate) fn answer(&self, number: u64) -> Result<Answer, CheckEnd>
         requires { IsKept self.now }
         ensures { (p : Progress) → IsProgress number self.now p → EndsWith p result }

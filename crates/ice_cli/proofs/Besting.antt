@@ -8,7 +8,7 @@ use Rattle.ice_cli.specs.declared.refusal.Refusal.TheVariants.{File, Unread, NoM
 use Rattle.ice_cli.specs.declared.best_set.BestSet.{BestSet}
 use Rattle.ice_cli.specs.Call.{Call}
 use Rattle.ice_cli.specs.Output.{refused_line, unread_line}
-use Rattle.ice_cli.specs.Parts.{HasPart, Answers}
+use Rattle.ice_cli.specs.Parts.{Answers}
 use Rattle.ice_cli.specs.Refusals.{fault_of, refusal_text, refusal_status}
 use Rattle.ice_cli.specs.BestServed.{AreBestLines, BestAnswers, exchange_refused, prices_refused, exchange_unread, other_unread}
 use Rattle.ice_cli.specs.Bests.{best_text}

@@ -7,7 +7,7 @@ use Rattle.ice_edge.specs.Told.{Told}
 use Rattle.ice_cli.specs.declared.refusal.Refusal.{Refusal}
 use Rattle.ice_cli.specs.declared.refusal.Refusal.TheVariants.{File, Unread, NoMemory}
 use Rattle.ice_cli.specs.Call.{journal_limit}
-use Rattle.ice_cli.specs.CheckServed.{IsCheckFault, CheckAnswers, HasAnswer, answer_line, answer_status}
+use Rattle.ice_cli.specs.CheckServed.{IsCheckFault, CheckAnswers, answer_line, answer_status}
 use Rattle.ice_cli.specs.Output.{refused_line, unread_line}
 use Rattle.ice_cli.specs.Parts.{AreFetched, Answers}
 use Rattle.ice_cli.specs.Refusals.{fault_of, refusal_text, refusal_status, Refuses}

@@ -1,5 +1,5 @@
 -- `check` on told bytes, with no fault of the outside: the checker's answer on the bytes decides what is written.
-use Rattle.std.proofs.Common.{◌≡◌, ◌≢◌, ◌∙◌, refl, ap, sym, subst, inl, inr, ◌⊎◌, ℕ, ◌≤◌, List, [], length, get_or, Some, Option, Result, Ok, Err, arith}
+use Rattle.std.proofs.Common.{◌≡◌, ◌≢◌, ◌∙◌, refl, ap, sym, subst, inl, inr, ◌⊎◌, ℕ, List, [], length, get_or, Some, Option, Result, Ok, Err, arith}
 use Rattle.ice_defs.specs.FileFault.{FileFault, at_line}
 use Rattle.ice_edge.specs.declared.status.Status.{Status}
 use Rattle.ice_edge.specs.declared.status.Status.TheVariants.{Done, Words, Input, No, Spent, Limit, ReadFault, WriteFault, NoMemory, StillOpen}
@@ -8,9 +8,9 @@ use Rattle.ice_journal_laws.specs.declared.answer.CheckEnd.{CheckEnd}
 use Rattle.ice_journal_laws.specs.declared.answer.CheckEnd.TheVariants as ending
 use Rattle.ice_journal_laws.specs.Answers.{AnswersBytes}
 use Rattle.ice_journal_laws.proofs.Answered.{one_answer_of_bytes}
-use Rattle.ice_cli.specs.Call.{Call, IsTold, journal_limit, OfTold, OfFile, too_long, at_fault}
+use Rattle.ice_cli.specs.Call.{Call, IsTold, journal_limit, OfTold, too_long, at_fault}
 use Rattle.ice_cli.specs.Command.{check, best, regret, xor, run, gen, migrate, IsCommand, replay}
-use Rattle.ice_cli.specs.CheckServed.{IsEndFault, IsCheckFault, CheckAnswers, WritesAnswer, answer_line, answer_status, other_kind}
+use Rattle.ice_cli.specs.CheckServed.{IsEndFault, CheckAnswers, WritesAnswer, answer_line, answer_status, other_kind}
 use Rattle.ice_cli.specs.Output.{refused_line}
 use Rattle.ice_cli.specs.Served.{IsServed, no_command, answers, cut_short}
 use Rattle.ice_cli.specs.Completeness.{IsFaultless, ChecksBytes, CheckCompletes, CheckIsDecided}

@@ -3,13 +3,13 @@ use Rattle.std.proofs.Common.{◌≡◌, ◌∙◌, refl, sym, subst, ℕ, ◌�
 use Rattle.std.proofs.lemmas.Option.{none-some}
 use Rattle.std.proofs.lemmas.List.{take-append-drop}
 use Rattle.ice_edge.specs.Edge.{Rose, Appends, AppendsFront}
-use Rattle.ice_edge.specs.Told.{Told, IsLater, AreTold}
+use Rattle.ice_edge.specs.Told.{Told, IsLater}
 use Rattle.ice_edge.specs.declared.status.Status.{Status}
 use Rattle.ice_edge.specs.declared.status.Status.TheVariants.{Words, WriteFault}
 use Rattle.ice_cli.specs.Call.{Call, OfTold, OfFile}
 use Rattle.ice_cli.specs.Command.{Command, IsCommand, IsNoCommand}
 use Rattle.ice_cli.specs.Output.{words_line}
-use Rattle.ice_cli.specs.Parts.{HasPart, AreFetched, Answers, IsSaid, Serves}
+use Rattle.ice_cli.specs.Parts.{HasPart, IsSaid, Serves}
 use Rattle.ice_cli.specs.Served.{CommandAnswers, IsServed, no_command, answers, cut_short}
 
 -- ---- what is told

@@ -1,14 +1,13 @@
 -- Refusals of files: from the fetch of one to what a command answers.
-use Rattle.std.proofs.Common.{◌≡◌, ◌∙◌, refl, ap, sym, subst, ℕ, ◌<◌, List, length, Option, Some, IfSome, IsSomeAnd, arith}
+use Rattle.std.proofs.Common.{◌≡◌, refl, subst, ℕ, ◌<◌, List, length, Option, Some, IfSome, IsSomeAnd}
 use Rattle.ice_defs.specs.FileFault.{FileFault}
-use Rattle.ice_edge.specs.Edge.{Rose}
 use Rattle.ice_edge.specs.Told.{Told, IsLonger}
 use Rattle.ice_edge.specs.Told as shelf
 use Rattle.ice_cli.specs.declared.refusal.FileFault.TheVariants.{TooLong}
 use Rattle.ice_cli.specs.declared.refusal.Refusal.{Refusal}
 use Rattle.ice_cli.specs.declared.refusal.Refusal.TheVariants.{File, Unread, NoMemory}
-use Rattle.ice_cli.specs.Call.{Call, OfTold, OfFile, IsRefused, too_long, at_fault}
-use Rattle.ice_cli.specs.Parts.{HasPart, AreFetched}
+use Rattle.ice_cli.specs.Call.{Call, IsRefused, too_long, at_fault}
+use Rattle.ice_cli.specs.Parts.{AreFetched}
 use Rattle.ice_cli.specs.Refusals.{fault_of, IsRefusal, Refuses, NoFault, IsFaultOf}
 use Rattle.ice_cli.proofs.Parts.{told_in_call}
 use Rattle.ice_edge.proofs.Puts.{rose-later, rose-sooner}

@@ -1,5 +1,5 @@
 -- From the journal that is written, or why there is none, to what `regret` answers.
-use Rattle.std.proofs.Common.{◌≡◌, ◌∙◌, ap, sym, subst, ℕ, List, [], Option, Ok}
+use Rattle.std.proofs.Common.{◌∙◌, ap, sym, subst, ℕ, List, [], Option, Ok}
 use Rattle.ice_defs.specs.Exchange.{Exchange}
 use Rattle.ice_defs.specs.Lawful.{IsExchange}
 use Rattle.ice_edge.specs.Told.{Told}
@@ -7,7 +7,7 @@ use Rattle.ice_edge.specs.declared.status.Status.{Status}
 use Rattle.ice_journal.specs.Journal.{bytes_of}
 use Rattle.ice_cli.specs.declared.refusal.Refusal.{Refusal}
 use Rattle.ice_cli.specs.declared.refusal.Refusal.TheVariants.{File, Unread, NoMemory}
-use Rattle.ice_cli.specs.Call.{Call, file_limit}
+use Rattle.ice_cli.specs.Call.{file_limit}
 use Rattle.ice_cli.specs.Files.{IsExchangeOf, IsExchangeFault, HoldsExchange}
 use Rattle.ice_cli.specs.Output.{refused_line, unread_line}
 use Rattle.ice_cli.specs.Parts.{Answers, Serves}

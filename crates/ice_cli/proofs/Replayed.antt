@@ -1,5 +1,5 @@
 -- From what is found of a settlement, or why nothing is, to what `replay` answers.
-use Rattle.std.proofs.Common.{◌≡◌, ◌∙◌, refl, ap, sym, subst, ℕ, List, Result, Ok, Err}
+use Rattle.std.proofs.Common.{◌≡◌, ◌∙◌, ap, subst, ℕ, List, Result, Ok, Err}
 use Rattle.std.specs.Prelude.{IfOk, IfErr}
 use Rattle.ice_edge.specs.Told.{Told}
 use Rattle.ice_replay.specs.declared.settlement.Replay.{Replay}

@@ -1,5 +1,5 @@
 -- The faults of round files may stand in a journal's records.
-use Rattle.std.proofs.Common.{◌≡◌, ℕ, zero, suc, ◌+◌, ◌*◌, ◌^◌, ◌<◌, ◌≤◌, Bool, true, false, ◌&&◌, ◌||◌, cond, List, [], ◌∷◌, ◌++◌, length, decimal, ℤ, pos, neg_ℤ, Option, Some, None, Ok, Err, IsTrue, refl, sym, ap, subst, ◌∙◌, arith, length-append}
+use Rattle.std.proofs.Common.{◌≡◌, ℕ, suc, ◌+◌, ◌*◌, ◌^◌, ◌<◌, ◌≤◌, Bool, true, false, ◌&&◌, ◌||◌, cond, List, [], ◌∷◌, ◌++◌, length, decimal, ℤ, pos, neg_ℤ, Option, Some, None, Ok, Err, IsTrue, refl, ap, subst, ◌∙◌, arith, length-append}
 use Rattle.std.specs.Prelude.{codes, nat_le, nat_lt, int_le, IfErr, ◌==◌}
 use Rattle.std.specs.List.{AllByRecursion, list_all, join_with_byte}
 use Rattle.std.specs.Str.Parse.{AllDigits}
@@ -7,7 +7,7 @@ use Rattle.std.proofs.lemmas.Bool.{and_from}
 use Rattle.std.proofs.lemmas.Fmt.{decimal_is_IsNumeral, length-decimal-le}
 use Rattle.std.proofs.lemmas.List.Folds.{list_all-append}
 use Rattle.std.proofs.lemmas.Str.Parse.{digit_from_value}
-use Rattle.serde_json.specs.Data.{Num, unsigned, negative, float, Data, null, boolean, number, string, array, object, Items, no_items, item}
+use Rattle.serde_json.specs.Data.{unsigned, negative, float, Data, null, boolean, number, string, array, object, Items, no_items, item}
 use Rattle.serde_json.specs.Events.{items_len}
 use Rattle.ice_defs.specs.FileFault.{FileFault, Path, Read, place_of, at_path, refuse, ◌>>=◌}
 use Rattle.ice_defs.specs.Name.{is_name_byte, is_name}
@@ -17,7 +17,7 @@ use Rattle.ice_journal.specs.Ranges.{HasLength, IsFromTo, IsPlace, IsRecord}
 use Rattle.ice_journal.specs.Records as line
 use Rattle.ice_read.specs.Values.{value_of, array_of, text_of, whole_of, in_range, has_exactly, member_or_null, at_member, at_index, each}
 use Rattle.ice_read.specs.TreeFile.{value_at}
-use Rattle.ice_read.specs.RoundFile.{values_at, name_at, bid_at, bids_at, bids_of_value, bids_of}
+use Rattle.ice_read.specs.RoundFile.{values_at, name_at, bid_at, bids_at, bids_of_value}
 use Rattle.ice_read.specs.ExchangeFile.{of_json}
 use Rattle.ice_cli.specs.Call.{Call, file_limit, IsRefused, too_long, at_fault}
 use Rattle.ice_cli.specs.Files.{IsRoundFault}

@@ -13,8 +13,8 @@ use Rattle.ice_journal.specs.Records.{Record, version_2, session_kind, open_end}
 use Rattle.ice_journal.specs.Records as line
 use Rattle.ice_journal.specs.Ranges.{IsRecord}
 use Rattle.ice_journal.specs.Journal.{bytes_of}
-use Rattle.ice_journal_laws.specs.ShowingSession.{going_in, goings_in, closed_in}
-use Rattle.ice_journal_laws.specs.SoFar.{IsSoFar, IsUnstopped}
+use Rattle.ice_journal_laws.specs.ShowingSession.{going_in, goings_in}
+use Rattle.ice_journal_laws.specs.SoFar.{IsSoFar}
 use Rattle.ice_journal_laws.specs.Showing.{group_records}
 use Rattle.ice_journal_laws.specs.Positions.{Position, before_provisional, position_records}
 use Rattle.ice_search.specs.Results.{proved_found}
@@ -27,7 +27,7 @@ use Rattle.ice_settled.specs.Shown.{settlement_of, closed_of}
 use Rattle.ice_round.specs.Shown.{IsClosing}
 use Rattle.ice_settled.specs.declared.settled.Closing.{Closing}
 use Rattle.ice_write_session.specs.Records.{closing_records, spent_records, limit_records}
-use Rattle.ice_session_laws.specs.Running.{IsRunning, IsInRound}
+use Rattle.ice_session_laws.specs.Running.{IsInRound}
 use Rattle.ice_session_laws.specs.Stops.{StopsRound, no_file, file_refused, file_unread}
 use Rattle.ice_session_laws.specs.Laws.{sought_records}
 use Rattle.ice_session_laws.specs.Written.{begun_records, run_records, round_records, closed_session, IsUnended, IsSpentJournal, IsLimitedJournal}
@@ -39,7 +39,7 @@ use Rattle.ice_cli.specs.Call.{Call, FaultRose, file_limit, OfFile, IsRefused}
 use Rattle.ice_cli.specs.Files.{IsExchangeOf, IsRoundFault}
 use Rattle.ice_cli.specs.Journals.{HasExchangeOf}
 use Rattle.ice_cli.specs.Rounds.{rounds_in, BeginsRound, HasRoundsOf, submissions_of, AreRoundsOf, IsRunSoFar}
-use Rattle.ice_cli.specs.RunServed.{IsRunText, nothing, of_journal, RunCloses, RunRefused, RunUnread, RunStaysOpen, RunSpends, RunIsLimited, RunAnswers}
+use Rattle.ice_cli.specs.RunServed.{IsRunText, nothing, of_journal, RunAnswers}
 use Rattle.ice_cli.specs.RunServed as served
 use Rattle.ice_cli.specs.RunJournal.{HasRun, HasOpened, IsRunJournal, between, in_round, closes, spends, limits, stays_open, refuses, fails_to_read}
 use Rattle.ice_cli.specs.RunJournal as run

@@ -3,7 +3,7 @@ use Rattle.std.proofs.Common.{◌≡◌, ◌∙◌, ◌+◌, ◌<◌, ◌≤◌,
 use Rattle.std.specs.List.{flat_map}
 use Rattle.std.proofs.lemmas.List.{append-nil, map_push, take_all, take_more, take-append-drop}
 use Rattle.std.proofs.lemmas.List.Concat.{flat_map-append}
-use Rattle.ice_edge.specs.Puts.{Takes, FailsIn, IsPut}
+use Rattle.ice_edge.specs.Puts.{Takes, FailsIn}
 use Rattle.ice_edge.proofs.Puts.{takes_nothing}
 use Rattle.ice_edge.specs.declared.sink.SinkFault.{SinkFault}
 use Rattle.ice_defs.specs.Round.{Submission, Judged}

@@ -1,5 +1,5 @@
 -- The steps of a run: each is put behind what was put before.
-use Rattle.std.proofs.Common.{◌≡◌, ◌∙◌, ◌+◌, ◌≤◌, ℕ, suc, List, [], ◌∷◌, ◌++◌, length, map, drop, refl, sym, ap, subst, arith, append_assoc, Option, Some, None, Result, Ok, Err, MatchResult, inl, inr, length-append}
+use Rattle.std.proofs.Common.{◌≡◌, ◌∙◌, ◌+◌, ℕ, List, [], ◌∷◌, ◌++◌, length, drop, refl, sym, ap, subst, arith, append_assoc, Option, Some, Result, Ok, Err, MatchResult, inl, inr, length-append}
 use Rattle.std.specs.Prelude.{slice_get}
 use Rattle.std.specs.List.{AllByRecursion, flat_map}
 use Rattle.std.proofs.lemmas.List.{append-nil}
@@ -38,7 +38,7 @@ use Rattle.ice_settled.specs.declared.settled.Halt.{Halt}
 use Rattle.ice_write_session.specs.Records.{opening_records, closing_records, halted_records, halt_records, spent_records, limit_records}
 use Rattle.ice_write_session.proofs.Halts.{halts_before_final, halts_before_rival, halts_before_without, halts_before_provisional, halts_at_prices}
 use Rattle.ice_write_session.proofs.Lawful.{opening_are_records, closing_are_records, halt_are_records, spent_are_records, limit_are_records}
-use Rattle.ice_session_laws.specs.Running.{IsRunning, IsInRound}
+use Rattle.ice_session_laws.specs.Running.{IsRunning}
 use Rattle.ice_session_laws.specs.Stops.{ComesTo, to_final, to_rival, to_provisional, to_without}
 use Rattle.ice_session_laws.specs.Laws.{PricesSought, sought_records}
 use Rattle.ice_session_laws.specs.Written.{begun_records, run_records, round_records}
@@ -54,13 +54,13 @@ use Rattle.ice_cli.specs.Parts.{HasPart, Answers, IsSaid, Serves}
 use Rattle.ice_cli.specs.Output.{refused_line, unread_line}
 use Rattle.ice_cli.specs.Refusals.{fault_of, refusal_text, refusal_status, Refuses}
 use Rattle.ice_cli.specs.Rounds.{OfBids, BeginsRound, submissions_of, AreRoundsOf}
-use Rattle.ice_cli.specs.RunJournal.{HasRun, HasOpened, IsRunJournal, between, in_round, closes, limits, stays_open, refuses, fails_to_read, RunsTo}
+use Rattle.ice_cli.specs.RunJournal.{HasRun, IsRunJournal, between, in_round, closes, limits, stays_open, refuses, fails_to_read, RunsTo}
 use Rattle.ice_cli.specs.RunJournal as journal
 use Rattle.ice_cli.specs.RunServed.{IsRunText, nothing, RunAnswers}
 use Rattle.ice_cli.specs.RunServed as served
 use Rattle.ice_trial.specs.Rounds.{submissions_in}
 use Rattle.ice_cli.specs.RunSteps.{Judges, AreHeld, OpensRound, EndsHere, EndsRound, EndsInRound, Plays}
-use Rattle.ice_cli.proofs.Parts.{later_part, earlier_part, told_in_call}
+use Rattle.ice_cli.proofs.Parts.{later_part, told_in_call}
 use Rattle.ice_cli.proofs.RegretJournal.{told_also}
 use Rattle.ice_cli.proofs.RunJournal.{run_answers}
 use Rattle.ice_cli.proofs.RunRounds.{begins_none, longer_rounds}

@@ -1,5 +1,5 @@
 -- The rounds of a run's journal are the bids of its files.
-use Rattle.std.proofs.Common.{◌≡◌, ◌≢◌, ◌∙◌, ◌+◌, ℕ, suc, Bool, true, false, cond, List, [], ◌∷◌, ◌++◌, length, map, refl, sym, ap, subst, arith, append_assoc, drop, ℤ}
+use Rattle.std.proofs.Common.{◌≡◌, ◌∙◌, ◌+◌, ℕ, suc, Bool, true, false, cond, List, [], ◌∷◌, ◌++◌, length, map, refl, sym, ap, arith, append_assoc, drop, ℤ}
 use Rattle.std.specs.List.{AllByRecursion, flat_map}
 use Rattle.std.proofs.lemmas.List.{append-nil}
 use Rattle.ice_defs.specs.declared.NodeKind.{NodeKind}
@@ -10,7 +10,7 @@ use Rattle.ice_defs.specs.Bound.{Multipliers}
 use Rattle.ice_defs.specs.Rows.{Row}
 use Rattle.ice_defs.specs.Round.{Submission, Judged}
 use Rattle.ice_defs.specs.Tree.{kind_of, children_of}
-use Rattle.ice_defs.specs.Set.{NodeSet, weight_of}
+use Rattle.ice_defs.specs.Set.{weight_of}
 use Rattle.ice_defs.specs.Trade.{Assignment}
 use Rattle.ice_defs.specs.PricingRun.{Member}
 use Rattle.ice_defs.specs.Exchange.{Good, Bidder, Exchange, exact_of}
@@ -21,7 +21,7 @@ use Rattle.ice_journal.specs.Records as line
 use Rattle.ice_journal.specs.Nodes.{node_record}
 use Rattle.ice_journal.specs.Plain.{all_zero}
 use Rattle.ice_section.specs.Section.{good_record}
-use Rattle.ice_section.specs.Described.{bidder_records, section_records}
+use Rattle.ice_section.specs.Described.{bidder_records}
 use Rattle.ice_journal_laws.specs.Fields.{multipliers_after}
 use Rattle.ice_journal_laws.specs.Written.{row_record, judged_records, payment_record}
 use Rattle.ice_journal_laws.specs.Showing.{step_records, group_records, regret_group_records}
@@ -34,7 +34,7 @@ use Rattle.ice_price.specs.declared.ends.PriceLimit.{PriceLimit}
 use Rattle.ice_round.specs.SessionAt.{SessionAt}
 use Rattle.ice_write_session.specs.Records.{member_record, spent_records, limit_records}
 use Rattle.ice_session_laws.specs.Written.{begun_records, run_records, round_records}
-use Rattle.ice_cli.specs.Call.{Call, OfTold, file_limit, OfFile, IsPrefix}
+use Rattle.ice_cli.specs.Call.{Call, file_limit, IsPrefix}
 use Rattle.ice_cli.specs.Rounds.{submissions_before_next, rounds_in, OfBids, BeginsRound, HasRoundsOf, submissions_of, AreRoundsOf}
 use Rattle.ice_cli.proofs.RegretJournal.{told_also}
 

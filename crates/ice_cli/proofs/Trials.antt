@@ -1,5 +1,5 @@
 -- What `gen` answers: the figures of a trial, or its journal.
-use Rattle.std.proofs.Common.{◌≡◌, ◌∙◌, ◌+◌, ℕ, zero, suc, Bool, true, false, cond, List, [], ◌∷◌, ◌++◌, length, map, ℤ, pos, ◌≤ℤ◌, refl, sym, ap, subst, arith, append_assoc, IsTrue, Option, Some, None, inl, inr}
+use Rattle.std.proofs.Common.{◌≡◌, ◌∙◌, ◌+◌, ℕ, Bool, true, false, cond, List, [], ◌∷◌, ◌++◌, length, map, ℤ, pos, ◌≤ℤ◌, refl, sym, ap, subst, arith, append_assoc, IsTrue, Option, Some, None, inl, inr}
 use Rattle.std.specs.Prelude.{int_le, int_lt, ◌<ℤ◌, ◌||◌, ◌==◌, IfSome}
 use Rattle.std.specs.List.{AllByRecursion, flat_map}
 use Rattle.std.proofs.lemmas.List.{append-nil}
@@ -11,8 +11,8 @@ use Rattle.ice_edge.specs.declared.status.Status.TheVariants.{Done, Spent, Limit
 use Rattle.ice_defs.specs.declared.Verdict.TheVariants.{Accepted}
 use Rattle.ice_defs.specs.Bounds.{Bounds}
 use Rattle.ice_defs.specs.Round.{Submission, Judged}
-use Rattle.ice_defs.specs.Exchange.{Exchange, Settings, exact_of, names_of, trees_of, opening_bounds, market_of}
-use Rattle.ice_defs.specs.Session.{Going, closes}
+use Rattle.ice_defs.specs.Exchange.{Exchange, exact_of, market_of}
+use Rattle.ice_defs.specs.Session.{closes}
 use Rattle.ice_regret_laws.proofs.Regrets.{regret_is_not_negative}
 use Rattle.ice_journal.specs.Records.{Record, version_2, session_kind}
 use Rattle.ice_journal.specs.Records as line
@@ -23,8 +23,7 @@ use Rattle.ice_journal_laws.specs.Showing.{group_records}
 use Rattle.ice_journal_laws.specs.ShowingSession.{going_in, goings_in}
 use Rattle.ice_journal_laws.specs.Stops.{IsSpent}
 use Rattle.ice_journal_laws.specs.SoFar.{IsSoFar}
-use Rattle.ice_journal_laws.specs.Positions.{Position, before_provisional, position_records}
-use Rattle.ice_search.specs.declared.results.Found.{Found}
+use Rattle.ice_journal_laws.specs.Positions.{before_provisional, position_records}
 use Rattle.ice_search.specs.declared.results.Spent as results
 use Rattle.ice_search.specs.Results.{proved_found}
 use Rattle.ice_price.specs.declared.ends.PriceLimit.{PriceLimit}
@@ -37,14 +36,11 @@ use Rattle.ice_write_session.specs.Records.{opening_records, halt_records, spent
 use Rattle.ice_write_session.specs.Writable.{IsWritableOpening}
 use Rattle.ice_write.proofs.Loops.{bytes_flat}
 use Rattle.ice_write_session.proofs.Lawful.{halt_are_records, spent_are_records, limit_are_records}
-use Rattle.ice_session_laws.specs.Running.{IsRunning}
 use Rattle.ice_session_laws.specs.Laws.{sought_records}
 use Rattle.ice_session_laws.specs.Stops.{IsLimited}
-use Rattle.ice_session_laws.specs.Written.{begun_records, run_records, IsSpentJournal, IsLimitedJournal}
+use Rattle.ice_session_laws.specs.Written.{begun_records, run_records}
 use Rattle.ice_session_laws.proofs.Ends.{spends, is_limited, spent_may_be_written, limit_may_be_written}
 use Rattle.ice_gen.specs.Generated.{generated, truths}
-use Rattle.ice_gen.specs.Parts.{the_settings}
-use Rattle.ice_trial.specs.Truths.{truth_bids}
 use Rattle.ice_trial.specs.declared.summary.Summary.{Summary}
 use Rattle.ice_trial.specs.declared.trial.TruthRound.{TruthRound}
 use Rattle.ice_trial.specs.Summaries.{AreFinal, bounds_at, IsSummary}
@@ -53,7 +49,7 @@ use Rattle.ice_trial.specs.Ends.{IsTrial}
 use Rattle.ice_cli.specs.Call.{IsPrefix}
 use Rattle.ice_cli.specs.Rounds.{rounds_in, submissions_of}
 use Rattle.ice_cli.specs.Parts.{Serves}
-use Rattle.ice_cli.specs.GenServed.{Says, summary_text, GenEnds, AreTruthRounds, GenStops, GenAnswers}
+use Rattle.ice_cli.specs.GenServed.{Says, summary_text, AreTruthRounds, GenStops, GenAnswers}
 use Rattle.ice_cli.specs.GenJournal.{accepted_text, first_records, trial_records}
 use Rattle.ice_cli.proofs.RunPlaying.{halt_at, halt_at_prices}
 use Rattle.ice_cli.proofs.RunRounds.{SettlesOnce, settles_more, position_settles, spent_other, limit_other, offered_other, once_behind}

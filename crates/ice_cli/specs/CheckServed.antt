@@ -1,5 +1,5 @@
 -- What `check` writes at each status: what the checker says of the bytes.
-use Rattle.std.specs.Prelude.{ℕ, ◌≡◌, List, [], codes, Result, Ok, Err}
+use Rattle.std.specs.Prelude.{ℕ, ◌≡◌, List, [], codes, Ok, Err}
 use Rattle.ice_edge.specs.declared.status.Status.{Status}
 use Rattle.ice_edge.specs.declared.status.Status.TheVariants.{Done, Input, No, ReadFault, NoMemory}
 use Rattle.ice_defs.specs.FileFault.{FileFault, at_line}

@@ -1,5 +1,5 @@
 -- What the steps of a run put, behind what was put before.
-use Rattle.std.specs.Prelude.{ℕ, ◌≡◌, List, [], ◌∷◌, ◌++◌, length, map, take, Option, Result, OnOk}
+use Rattle.std.specs.Prelude.{ℕ, ◌≡◌, List, [], ◌∷◌, ◌++◌, length, take, Option, Result, OnOk}
 use Rattle.std.specs.List.{flat_map}
 use Rattle.ice_edge.specs.Puts.{Takes, IsPut}
 use Rattle.ice_edge.specs.Told.{Told}

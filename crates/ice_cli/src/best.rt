@@ -21,7 +21,8 @@ use ice_trade::Exchange;
 use ice_tree::AllWeights;
 use std::alloc::{AllocError, Global};
 
-/// The best set of a bidder. Weighted values are in hundredths, so units cost 100 times their price.
+/// The best set of a bidder. Weighted values are in hundredths, so units cost 100 times their
+/// price.
 fn best_set(
     exchange: &Exchange,
     prices: &Prices,

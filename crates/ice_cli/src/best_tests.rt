@@ -89,7 +89,8 @@ prices 1 0 0
 end prices
 ";
 
-/// Words and files, no file where the text is empty; and what is written, where the first of several best sets is free.
+/// Words and files, no file where the text is empty; and what is written, where the first of
+/// several best sets is free.
 struct Case {
     words: &'static [&'static str],
     exchange: &'static str,
@@ -206,7 +207,8 @@ fn best_sets_are_written(rt: HostRuntime) -> Result<(), Fail> {
     Ok(())
 }
 
-/// Where the exchange file is at fault, the prices file is not fetched: a fetch of it is then the second, which fails.
+/// Where the exchange file is at fault, the prices file is not fetched: a fetch of it is then the
+/// second, which fails.
 #[test]
 fn an_exchange_at_fault_is_answered_first(rt: HostRuntime) -> Result<(), Fail> {
     let alloc = rt.alloc();

@@ -19,8 +19,8 @@ use std::alloc::Global;
 /// The most bytes of a file that is no journal.
 pub const FILE_LIMIT: usize = 16_777_216;
 
-/// The bytes of the file with this number and name, of which there are at most `limit`, or why they are not had. Only
-/// where the file is the reason may a count of the shelf change.
+/// The bytes of the file with this number and name, of which there are at most `limit`, or why they
+/// are not had. Only where the file is the reason may a count of the shelf change.
 pub fn fetch<H: Shelf>(
     alloc: Global,
     file: u8,

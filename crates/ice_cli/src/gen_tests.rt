@@ -8,8 +8,8 @@ use std::test::Fail;
 const SEVEN: &str =
     "gen 7\ngoods 12\nbidders 8\nnodes 68\nopened 70 41\nsettled 1\ntotal 115\nregret 0\nsurplus 0/1\nend gen\n";
 
-/// The words behind the program's name, the status, and what is written. The first words stand twice: what they write is
-/// the same at each run.
+/// The words behind the program's name, the status, and what is written. The first words stand
+/// twice: what they write is the same at each run.
 const CASES: [(&[&str], Status, &str); 8] = [
     (&["gen", "7"], Status::Done, SEVEN),
     (&["gen", "7"], Status::Done, SEVEN),

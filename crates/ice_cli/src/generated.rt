@@ -8,8 +8,9 @@ use ice_edge::{Sink, Status};
 use ice_trial::{TrialEnd, try_generated};
 use std::alloc::Global;
 
-/// Runs the session of the exchange that is generated from this number, in which the bidders state their generated true
-/// values, and writes its summary. Where a search or the pricing ends the session, it writes the session's journal instead.
+/// Runs the session of the exchange that is generated from this number, in which the bidders state
+/// their generated true values, and writes its summary. Where a search or the pricing ends the
+/// session, it writes the session's journal instead.
 #[tactic(none)]
 pub fn generated<K: Sink>(alloc: Global, number: u32, out: &mut K) -> Status
     ensures { Says (λ text. GenAnswers text number)

@@ -18,7 +18,8 @@ end prices
 /// What the seller bids.
 const SALE: &str = r#"{"sell":"A","units":1,"lo":-10,"hi":-10}"#;
 
-/// One change of the pair: another text in the place of a text that stands there once; and what `best` then writes.
+/// One change of the pair: another text in the place of a text that stands there once; and what
+/// `best` then writes.
 struct Case {
     old: &'static str,
     new: &'static str,
@@ -139,7 +140,8 @@ fn many_bidders(alloc: Global) -> Result<String, Fail> {
     Ok(bidders)
 }
 
-/// Calls a command on an exchange file `e` and a prices file `p`, and compares what it writes and how it ends.
+/// Calls a command on an exchange file `e` and a prices file `p`, and compares what it writes and
+/// how it ends.
 fn expect<R: Abort + AllocGlobal>(
     rt: &R,
     words: &[&str],
@@ -162,7 +164,8 @@ fn expect<R: Abort + AllocGlobal>(
     Ok(())
 }
 
-/// What `best` writes of an exchange file and the prices; where it refuses the file, `regret` does so with the same text.
+/// What `best` writes of an exchange file and the prices; where it refuses the file, `regret` does
+/// so with the same text.
 fn expect_answer<R: Abort + AllocGlobal>(
     rt: &R,
     exchange: &[u8],

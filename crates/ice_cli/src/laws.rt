@@ -1,8 +1,8 @@
 //! Laws of the answers.
 ghost use Rattle.ice_cli.specs.Completeness.{CheckCompletes, CheckIsDecided, RegretCompletes, RunCompletes};
 
-/// With told bytes within the limit and no fault of the outside, `check` ends with yes, no, a refusal, or for want of
-/// memory.
+/// With told bytes within the limit and no fault of the outside, `check` ends with yes, no, a
+/// refusal, or for want of memory.
 #[tactic(auto, using(crate::proofs::Completing::check_completes))]
 pub fn check_completes()
     ensures { CheckCompletes }
@@ -14,15 +14,16 @@ pub fn check_is_decided()
     ensures { CheckIsDecided }
 {}
 
-/// With an exchange file that is told, valid and within the limit, no fault of the outside, and at least twice 2 to the
-/// number of nodes as branches, `regret` ends with a regret, or for want of memory.
+/// With an exchange file that is told, valid and within the limit, no fault of the outside, and at
+/// least twice 2 to the number of nodes as branches, `regret` ends with a regret, or for want of
+/// memory.
 pub fn regret_completes()
     ensures { RegretCompletes }
 {}
 
-/// With files that are told, valid and within the limit, no fault of the outside, and branches enough for every search
-/// that a session may have, `run` ends with a session that is closed or stays open, at a limit of its pricing, or for want
-/// of memory.
+/// With files that are told, valid and within the limit, no fault of the outside, and branches
+/// enough for every search that a session may have, `run` ends with a session that is closed or
+/// stays open, at a limit of its pricing, or for want of memory.
 pub fn run_completes()
     ensures { RunCompletes }
 {}

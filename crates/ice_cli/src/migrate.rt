@@ -68,8 +68,8 @@ fn journal_of<H: Shelf>(alloc: Global, name: &str, shelf: &mut H) -> Result<Vec<
     Ok(bytes)
 }
 
-/// Writes the journal of this name, of version 1, in version 2, line for line; or why it is not written. It is judged whole
-/// before the first line is put, and then takes no more memory.
+/// Writes the journal of this name, of version 1, in version 2, line for line; or why it is not
+/// written. It is judged whole before the first line is put, and then takes no more memory.
 pub fn migrate<H: Shelf, K: Sink>(
     alloc: Global,
     journal: &str,

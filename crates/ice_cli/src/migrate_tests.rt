@@ -5,7 +5,8 @@ use std::alloc::Global;
 use std::process::Abort;
 use std::test::Fail;
 
-/// A session of a seller of a unit at 10 and a buyer of it at 20 to 30, which closes at its first settlement.
+/// A session of a seller of a unit at 10 and a buyer of it at 20 to 30, which closes at its first
+/// settlement.
 const SESSION: &str =
     "ice 1 session\nsettings 50 0 100 1 5 200\ngood A\nbidder s 1\nnode sell 0 1 -10 -10\nbidder b 0\nnode buy 0 1 20 30\nsettle 0\nfinal 10\nset 1\nset 1\nleaf 640\nrival 10\nset 1\nset 1\nleaf 640\nregret 0\nwithout 0 0\nset 0\nset 0\nleaf 1280\nwithout 1 0\nset 0\nset 0\nleaf 0\nthreshold 5/1 0/1\npayment s 10 5/1 -15/1\npayment b 10 5/1 15/1\nend closed\n";
 

@@ -8,7 +8,8 @@ use crate::regret_journal::write_regret;
 use ice_edge::{Shelf, Sink, Status};
 use std::alloc::Global;
 
-/// Writes a journal of kind regret: the exchange of this name, the best assignment at lower values, and its regret.
+/// Writes a journal of kind regret: the exchange of this name, the best assignment at lower values,
+/// and its regret.
 pub fn regret<H: Shelf, K: Sink>(
     alloc: Global,
     exchange: &str,

@@ -42,7 +42,8 @@ fn put_ending<K: Sink>(exchange: &Exchange, regret: &Regret, out: &mut K) -> Res
     put_record(&Line::End(EndWord::Regret), out)
 }
 
-/// Writes what comes behind the final group: the rival and the regret, or what was found where the branches were spent.
+/// Writes what comes behind the final group: the rival and the regret, or what was found where the
+/// branches were spent.
 fn write_rival<K: Sink>(
     alloc: Global,
     exchange: &Exchange,
@@ -110,8 +111,9 @@ fn write_final<K: Sink>(alloc: Global, exchange: &Exchange, out: &mut K) -> Stat
     }
 }
 
-/// Writes the journal: the exchange, the best assignment at lower values, its rival and the regret. Each line is put as
-/// soon as it is known. Where a search spends its branches, the journal says so and ends.
+/// Writes the journal: the exchange, the best assignment at lower values, its rival and the regret.
+/// Each line is put as soon as it is known. Where a search spends its branches, the journal says so
+/// and ends.
 pub fn write_regret<K: Sink>(alloc: Global, exchange: &Exchange, out: &mut K) -> Status
     ensures journal { WritesBehind [] (IsRegretJournal exchange.now)
         (K.written out.old) (K.written out.new) (K.faults out.old) (K.faults out.new) result }

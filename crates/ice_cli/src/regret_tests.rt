@@ -81,7 +81,8 @@ node sell 0 2 -2 -2
 end exchange
 ";
 
-/// An exchange, how its journal begins and ends, how the call ends, and the checker's answer on the journal.
+/// An exchange, how its journal begins and ends, how the call ends, and the checker's answer on the
+/// journal.
 struct Case {
     exchange: &'static str,
     begins: &'static str,
@@ -181,7 +182,8 @@ fn without_branches(alloc: Global) -> Result<Vec<u8>, Fail> {
     Ok(file)
 }
 
-/// Any multipliers bound what is left at 15 or more, so the first search is spent: it may have found a pair or none.
+/// Any multipliers bound what is left at 15 or more, so the first search is spent: it may have
+/// found a pair or none.
 #[test]
 fn a_search_without_branches_is_spent(rt: HostRuntime) -> Result<(), Fail> {
     let alloc = rt.alloc();

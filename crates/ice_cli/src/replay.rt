@@ -40,7 +40,8 @@ fn without_replay(end: ReplayEnd) -> Result<Found, Refusal>
     Err(Refusal::File { file: 1, fault })
 }
 
-/// What is found of the settlement with this number in the bytes of the first file, or why nothing is.
+/// What is found of the settlement with this number in the bytes of the first file, or why nothing
+/// is.
 fn found_in(alloc: Global, bytes: &[u8], number: u8) -> Result<Found, Refusal>
     ensures found { IfOk result (IsFoundIn bytes.now number) }
     ensures refusal { IfErr result (IsFaultOf 1 (IsReplayFault number bytes.now)) }

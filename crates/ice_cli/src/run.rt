@@ -22,8 +22,8 @@ use ice_round::{InRound, Ready};
 use ice_trade::Exchange;
 use ice_write::put_record;
 use std::alloc::Global;
-/// Judges the bids of the round file of this name, and ends the round: the session between rounds again, or how the call
-/// ends.
+/// Judges the bids of the round file of this name, and ends the round: the session between rounds
+/// again, or how the call ends.
 #[tactic(none)]
 fn write_round<H: Shelf, K: Sink>(
     alloc: Global,
@@ -61,7 +61,8 @@ fn stay_open<K: Sink>(out: &mut K) -> Status
         Status::StillOpen,
     )
 }
-/// Settles once for each round file, and once more: the file of a round is fetched only as the round begins.
+/// Settles once for each round file, and once more: the file of a round is fetched only as the
+/// round begins.
 #[tactic(none)]
 fn write_rounds<H: Shelf, K: Sink>(
     alloc: Global,
@@ -113,9 +114,10 @@ fn write_run<H: Shelf, K: Sink>(
         Err(SinkFault::Failed) => Status::WriteFault,
     }
 }
-/// Writes the journal of the session of the exchange of this name, whose rounds have the bids of the files of these names,
-/// at most 20. Each line is put as soon as it is known, and a round file is fetched only as its round begins: where
-/// the session closes, stays open or is stopped, no fetch has failed.
+/// Writes the journal of the session of the exchange of this name, whose rounds have the bids of
+/// the files of these names, at most 20. Each line is put as soon as it is known, and a round file
+/// is fetched only as its round begins: where the session closes, stays open or is stopped, no
+/// fetch has failed.
 #[tactic(none)]
 pub fn run<H: Shelf, K: Sink>(
     alloc: Global,

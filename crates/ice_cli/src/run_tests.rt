@@ -202,8 +202,8 @@ const ROUNDS: [(&str, &str); 5] = [
     ("seven", r#"{"bids":7}"#),
 ];
 
-/// An exchange and the names of round files; how what the journal says begins, how it ends, how the call ends, and how the
-/// checker's answer on the journal ends.
+/// An exchange and the names of round files; how what the journal says begins, how it ends, how the
+/// call ends, and how the checker's answer on the journal ends.
 struct Case {
     exchange: &'static str,
     rounds: &'static [&'static str],

@@ -27,19 +27,22 @@ fn refuse_words<K: Sink>(out: &mut K) -> Status
     ended(out.put(b"words refused\n"), Status::Words)
 }
 
-/// Answers the words behind the program's name: `check JOURNAL` writes the checker's answer on a journal,
-/// `best EXCHANGE PRICES` writes the best set of each bidder at prices, `regret EXCHANGE` writes a journal of the best
-/// assignment at lower values and its regret, `xor FILE` writes the exchange that flat bids say, as one line of JSON,
-/// `replay JOURNAL N` writes what a session says of the settlement with this number, from 0 to 20, `run EXCHANGE ROUND..`
-/// writes the journal of a session, whose rounds have the bids of at most 20 files, `gen NUMBER` writes a summary of the
-/// session of a generated exchange, and `migrate JOURNAL` writes a journal of version 1 in version 2.
+/// Answers the words behind the program's name: `check JOURNAL` writes the checker's answer on a
+/// journal, `best EXCHANGE PRICES` writes the best set of each bidder at prices, `regret EXCHANGE`
+/// writes a journal of the best assignment at lower values and its regret, `xor FILE` writes the
+/// exchange that flat bids say, as one line of JSON, `replay JOURNAL N` writes what a session says
+/// of the settlement with this number, from 0 to 20, `run EXCHANGE ROUND..` writes the journal of a
+/// session, whose rounds have the bids of at most 20 files, `gen NUMBER` writes a summary of the
+/// session of a generated exchange, and `migrate JOURNAL` writes a journal of version 1 in version
+/// 2.
 ///
-/// Files come from `shelf`, and output goes to `out`: each line with its newline is one put, and of `migrate` many lines
-/// are. The status says how the call ended, and the first clause ties it to the words, to what the shelf told, to the counts
-/// of faults that rose in this call, and to the text that was appended. Want of memory alone (`Status::NoMemory`) has no
-/// cause; nothing is written then, or whole lines of a journal with no stop in them. At each status but those of a file that
-/// is refused or unread, and of a sink that failed, the shelf tells the same after the call as before it: no fetch has
-/// failed.
+/// Files come from `shelf`, and output goes to `out`: each line with its newline is one put, and of
+/// `migrate` many lines are. The status says how the call ended, and the first clause ties it to
+/// the words, to what the shelf told, to the counts of faults that rose in this call, and to the
+/// text that was appended. Want of memory alone (`Status::NoMemory`) has no cause; nothing is
+/// written then, or whole lines of a journal with no stop in them. At each status but those of a
+/// file that is refused or unread, and of a sink that failed, the shelf tells the same after the
+/// call as before it: no fetch has failed.
 pub fn serve<H: Shelf, K: Sink>(
     alloc: Global,
     words: &[String],

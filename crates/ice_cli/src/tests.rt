@@ -76,7 +76,8 @@ const REGRET: [&str; 17] = [
     "end regret",
 ];
 
-/// One change of a journal: another text in the place of a line (from 1, 0 for none), and what `check` writes of it.
+/// One change of a journal: another text in the place of a line (from 1, 0 for none), and what
+/// `check` writes of it.
 struct Case {
     line: usize,
     text: &'static str,
@@ -283,7 +284,8 @@ fn journals_are_answered(rt: HostRuntime) -> Result<(), Fail> {
     answers_all(&rt, &REGRET, &REGRET_CASES)
 }
 
-/// The sample cut after each of its bytes: inside a line its end is missing, and after a newline the next record is.
+/// The sample cut after each of its bytes: inside a line its end is missing, and after a newline
+/// the next record is.
 #[test]
 fn cut_journals_are_refused_or_short(rt: HostRuntime) -> Result<(), Fail> {
     let alloc = rt.alloc();

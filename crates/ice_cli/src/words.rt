@@ -15,8 +15,8 @@ pub fn behind_name(all: &[String]) -> &[String]
     }
 }
 
-/// All words, the program's name first. A word that is no text stands in none of the forms that words have, so there
-/// are none then, which are refused.
+/// All words, the program's name first. A word that is no text stands in none of the forms that
+/// words have, so there are none then, which are refused.
 pub fn all_words<R: Env + AllocGlobal>(rt: &R) -> io::Result<Vec<String>> {
     match env::args(rt) {
         Ok(all) => Ok(all.collect(rt.alloc())?),

@@ -8,7 +8,8 @@ use ice_certificate::units_above;
 use ice_pricing::Provisional;
 use ice_tree::NodeSet;
 
-/// A set of a bidder, what it is worth above the bidder's own set, in hundredths, and the units that it has above it.
+/// A set of a bidder, what it is worth above the bidder's own set, in hundredths, and the units
+/// that it has above it.
 #[derive(Drop)]
 pub(crate) struct Cut {
     pub(crate) bidder: u8,
@@ -17,8 +18,8 @@ pub(crate) struct Cut {
     units: [i128; 32],
 }
 
-/// What a stage asks by the row of a cut: its units at the prices in hundredths, times `times`, and `last` times the last
-/// column are at least `times` its worth, less `allowed`.
+/// What a stage asks by the row of a cut: its units at the prices in hundredths, times `times`, and
+/// `last` times the last column are at least `times` its worth, less `allowed`.
 #[derive(Clone, Copy)]
 pub(crate) struct Asked {
     pub(crate) times: i128,
@@ -36,7 +37,8 @@ impl Asked {
         }
     }
 
-    /// What the stage asks that allows this violation, and makes the greatest price least, which is the last column.
+    /// What the stage asks that allows this violation, and makes the greatest price least, which is
+    /// the last column.
     pub(crate) fn balance(violation: i128, den: i128) -> Asked {
         Asked {
             times: den,

@@ -5,11 +5,11 @@ use crate::numbers::{divisor_of, product, quotient, sum};
 use crate::work::GivenUp;
 use std::alloc::{AllocError, Global};
 
-/// The variables on the right, an equation for each variable on the left, one for the objective, and the cuts whose
-/// multipliers are among the variables.
+/// The variables on the right, an equation for each variable on the left, one for the objective,
+/// and the cuts whose multipliers are among the variables.
 ///
-/// Each price has an infinitesimal cost of its own, a perturbation: of equal points the one with the least sum of prices is
-/// sought, and almost no pivot gains nothing.
+/// Each price has an infinitesimal cost of its own, a perturbation: of equal points the one with
+/// the least sum of prices is sought, and almost no pivot gains nothing.
 #[derive(Drop)]
 pub(crate) struct Dictionary {
     goods: u8,
@@ -43,7 +43,8 @@ fn with_terms(equation: &Equation, terms: &[Term], start: i128) -> Result<i128, 
     Ok(total)
 }
 
-/// The first equation of a column: 1 times the good's multiplier, or `last` times each where it is the last column.
+/// The first equation of a column: 1 times the good's multiplier, or `last` times each where it is
+/// the last column.
 fn first_equation(
     alloc: Global,
     column: u8,
@@ -68,8 +69,8 @@ fn first_equation(
 }
 
 impl Dictionary {
-    /// A dictionary of so many goods, each of which has a row that asks for `last` times the last column less the good's
-    /// price to be at least `least`.
+    /// A dictionary of so many goods, each of which has a row that asks for `last` times the last
+    /// column less the good's price to be at least `least`.
     fn of_goods(
         alloc: Global,
         goods: u8,
@@ -103,14 +104,15 @@ impl Dictionary {
         })
     }
 
-    /// The program that makes the violation least, at prices up to the cap. Prices are in hundredths.
+    /// The program that makes the violation least, at prices up to the cap. Prices are in
+    /// hundredths.
     pub(crate) fn accuracy(alloc: Global, goods: u8, cap: i64) -> Result<Dictionary, GivenUp> {
         let highest = product(100, i128::from(cap))?;
         Dictionary::of_goods(alloc, goods, Asked::accuracy(), 0, highest.wrapping_neg())
     }
 
-    /// The program that makes the greatest price least, at a violation over a denominator. Prices are in hundredths and
-    /// times this denominator.
+    /// The program that makes the greatest price least, at a violation over a denominator. Prices
+    /// are in hundredths and times this denominator.
     pub(crate) fn balance(
         alloc: Global,
         goods: u8,

@@ -9,14 +9,16 @@ pub(crate) enum Variable {
     Good(u8),
     /// The multiplier of a cut's row.
     Cut(usize),
-    /// The slack of a column: those of the prices in turn, and then that of the number that is made least.
+    /// The slack of a column: those of the prices in turn, and then that of the number that is made
+    /// least.
     Slack(u8),
     /// The objective.
     Objective,
 }
 
-/// A variable by those on the right: `den` times it is `main`, and `small` times an infinitesimal, and the sum of each
-/// coefficient times its variable. `den` is above 0, and all numbers are in lowest terms.
+/// A variable by those on the right: `den` times it is `main`, and `small` times an infinitesimal,
+/// and the sum of each coefficient times its variable. `den` is above 0, and all numbers are in
+/// lowest terms.
 #[derive(Drop)]
 pub(crate) struct Equation {
     pub(crate) variable: Variable,
@@ -69,8 +71,9 @@ impl Equation {
         divide_all(&mut self.coeffs, shared);
     }
 
-    /// Solves the equation for the variable at a place on the right, which has a coefficient below 0: it and the
-    /// variable of the equation change places, and the signs of their coefficients turn.
+    /// Solves the equation for the variable at a place on the right, which has a coefficient below
+    /// 0: it and the variable of the equation change places, and the signs of their coefficients
+    /// turn.
     pub(crate) fn solve_for(&mut self, place: usize) {
         let coeff = self.coeff(place);
         self.put_coeff(place, self.den.wrapping_neg());

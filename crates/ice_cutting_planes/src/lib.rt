@@ -1,8 +1,8 @@
-//! Prices by cutting planes: linear programs in whole numbers, to which the rows of sets that bidders would rather have
-//! are added as they are found.
+//! Prices by cutting planes: linear programs in whole numbers, to which the rows of sets that
+//! bidders would rather have are added as they are found.
 //!
-//! Nothing is promised of what it finds, but that it is found, or given up, in bounded time: whoever asks tests the
-//! prices and their certificates.
+//! Nothing is promised of what it finds, but that it is found, or given up, in bounded time:
+//! whoever asks tests the prices and their certificates.
 #![tactic(auto)]
 
 mod certified;

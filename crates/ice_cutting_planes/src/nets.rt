@@ -16,7 +16,8 @@ pub(crate) struct LongPrices<'a> {
     pub(crate) nums: &'a [i128],
 }
 
-/// A best set at prices, and by how much its net beats that of the bidder's own set, times the prices' denominator.
+/// A best set at prices, and by how much its net beats that of the bidder's own set, times the
+/// prices' denominator.
 #[derive(Drop)]
 pub(crate) struct Excess {
     pub(crate) set: NodeSet,

@@ -7,8 +7,8 @@ use crate::numbers::product;
 use crate::work::{GivenUp, MOST_PIVOTS, Work};
 use std::mem;
 
-/// How far the variable of an equation lets the entering one rise: `main`, and `small` times an infinitesimal, over
-/// `by`.
+/// How far the variable of an equation lets the entering one rise: `main`, and `small` times an
+/// infinitesimal, over `by`.
 #[derive(Clone, Copy)]
 struct Ratio {
     place: usize,
@@ -19,7 +19,8 @@ struct Ratio {
 }
 
 impl Ratio {
-    /// The ratio of the equation at a place, where it has the coefficient `coeff` of the entering variable.
+    /// The ratio of the equation at a place, where it has the coefficient `coeff` of the entering
+    /// variable.
     fn of(place: usize, equation: &Equation, coeff: i128) -> Ratio {
         Ratio {
             place,
@@ -56,7 +57,8 @@ fn put_into_all(left: &mut [Equation], entering: usize, by: &Equation) -> Result
 }
 
 impl Dictionary {
-    /// The place of the variable that enters: it has the greatest coefficient above 0 in the objective.
+    /// The place of the variable that enters: it has the greatest coefficient above 0 in the
+    /// objective.
     fn entering(&self) -> Option<usize> {
         let mut entering = None;
         let mut most = 0;
@@ -88,7 +90,8 @@ impl Dictionary {
         Ok(least.map(|ratio| ratio.place))
     }
 
-    /// Makes the variable at `entering` on the right that of the equation at `leaving`, and the other way round.
+    /// Makes the variable at `entering` on the right that of the equation at `leaving`, and the
+    /// other way round.
     fn pivot(&mut self, leaving: usize, entering: usize) -> Result<(), GivenUp> {
         if leaving >= self.left.len() || entering >= self.right.len() {
             return Err(GivenUp::Spent);

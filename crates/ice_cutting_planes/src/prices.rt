@@ -36,7 +36,8 @@ impl Violation {
     }
 }
 
-/// The dictionary of the second stage, with the cuts whose multipliers stand on the left at the end of the first.
+/// The dictionary of the second stage, with the cuts whose multipliers stand on the left at the end
+/// of the first.
 fn second_dictionary(
     alloc: Global,
     goods: u8,
@@ -82,13 +83,15 @@ fn whole_prices(alloc: Global, found: &Rounding) -> Result<Prices, GivenUp> {
     Prices::new(den, &nums).ok_or(GivenUp::Long)
 }
 
-/// Looks for prices of a provisional trade that are accurate and then balanced, with their violation and certificates.
+/// Looks for prices of a provisional trade that are accurate and then balanced, with their
+/// violation and certificates.
 ///
-/// What it finds isn't promised to be so, nor to be within the limits of prices and certificates. It gives up with `Wide`
-/// where a number doesn't fit; with `Spent` where a stage has more than 400 columns or takes more than 400 turns, where
-/// `work` has 5,000 pivots and one more is to be taken, and where nothing bounds an entering variable; with `Long` where a
-/// denominator or a weight is above 2^32; and with `NoMemory` at any time. What it does is added to `work`, in which no
-/// count falls.
+/// What it finds isn't promised to be so, nor to be within the limits of prices and certificates.
+/// It gives up with `Wide` where a number doesn't fit; with `Spent` where a stage has more than 400
+/// columns or takes more than 400 turns, where `work` has 5,000 pivots and one more is to be taken,
+/// and where nothing bounds an entering variable; with `Long` where a denominator or a weight is
+/// above 2^32; and with `NoMemory` at any time. What it does is added to `work`, in which no count
+/// falls.
 pub fn cut_prices(
     alloc: Global,
     trade: &Provisional<'_>,

@@ -1,4 +1,5 @@
-//! Prices over a long denominator, rounded where neither the greatest price nor the violation grows.
+//! Prices over a long denominator, rounded where neither the greatest price nor the violation
+//! grows.
 use crate::certified::LARGEST;
 use crate::cut::Asked;
 use crate::nets::LongPrices;
@@ -68,7 +69,8 @@ impl Rounding {
         }
     }
 
-    /// Rounds the price of a good to a multiple, up or else down, where that is allowed. Whether it was rounded.
+    /// Rounds the price of a good to a multiple, up or else down, where that is allowed. Whether it
+    /// was rounded.
     fn round(
         &mut self,
         good: usize,

@@ -54,7 +54,8 @@ impl<'a> CutSearch<'a> {
         }
     }
 
-    /// Adds the best sets of bidders at a point as cuts, where the point doesn't meet them. How many were added.
+    /// Adds the best sets of bidders at a point as cuts, where the point doesn't meet them. How
+    /// many were added.
     fn add_cuts(&mut self, dictionary: &mut Dictionary, point: &Point) -> Result<u8, GivenUp> {
         let den = product(point.den, dictionary.asked.times)?;
         let bits = excess_bits(den, &point.nums);

@@ -42,7 +42,8 @@ impl Work {
 pub enum GivenUp {
     /// A number of a dictionary doesn't fit 128 bits.
     Wide,
-    /// All pivots were taken, or all turns or columns of a stage, or nothing bounds the entering variable.
+    /// All pivots were taken, or all turns or columns of a stage, or nothing bounds the entering
+    /// variable.
     Spent,
     /// A denominator or a weight is above 2^32.
     Long,

@@ -6,7 +6,7 @@ use Rattle.std.proofs.lemmas.List.{length-replicate, length-map, get_or-map}
 use Rattle.ice_defs.specs.Sum.{sum_below}
 use Rattle.ice_defs.specs.Tree.{Tree, kind_of}
 use Rattle.ice_defs.specs.Set.{NodeSet, has, IsSatisfied, Weights, weight_of, value, leaf_units, units}
-use Rattle.ice_defs.specs.Trade.{Assignment, tree_of, set_of, weights_of, is_exact, IsCovered, total_units, total_value, IsFeasible}
+use Rattle.ice_defs.specs.Trade.{tree_of, set_of, weights_of, is_exact, IsCovered, total_value, IsFeasible}
 use Rattle.ice_defs.specs.Vickrey.{IsEmpty}
 use Rattle.ice_defs.specs.Group.{empty_sets}
 use Rattle.ice_defs.proofs.Sums.{sum_below-zero}

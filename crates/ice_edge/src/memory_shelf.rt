@@ -15,7 +15,8 @@ struct MemFile {
     bytes: Vec<u8>,
 }
 
-/// Files in memory, for tests. A fetch fails where it is told to, and where there is no file of the name.
+/// Files in memory, for tests. A fetch fails where it is told to, and where there is no file of the
+/// name.
 #[derive(Drop)]
 pub struct MemShelf {
     alloc: Global,
@@ -92,7 +93,8 @@ impl MemShelf {
         Ok(())
     }
 
-    /// Makes the fetch with this number fail, counted from 1 on since the shelf was made. Every such call counts.
+    /// Makes the fetch with this number fail, counted from 1 on since the shelf was made. Every
+    /// such call counts.
     pub fn fail_at(&mut self, call: u32) -> Result<(), NoMemory>
         ensures ok { OnOk result (self.new ≡ with_failing self.old call) }
         ensures err { OnErr result (self.new ≡ self.old) }
@@ -119,8 +121,8 @@ impl Shelf for MemShelf {
         ensures kept_in_want { IsErrOf result FetchFault.NoMemory → told_of self.new ≡ told_of self.old }
         ensures later { IsLater (told_of self.old) (told_of self.new) }
 
-        // It fails exactly where it is told to and where there is no file, and else is too long exactly where there are
-        // more than `limit` bytes. Only want of memory comes beside that.
+        // It fails exactly where it is told to and where there is no file, and else is too long
+        // exactly where there are more than `limit` bytes. Only want of memory comes beside that.
         ensures after { self.new ≡ after_fetch self.old name.now limit }
         ensures answer { MatchOption (fetch_fault self.old name.now limit)
             (IfErr result (λ fault. fault ≡ FetchFault.NoMemory)) (λ fault. result ≡ Err fault) }

@@ -1,6 +1,6 @@
 //! A sink that keeps in memory what it takes.
-ghost use Rattle.std.specs.Prelude.{◌≡◌, ℕ, ◌≤◌, ◌↔◌, ◌++◌, length, IfOk, OnOk, OnErr, IsErr, IsTrue, Some};
-ghost use Rattle.ice_edge.specs.Edge.{Rose, Appends, AppendsFront};
+ghost use Rattle.std.specs.Prelude.{◌≡◌, ◌≤◌, ◌↔◌, ◌++◌, length, IfOk, OnOk, OnErr, IsErr, IsTrue, Some};
+ghost use Rattle.ice_edge.specs.Edge.{Rose, AppendsFront};
 ghost use Rattle.ice_edge.specs.MemorySink.{taken_of, is_due as due, empty_sink, with_planned, is_next_failing, after_put};
 
 use crate::{NoMemory, Sink, SinkFault};
@@ -37,7 +37,7 @@ impl Model for MemSink {
     ghost invariant = { λ s. (s.room ≤ vec_capacity s.bytes) × (vec_len s.bytes ≤ s.room) };
 }
 
-// How many bytes of a piece the put with this number takes.
+/// How many bytes of a piece the put with this number takes.
 fn taken(planned: Option<PlannedFault>, call: u64, piece: usize, room: usize) -> usize
     ensures { result ≡ taken_of planned call piece room }
 {
@@ -48,7 +48,7 @@ fn taken(planned: Option<PlannedFault>, call: u64, piece: usize, room: usize) ->
     }
 }
 
-// Whether the put with this number is to fail.
+/// Whether the put with this number is to fail.
 fn is_due(planned: Option<PlannedFault>, call: u64) -> bool
     ensures { result ≡ due planned call }
 {
@@ -75,8 +75,8 @@ impl MemSink {
         }
     }
 
-    /// Makes the put with this number fail, counted from 1 on since the sink was made, after it took at most so many
-    /// bytes of its piece. Of several such calls the last one counts alone.
+    /// Makes the put with this number fail, counted from 1 on since the sink was made, after it
+    /// took at most so many bytes of its piece. Of several such calls the last one counts alone.
     pub fn fail_at(&mut self, call: u32, taken: usize)
         ensures { self.new ≡ with_planned self.old call taken }
     {
@@ -105,8 +105,8 @@ impl Sink for MemSink {
         ensures failed { OnErr result (Rose self.old.faults self.new.faults) }
         ensures later { self.old.faults ≤ self.new.faults }
 
-        // It takes what fits and is not planned to fail, and fails exactly where it is told to, or where that is not
-        // the whole piece. It takes no memory.
+        // It takes what fits and is not planned to fail, and fails exactly where it is told to, or
+        // where that is not the whole piece. It takes no memory.
         ensures after { self.new ≡ after_put self.old piece.now }
         ensures fails { IsErr result ↔ IsTrue (is_next_failing self.old (length piece.now)) }
     {

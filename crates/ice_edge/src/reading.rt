@@ -5,13 +5,14 @@ use crate::FetchFault;
 use std::alloc::Global;
 use std::io::{ErrorKind, Read};
 
-/// A reader's bytes find so much room at first, which spares growing. It pays twice: the C library gives freed memory back
-/// to the system beyond twice the largest block that was given back so, and so a session's searches, which take and free
-/// some hundred thousand bytes each, find that memory again.
+/// A reader's bytes find so much room at first, which spares growing. It pays twice: the C library
+/// gives freed memory back to the system beyond twice the largest block that was given back so, and
+/// so a session's searches, which take and free some hundred thousand bytes each, find that memory
+/// again.
 const FIRST_ROOM: usize = 1_048_576;
 
-/// All bytes that are left of a reader, of which there are at most `limit`. It reads one byte more than the limit at
-/// most, and `TooLong` says that there is one.
+/// All bytes that are left of a reader, of which there are at most `limit`. It reads one byte more
+/// than the limit at most, and `TooLong` says that there is one.
 pub(crate) fn read_rest<F: Read + Drop>(
     alloc: Global,
     file: F,

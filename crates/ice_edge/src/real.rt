@@ -1,5 +1,5 @@
 //! Files of the system, and standard output. They tell no bytes.
-ghost use Rattle.std.specs.Prelude.{◌≡◌, ◌≤◌, length, IfOk, IsErrOf};
+ghost use Rattle.std.specs.Prelude.{◌≡◌, ◌≤◌, length, IfOk};
 
 use crate::reading::read_rest;
 use crate::{FetchFault, Shelf, WriterSink};
@@ -39,7 +39,7 @@ impl<'a, R: Files> DirShelf<'a, R> {
 }
 
 impl<R: Files> DirShelf<'_, R> {
-    // The bytes of the file at this path.
+    /// The bytes of the file at this path.
     fn read(&self, alloc: Global, path: &str, limit: usize) -> Result<Vec<u8>, FetchFault>
         ensures { IfOk result (λ bytes. length bytes.items ≤ limit) }
     {

@@ -31,11 +31,12 @@ pub trait Shelf {
     /// What it tells of its files, and how often fetches have failed.
     ghost told: { Self → Told };
 
-    /// The bytes under a name, of which there are at most `limit`. Of the same files nothing else is told after it.
+    /// The bytes under a name, of which there are at most `limit`. Of the same files nothing else
+    /// is told after it.
     ///
-    /// `TooLong` comes where there are more bytes than `limit`, and `Failed` where the file could not be read; each
-    /// raises a count. `NoMemory` is free. Where the bytes are had, and where memory is wanting, all that is told stays
-    /// the same, each count among it.
+    /// `TooLong` comes where there are more bytes than `limit`, and `Failed` where the file could
+    /// not be read; each raises a count. `NoMemory` is free. Where the bytes are had, and where
+    /// memory is wanting, all that is told stays the same, each count among it.
     fn fetch(&mut self, alloc: Global, name: &str, limit: usize) -> Result<Vec<u8>, FetchFault>
         ensures bytes { IfOk result (λ v. AreTold (told self.old) name.now v.items) }
         ensures within { IfOk result (λ v. length v.items ≤ limit) }

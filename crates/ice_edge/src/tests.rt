@@ -26,7 +26,8 @@ impl Read for SlowReader<'_> {
     }
 }
 
-/// A writer that takes at most `most` bytes a call, and nothing once it has `room` bytes; or it fails there.
+/// A writer that takes at most `most` bytes a call, and nothing once it has `room` bytes; or it
+/// fails there.
 #[derive(Drop)]
 struct SlowWriter {
     bytes: Vec<u8>,

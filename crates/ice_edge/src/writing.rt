@@ -1,12 +1,12 @@
 //! A sink over any writer.
-ghost use Rattle.std.specs.Prelude.{◌≡◌, ℕ, ◌≤◌, OnOk, OnErr, Option, List};
+ghost use Rattle.std.specs.Prelude.{◌≡◌, OnOk, OnErr};
 ghost use Rattle.ice_edge.specs.Edge.{Appends, AppendsFront};
 
 use crate::{Sink, SinkFault};
 use std::io::Write;
 
-/// Writes the whole piece, in as many writes as that takes. A write that fails, or takes none of what is left, ends it,
-/// and what was taken before is the front of the piece.
+/// Writes the whole piece, in as many writes as that takes. A write that fails, or takes none of
+/// what is left, ends it, and what was taken before is the front of the piece.
 pub(crate) fn write_piece<W: Write>(to: &mut W, piece: &[u8]) -> Result<(), SinkFault>
     ensures ok { OnOk result (Appends (W.contents to.old) piece.now (W.contents to.new)) }
     ensures err { OnErr result (AppendsFront (W.contents to.old) piece.now (W.contents to.new)) }

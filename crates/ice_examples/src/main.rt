@@ -1,5 +1,6 @@
-//! Writes the exchange that is generated from a number, in JSON on the first line, and on the second line a round file
-//! in which each of its bidders submits its true values. The word is the number.
+//! Writes the exchange that is generated from a number, in JSON on the first line, and on the
+//! second line a round file in which each of its bidders submits its true values. The word is the
+//! number.
 #![tactic(auto)]
 
 use ice_gen::{Generated, generate};
@@ -11,12 +12,12 @@ use std::alloc::{AllocError, Global};
 use std::env::Env;
 use std::{env, io};
 
-// The words behind the program's name.
+/// The words behind the program's name.
 fn words<R: Env + AllocGlobal>(rt: &R) -> io::Result<Vec<String>> {
     Ok(env::args(rt)?.skip(1).collect(rt.alloc())?)
 }
 
-// The lower values of the nodes, which are the true ones.
+/// The lower values of the nodes, which are the true ones.
 fn values(alloc: Global, truth: &Bounds) -> Result<Value, AllocError> {
     let mut values = Vec::new(alloc);
     for node in 0..truth.len() {
@@ -25,14 +26,14 @@ fn values(alloc: Global, truth: &Bounds) -> Result<Value, AllocError> {
     Ok(Value::from(values))
 }
 
-// The bid of a bidder.
+/// The bid of a bidder.
 fn bid(alloc: Global, name: &str, truth: &Bounds) -> Result<Value, AllocError> {
     let lo = values(alloc, truth)?;
     let hi = values(alloc, truth)?;
     json!(in alloc; {"bidder": name, "lo": lo, "hi": hi})
 }
 
-// A round file with one bid for each bidder.
+/// A round file with one bid for each bidder.
 fn truths(alloc: Global, exchange: &Exchange, truth: &[Bounds]) -> Result<Vec<u8>, AllocError> {
     let mut bids = Vec::new(alloc);
     for bidder in 0..exchange.bidders() {
@@ -44,7 +45,7 @@ fn truths(alloc: Global, exchange: &Exchange, truth: &[Bounds]) -> Result<Vec<u8
     json!(in alloc; {"bids": bids})?.to_vec(alloc)
 }
 
-// The two files.
+/// The two files.
 fn files(alloc: Global, number: u32) -> Result<(Vec<u8>, Vec<u8>), AllocError> {
     let Generated { exchange, truth } = generate(alloc, number)?;
     let truths = truths(alloc, &exchange, &truth)?;

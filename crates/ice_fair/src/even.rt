@@ -34,8 +34,8 @@ fn asked_part(cut: i128, den: i128, cost: i128) -> Option<i128>
     times(cut, times(den, cost)?)
 }
 
-/// The side of the test that is never below 0: what is asked for at the cap, and what the rows weigh at the violation, both
-/// times both denominators. None exactly where it is too large.
+/// The side of the test that is never below 0: what is asked for at the cap, and what the rows
+/// weigh at the violation, both times both denominators. None exactly where it is too large.
 fn left(cut: i128, den: i128, cost: i128, violation: i128, weight: i128) -> Option<i128>
     requires cut { pos 1 ≤ℤ cut }
     requires den { pos 0 ≤ℤ den }

@@ -1,4 +1,5 @@
-//! Fair prices: accurate ones that come as near to the payments as such prices come, and the tests that show it.
+//! Fair prices: accurate ones that come as near to the payments as such prices come, and the tests
+//! that show it.
 #![tactic(auto)]
 
 mod certificate;

@@ -67,7 +67,8 @@ fn are_even(
     )
 }
 
-/// Whether two lists of numbers and the rows of a certificate pass the test, where no bidder's gap is greater than this one.
+/// Whether two lists of numbers and the rows of a certificate pass the test, where no bidder's gap
+/// is greater than this one.
 pub(crate) fn passes(
     trade: &Provisional<'_>,
     nums: &[i64],

@@ -1,5 +1,5 @@
 -- How large the violation of certified prices is.
-use Rattle.std.proofs.Common.{ℕ, zero, suc, ◌*◌, ◌<◌, ◌≤◌, ◌≡◌, List, [], ◌∷◌, length, ℤ, pos, ◌+ℤ◌, ◌-ℤ◌, ◌*ℤ◌, ◌≤ℤ◌, arith, ap}
+use Rattle.std.proofs.Common.{ℕ, zero, suc, ◌*◌, ◌≤◌, ◌≡◌, List, [], ◌∷◌, ℤ, pos, ◌-ℤ◌, ◌*ℤ◌, ◌≤ℤ◌, arith, ap}
 use Rattle.std.specs.Int.{int_max}
 use Rattle.std.specs.List.{AllByRecursion}
 use Rattle.std.proofs.lemmas.Int.{ints, clamps}
@@ -8,7 +8,7 @@ use Rattle.std.proofs.Math.IntN.{*ℤ_comm, *ℤ-zero, pos-*ℤ-pos}
 use Rattle.ice_defs.specs.Sum.{sum_below}
 use Rattle.ice_defs.specs.Rows.{Row, weighted_sum, worth_above, units_above, wanted}
 use Rattle.ice_defs.proofs.Products.{times-le, times_add}
-use Rattle.ice_defs.proofs.Multiples.{times_keep, times_cancel, times_swap}
+use Rattle.ice_defs.proofs.Multiples.{times_keep, times_cancel}
 use Rattle.ice_row_laws.proofs.Weighted.{total_weight}
 use Rattle.ice_fair_laws.specs.Whole.{CertifiedIsSmall}
 

@@ -1,12 +1,13 @@
-//! Laws of fair prices: what the fairness test shows, whole numbers that decide it, and what the fairness stage's least points say.
+//! Laws of fair prices: what the fairness test shows, whole numbers that decide it, and what the
+//! fairness stage's least points say.
 #![tactic(auto)]
 
 ghost use Rattle.ice_fair_laws.specs.Laws.{TestGivesFair, TestGivesLeast};
 ghost use Rattle.ice_fair_laws.specs.Run.{FairTracesSolve, FairIsFeasible, FairIsWithin, FairPoolIsProper, LeastIsFair, DualsPassFairness, LoweredTogether, FirstMayFollowFair, FairIsShaped};
 ghost use Rattle.ice_fair_laws.specs.Whole.{GreatestGapIsDistance, TestIsWhole, AskedIsLow, HeldIsSized, CertifiedIsSmall};
 
-/// Prices whose rows pass the accuracy test, and whose certificate passes the fairness test, are fair: no accurate prices
-/// come nearer to the payments.
+/// Prices whose rows pass the accuracy test, and whose certificate passes the fairness test, are
+/// fair: no accurate prices come nearer to the payments.
 pub fn test_gives_fair()
     ensures { TestGivesFair }
 {}
@@ -16,7 +17,8 @@ pub fn test_gives_least()
     ensures { TestGivesLeast }
 {}
 
-/// A fraction is the distance exactly where it is the greatest gap, over the prices' denominator and that of the payments.
+/// A fraction is the distance exactly where it is the greatest gap, over the prices' denominator
+/// and that of the payments.
 pub fn greatest_gap_is_distance()
     ensures { GreatestGapIsDistance }
 {}
@@ -41,7 +43,8 @@ pub fn fair_traces_solve()
     ensures { FairTracesSolve }
 {}
 
-/// With accurate prices and their violation, the fairness program has a feasible point over each pool.
+/// With accurate prices and their violation, the fairness program has a feasible point over each
+/// pool.
 pub fn fair_is_feasible()
     ensures { FairIsFeasible }
 {}
@@ -56,7 +59,8 @@ pub fn fair_pool_is_proper()
     ensures { FairPoolIsProper }
 {}
 
-/// Where no set is to be added, the prices of the least point are fair, and the point's last number is their distance.
+/// Where no set is to be added, the prices of the least point are fair, and the point's last number
+/// is their distance.
 pub fn least_is_fair()
     ensures { LeastIsFair }
 {}
@@ -66,7 +70,8 @@ pub fn duals_pass_fairness()
     ensures { DualsPassFairness }
 {}
 
-/// Two lists of duals, each times a factor, lowered and brought to one least common denominator, are weights.
+/// Two lists of duals, each times a factor, lowered and brought to one least common denominator,
+/// are weights.
 pub fn lowered_together()
     ensures { LoweredTogether }
 {}
@@ -81,7 +86,8 @@ pub fn fair_is_shaped()
     ensures { FairIsShaped }
 {}
 
-/// Prices that a certificate shows to be accurate have a violation of at most what the worth of its rows allows.
+/// Prices that a certificate shows to be accurate have a violation of at most what the worth of its
+/// rows allows.
 pub fn certified_is_small()
     ensures { CertifiedIsSmall }
 {}

@@ -30,8 +30,8 @@ fn long_divisor(a: u128, b: u128) -> u128
     x
 }
 
-/// The greatest common divisor of two numbers, by Euclid's algorithm. It takes no division where the second is 1, and
-/// short ones where both are below 2^64.
+/// The greatest common divisor of two numbers, by Euclid's algorithm. It takes no division where
+/// the second is 1, and short ones where both are below 2^64.
 pub fn common_divisor(a: u128, b: u128) -> u128
     ensures value { result ≡ gcd a b }
     ensures positive { 0 < b → 0 < result }

@@ -12,7 +12,8 @@ use crate::narrow::{Wide, den_product, product, quotient, size_quotient, sum, wi
 use std::cmp::Ordering;
 use std::marker::Model;
 
-/// A fraction in lowest terms: a numerator within 2^127 - 1 in size over a denominator from 1 to 2^127 - 1.
+/// A fraction in lowest terms: a numerator within 2^127 - 1 in size over a denominator from 1 to
+/// 2^127 - 1.
 #[derive(Clone, Copy, PartialEq, Eq)]
 pub struct Frac {
     num: i128,
@@ -66,7 +67,8 @@ fn compare_products(a: u128, d: u128, c: u128, b: u128) -> Ordering
 }
 
 impl Frac {
-    /// The fraction `num / den` in lowest terms. None exactly where `den` is below 1 or `num` is the least `i128`.
+    /// The fraction `num / den` in lowest terms. None exactly where `den` is below 1 or `num` is
+    /// the least `i128`.
     pub fn new(num: i128, den: i128) -> Option<Frac>
         ensures none { IsNone result ↔ (den <ℤ pos 1) ⊎ (num ≡ i128.MIN) }
         ensures value { IfSome result (λ r. r ≡ lowest num (unsigned_abs den)) }
@@ -95,7 +97,8 @@ impl Frac {
         self.den
     }
 
-    /// The fraction of the other sign. It never refuses, since the range of numerators is the same on both sides of 0.
+    /// The fraction of the other sign. It never refuses, since the range of numerators is the same
+    /// on both sides of 0.
     pub fn negated(&self) -> Frac
         ensures value { result ≡ negated self.now }
         ensures lowest { IsLowest result }
@@ -118,8 +121,8 @@ impl Frac {
         }
     }
 
-    /// The sum, exact. Wide exactly where one of the summands over the least common denominator, their sum or that
-    /// denominator is out of range.
+    /// The sum, exact. Wide exactly where one of the summands over the least common denominator,
+    /// their sum or that denominator is out of range.
     pub fn add(&self, other: &Frac) -> Result<Frac, Wide>
         ensures exact { result_ok result ≡ add self.now other.now }
         ensures equal { IfOk result (λ r. Equals r (plus self.now other.now)) }
@@ -158,7 +161,8 @@ impl Frac {
         Ok(Frac { num, den })
     }
 
-    /// The quotient by a divisor that isn't 0, exact. Wide exactly where the product with the reciprocal is.
+    /// The quotient by a divisor that isn't 0, exact. Wide exactly where the product with the
+    /// reciprocal is.
     pub fn div(&self, other: &Frac) -> Result<Frac, Wide>
         requires { other.now.num ≢ pos 0 }
         ensures exact { result_ok result ≡ div self.now other.now }

@@ -21,7 +21,8 @@ pub fn lowest_is_unique()
     ensures { LowestIsUnique }
 {}
 
-/// What Euclid's steps give of two numbers divides both, and each number that divides both divides it.
+/// What Euclid's steps give of two numbers divides both, and each number that divides both divides
+/// it.
 pub fn common_divisors_are_greatest()
     ensures { CommonDivisorIsGreatest }
 {}

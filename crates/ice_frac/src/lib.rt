@@ -1,4 +1,5 @@
-//! Fractions in lowest terms over 128 bits: each operation is exact, or answers that it is too wide.
+//! Fractions in lowest terms over 128 bits: each operation is exact, or answers that it is too
+//! wide.
 #![tactic(auto)]
 
 mod euclid;

@@ -1,5 +1,5 @@
 //! Whole arithmetic that stays within 2^127 - 1 in size.
-ghost use Rattle.std.specs.Prelude.{◌≡◌, ◌<◌, ◌^◌, ◌*◌, ◌/◌, pos, ◌*ℤ◌, ◌+ℤ◌, neg_ℤ, int_lt, if◌then◌else◌, int_div, is_ok, IfOk, unsigned_abs};
+ghost use Rattle.std.specs.Prelude.{◌≡◌, ◌<◌, ◌^◌, ◌*◌, ◌/◌, pos, ◌*ℤ◌, ◌+ℤ◌, neg_ℤ, int_lt, if◌then◌else◌, int_div, is_ok, IfOk};
 ghost use Rattle.ice_defs.specs.Frac.{num_fits, den_fits};
 
 /// The exact result doesn't fit 128 bits.

@@ -15,7 +15,8 @@ use ice_trade::{Exchange, ExchangeMaker};
 use ice_tree::Bounds;
 use std::alloc::{AllocError, Global};
 
-/// A generated exchange, and for each of its bidders the true values, as bounds whose lower and upper values are equal.
+/// A generated exchange, and for each of its bidders the true values, as bounds whose lower and
+/// upper values are equal.
 #[derive(Drop)]
 pub struct Generated {
     /// The exchange, with its opening bounds.
@@ -89,8 +90,9 @@ impl Draft {
     }
 }
 
-/// The generated exchange of a number, and the true values of its bidders: 12 goods, four sellers of three goods each,
-/// and four buyers of packages of two to four goods, 68 nodes together. The same number always gives the same exchange.
+/// The generated exchange of a number, and the true values of its bidders: 12 goods, four sellers
+/// of three goods each, and four buyers of packages of two to four goods, 68 nodes together. The
+/// same number always gives the same exchange.
 ///
 /// Want of memory is the one error.
 pub fn generate(alloc: Global, number: u32) -> Result<Generated, AllocError>

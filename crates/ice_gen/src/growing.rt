@@ -11,8 +11,8 @@ use arrayvec::ArrayVec;
 use ice_tree::{Bounds, NodeKind, Tree, TreeMaker};
 use std::marker::Model;
 
-/// A tree over 12 goods that is being made, node by node in preorder, with a true value and bounds for each of its at
-/// most 13 nodes. It takes no memory.
+/// A tree over 12 goods that is being made, node by node in preorder, with a true value and bounds
+/// for each of its at most 13 nodes. It takes no memory.
 #[derive(Drop)]
 pub(crate) struct ValuedTreeMaker {
     maker: TreeMaker,
@@ -29,7 +29,8 @@ impl Model for ValuedTreeMaker {
     ghost invariant = { λ m. IsKept m.maker m.values.items };
 }
 
-/// What is made of a bidder: its tree over 12 goods, its opening bounds, and its true values as bounds.
+/// What is made of a bidder: its tree over 12 goods, its opening bounds, and its true values as
+/// bounds.
 #[derive(Drop)]
 pub(crate) struct Valuation {
     pub(crate) tree: Tree,

@@ -5,8 +5,8 @@ ghost use Rattle.ice_gen.specs.Drawing.{drawn};
 
 use std::marker::Model;
 
-/// A linear congruential generator of 64 bits, with the multiplier and the increment of Knuth's MMIX (The Art of
-/// Computer Programming, volume 2, section 3.3.4). It is seen as its state.
+/// A linear congruential generator of 64 bits, with the multiplier and the increment of Knuth's
+/// MMIX (The Art of Computer Programming, volume 2, section 3.3.4). It is seen as its state.
 #[derive(Drop)]
 pub(crate) struct Generator {
     state: u64,

@@ -1,5 +1,5 @@
 //! Fractions in lowest terms, read.
-ghost use Rattle.std.specs.Prelude.{◌≡◌, ℕ, ◌<◌, ◌≤◌, ◌^◌, ◌++◌, ◌∷◌, pos, neg_ℤ, IsTrue, ◌↔◌, MatchOption, Contains, option_map, unsigned_abs};
+ghost use Rattle.std.specs.Prelude.{◌≡◌, ◌<◌, ◌++◌, ◌∷◌, IsTrue, ◌↔◌, MatchOption, Contains, option_map, unsigned_abs};
 ghost use Rattle.std.specs.Int.{IsGcd};
 ghost use Rattle.ice_journal.specs.Reading.{Finds};
 ghost use Rattle.ice_journal.specs.Ranges.{IsFractionField};
@@ -9,7 +9,7 @@ ghost use Rattle.ice_journal.specs.Lines.{fraction_of};
 use crate::line::LowestFraction;
 use ice_line::{integer, natural};
 
-// What stands before the first slash, and what comes after it.
+/// What stands before the first slash, and what comes after it.
 fn split_at_slash(field: &[u8]) -> Option<(&[u8], &[u8])>
     ensures { MatchOption result (¬ Contains field.now 47) (λ parts. (field.now ≡ parts.0.now ++ 47 ∷ parts.1.now) × ¬ Contains parts.0.now 47) }
 {
@@ -21,7 +21,7 @@ fn split_at_slash(field: &[u8]) -> Option<(&[u8], &[u8])>
     None
 }
 
-// No number above 1 divides both.
+/// No number above 1 divides both.
 fn are_coprime(a: u64, b: u64) -> bool
     ensures { IsTrue result ↔ IsGcd a b 1 }
 {

@@ -1,14 +1,13 @@
 //! The words and numbers of single fields, read.
-ghost use Rattle.std.specs.Prelude.{◌≡◌, ℕ, ◌-◌, ◌≤◌, ◌^◌, ◌++◌, ◌∷◌, [], length, map, codes, decimal, pos, negsuc, neg_ℤ, IsTrue, ◌↔◌, MatchOption, unsigned_abs, Contains, option_map, FitsSigned, ◌≤ℤ◌};
+ghost use Rattle.std.specs.Prelude.{◌≡◌, ◌-◌, ◌^◌, pos, neg_ℤ, option_map};
 ghost use Rattle.std.specs.Fmt.{signed_decimal};
-ghost use Rattle.std.specs.Int.{IsGcd};
-ghost use Rattle.std.specs.List.{list_all, AllByRecursion};
+ghost use Rattle.std.specs.List.{list_all};
 ghost use Rattle.ice_defs.specs.Name.{is_name_byte};
 ghost use Rattle.ice_defs.specs.Exchange.{IsBetween};
 ghost use Rattle.ice_journal.specs.Reading.{Finds};
-ghost use Rattle.ice_journal.specs.Ranges.{IsName, IsPlace, IsBits, IsTotal, IsFromTo, IsDen, IsViolationField, IsFractionField, IsValue, HasLength, IsStageRecord};
-ghost use Rattle.ice_journal.specs.Spelling.{bits, bit_byte, fraction_text, counted, version_word, kind_word, end_word, stage_word, limit_word};
-ghost use Rattle.ice_journal.specs.Lines.{version_of, kind_of, end_of, stage_of, limit_of, fraction_of};
+ghost use Rattle.ice_journal.specs.Ranges.{IsPlace, IsBits, IsViolationField, IsStageRecord};
+ghost use Rattle.ice_journal.specs.Spelling.{bits, bit_byte, version_word, kind_word, end_word, stage_word, limit_word};
+ghost use Rattle.ice_journal.specs.Lines.{version_of, kind_of, end_of, stage_of, limit_of};
 
 use crate::line::{EndWord, Kind, LimitKind, LowestFraction, Stage, Version};
 use arrayvec::ArrayVec;
@@ -127,7 +126,7 @@ pub fn file_place(field: &[u8]) -> Option<ArrayVec<u8, 256>>
     Some(place)
 }
 
-// The bit of a character.
+/// The bit of a character.
 fn bit(byte: u8) -> Option<bool>
     ensures { Finds result (λ _. Unit {0}) bit_byte byte }
 {

@@ -71,8 +71,8 @@ pub enum LimitKind {
     Den,
 }
 
-/// A multiplier that differs from the one of the leaf before it: its good, from 0 to 31, and its number in 64ths,
-/// from -2^56 to 2^56.
+/// A multiplier that differs from the one of the leaf before it: its good, from 0 to 31, and its
+/// number in 64ths, from -2^56 to 2^56.
 #[derive(Clone, Copy, Default)]
 pub struct Change {
     /// The good's number.
@@ -81,7 +81,8 @@ pub struct Change {
     pub multiplier: i64,
 }
 
-/// A fraction in lowest terms: a numerator of at most 10^18 in size, over a denominator from 1 to 1,000.
+/// A fraction in lowest terms: a numerator of at most 10^18 in size, over a denominator from 1 to
+/// 1,000.
 #[derive(Clone, Copy)]
 pub struct LowestFraction {
     /// The numerator.
@@ -110,9 +111,9 @@ pub enum Line {
         name: Name,
         own: ArrayVec<u32, 32>,
     },
-    /// `node choose L M N LO HI`, `node buy G U LO HI` or `node sell G U LO HI`: least, most and number of children,
-    /// each at most 199; a good of at most 31, 1 to 1,000 units; values of at most 10^9 in size. A leaf has no use for
-    /// `children`.
+    /// `node choose L M N LO HI`, `node buy G U LO HI` or `node sell G U LO HI`: least, most and
+    /// number of children, each at most 199; a good of at most 31, 1 to 1,000 units; values of at
+    /// most 10^9 in size. A leaf has no use for `children`.
     Node {
         kind: NodeKind,
         children: u16,
@@ -217,8 +218,8 @@ pub enum Line {
     },
     /// `end WORD`.
     End(EndWord),
-    /// `refused F N PLACE`: a file from 1 to 21, a number from 1 to 99, a place of 1 to 256 letters, digits, `_`, `-`
-    /// and dots, where `-` alone means no place.
+    /// `refused F N PLACE`: a file from 1 to 21, a number from 1 to 99, a place of 1 to 256
+    /// letters, digits, `_`, `-` and dots, where `-` alone means no place.
     Refused {
         file: u8,
         number: u8,

@@ -1,10 +1,9 @@
 //! Fields that are lists to the end of a record, read.
-ghost use Rattle.std.specs.Prelude.{◌≡◌, ℕ, ◌<◌, ◌≤◌, ◌^◌, ◌++◌, ◌∷◌, [], List, length, map, decimal, pos, neg_ℤ, option_map, ◌≤ℤ◌};
+ghost use Rattle.std.specs.Prelude.{◌<◌, ◌≤◌, ◌∷◌, List, length, map, decimal, option_map};
 ghost use Rattle.std.specs.Fmt.{signed_decimal};
 ghost use Rattle.std.specs.List.{AllByRecursion, flat_map};
 ghost use Rattle.ice_defs.specs.Exchange.{IsBetween};
 ghost use Rattle.ice_journal.specs.Reading.{Finds, ReadsFront};
-ghost use Rattle.ice_journal.specs.Records as spec;
 ghost use Rattle.ice_journal.specs.Ranges.{HasLength, IsValue, Ascends, IsChange, IsSubmission};
 ghost use Rattle.ice_journal.specs.Spelling.{counted, change_fields, submission_fields};
 ghost use Rattle.ice_journal.specs.Lines.{change_of, changes_of, submission_of};
@@ -46,7 +45,7 @@ pub fn integers(mut fields: Fields<'_>, least: i64, most: i64) -> Option<ArrayVe
     }
 }
 
-// A count of at most 200, and so many values.
+/// A count of at most 200, and so many values.
 fn counted_values(fields: &mut Fields<'_>) -> Option<ArrayVec<i32, 200>>
     ensures { ReadsFront (option_map (λ values. values.items) result) (λ values. (length values ≤ 200) × AllByRecursion IsValue values) counted fields.old fields.new }
 {
@@ -72,7 +71,7 @@ pub fn submission(mut fields: Fields<'_>) -> Option<(Name, ArrayVec<i32, 200>, A
     Some((name, lo, hi))
 }
 
-// A change of a good from `least` on.
+/// A change of a good from `least` on.
 fn one_change(fields: &mut Fields<'_>, least: u64) -> Option<Change>
     ensures { ReadsFront (option_map change_of result) (λ change. (least ≤ change.good) × IsChange change) change_fields fields.old fields.new }
 {

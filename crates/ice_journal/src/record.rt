@@ -12,7 +12,7 @@ use crate::records::*;
 use crate::words::{Word, read_word};
 use ice_line::Fields;
 
-// The record of a node.
+/// The record of a node.
 fn node_record(mut fields: Fields<'_>) -> Option<Line>
     ensures { FindsAfter (codes "node" ∷ []) result fields.entry }
 {
@@ -28,7 +28,7 @@ fn node_record(mut fields: Fields<'_>) -> Option<Line>
     }
 }
 
-// The record of the fields behind its first word.
+/// The record of the fields behind its first word.
 fn record_after(word: Word, fields: Fields<'_>) -> Option<Line>
     ensures { FindsAfter (word_text word ∷ []) result fields.entry }
 {
@@ -68,7 +68,7 @@ fn record_after(word: Word, fields: Fields<'_>) -> Option<Line>
     }
 }
 
-// The record of these fields.
+/// The record of these fields.
 fn record(mut fields: Fields<'_>) -> Option<Line>
     ensures { Finds (option_map record_of result) IsRecord fields_of fields.entry }
 {
@@ -76,8 +76,8 @@ fn record(mut fields: Fields<'_>) -> Option<Line>
     record_after(word, fields)
 }
 
-/// The record of which this is the one spelling, and None exactly where it is the spelling of no record.
-/// The text has no newline at its end.
+/// The record of which this is the one spelling, and None exactly where it is the spelling of no
+/// record. The text has no newline at its end.
 pub fn read_record(text: &[u8]) -> Option<Line>
     ensures { Reads (option_map record_of result) IsRecord text_of text.now }
 {

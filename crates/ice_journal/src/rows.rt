@@ -1,5 +1,5 @@
 //! The fields behind the first word of a record, by their form.
-ghost use Rattle.std.specs.Prelude.{◌≡◌, ℕ, ◌-◌, ◌≤◌, ◌^◌, ◌++◌, ◌∷◌, [], length, map, codes, decimal, pos, negsuc, neg_ℤ, IsTrue, ◌↔◌, option_map, ◌≤ℤ◌};
+ghost use Rattle.std.specs.Prelude.{◌≡◌, ◌-◌, ◌≤◌, ◌^◌, ◌∷◌, [], length, map, decimal, pos, neg_ℤ, IsTrue, ◌↔◌, option_map};
 ghost use Rattle.std.specs.Fmt.{signed_decimal};
 ghost use Rattle.std.specs.List.{AllByRecursion};
 ghost use Rattle.ice_defs.specs.Exchange.{IsBetween, AreSettings};
@@ -296,7 +296,7 @@ pub fn refused(mut fields: Fields<'_>) -> Option<(u8, u8, ArrayVec<u8, 256>)>
     Some((file, number, place))
 }
 
-// The verdicts of one word.
+/// The verdicts of one word.
 fn bare_verdict(word: &[u8]) -> Option<Verdict>
     ensures { Finds result (λ verdict. IsVerdictRecord verdict × (length (verdict_fields verdict) ≡ 1)) verdict_fields (word.now ∷ []) }
 {

@@ -40,7 +40,7 @@ pub enum Word {
     Unread,
 }
 
-// The word of three letters.
+/// The word of three letters.
 fn word_of_three(field: &[u8]) -> Option<Word>
     ensures { Reads result (λ word. length (word_text word) ≡ 3) word_text field.now }
 {
@@ -57,7 +57,7 @@ fn word_of_three(field: &[u8]) -> Option<Word>
     }
 }
 
-// The word of four letters.
+/// The word of four letters.
 fn word_of_four(field: &[u8]) -> Option<Word>
     ensures { Reads result (λ word. length (word_text word) ≡ 4) word_text field.now }
 {
@@ -78,7 +78,7 @@ fn word_of_four(field: &[u8]) -> Option<Word>
     }
 }
 
-// The word of five letters.
+/// The word of five letters.
 fn word_of_five(field: &[u8]) -> Option<Word>
     ensures { Reads result (λ word. length (word_text word) ≡ 5) word_text field.now }
 {
@@ -97,7 +97,7 @@ fn word_of_five(field: &[u8]) -> Option<Word>
     }
 }
 
-// The word of six letters.
+/// The word of six letters.
 fn word_of_six(field: &[u8]) -> Option<Word>
     ensures { Reads result (λ word. length (word_text word) ≡ 6) word_text field.now }
 {
@@ -122,7 +122,7 @@ fn word_of_six(field: &[u8]) -> Option<Word>
     }
 }
 
-// The word of seven letters.
+/// The word of seven letters.
 fn word_of_seven(field: &[u8]) -> Option<Word>
     ensures { Reads result (λ word. length (word_text word) ≡ 7) word_text field.now }
 {
@@ -141,7 +141,7 @@ fn word_of_seven(field: &[u8]) -> Option<Word>
     }
 }
 
-// The word of eight letters.
+/// The word of eight letters.
 fn word_of_eight(field: &[u8]) -> Option<Word>
     ensures { Reads result (λ word. length (word_text word) ≡ 8) word_text field.now }
 {
@@ -154,7 +154,7 @@ fn word_of_eight(field: &[u8]) -> Option<Word>
     }
 }
 
-// The longer ones.
+/// The longer ones.
 fn long_word(field: &[u8]) -> Option<Word>
     ensures { Reads result (λ word. 8 < length (word_text word)) word_text field.now }
 {

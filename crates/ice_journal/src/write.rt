@@ -11,7 +11,8 @@ use crate::write_log::*;
 use crate::write_session::*;
 use ice_line::LineWriter;
 
-/// Writes the one spelling of a record into an empty line, of at most 8,192 bytes. It takes no memory.
+/// Writes the one spelling of a record into an empty line, of at most 8,192 bytes. It takes no
+/// memory.
 pub fn write_record(line: &Line, to: &mut LineWriter)
     requires lawful { IsRecord (record_of line.now) }
     requires empty { to.old ≡ [] }

@@ -96,7 +96,7 @@ fn put_choose(least: u16, most: u16, children: u16, lo: i64, hi: i64, to: &mut L
     to.integer(hi);
 }
 
-// The record of a leaf with this word.
+/// The record of a leaf with this word.
 fn put_leaf(word: &[u8], good: u8, units: u16, lo: i64, hi: i64, to: &mut LineWriter)
     requires empty { to.old ≡ [] }
     requires short { length word.now ≤ 20 }

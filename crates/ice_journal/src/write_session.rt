@@ -5,7 +5,7 @@ ghost use Rattle.std.specs.List.{AllByRecursion};
 ghost use Rattle.ice_line.specs.Writing.{with_field, with_fields};
 ghost use Rattle.ice_journal.specs.Records as line;
 ghost use Rattle.ice_journal.specs.Ranges.{IsValue};
-ghost use Rattle.ice_journal.specs.Spelling.{text_of, end_word, stage_word, limit_word, counted, verdict_fields};
+ghost use Rattle.ice_journal.specs.Spelling.{text_of, end_word, stage_word, limit_word, counted};
 ghost use Rattle.ice_journal.specs.Lines.{end_of, stage_of, limit_of, fraction_of};
 
 use crate::line::{EndWord, LimitKind, LowestFraction, Stage};

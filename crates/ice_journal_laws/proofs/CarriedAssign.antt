@@ -8,7 +8,7 @@ use Rattle.ice_defs.specs.Exchange.{Exchange, trees_of, exact_of}
 use Rattle.ice_defs.specs.Lawful.{IsExchange}
 use Rattle.ice_defs.specs.declared.Group.TheVariants.{Assign}
 use Rattle.ice_defs.specs.Session.{Assigned}
-use Rattle.ice_journal.specs.Records.{Record, Version, version_1, assign_kind, assign_end}
+use Rattle.ice_journal.specs.Records.{Version, version_1, assign_kind, assign_end}
 use Rattle.ice_journal.specs.Records as line
 use Rattle.ice_section.specs.Described.{section_records}
 use Rattle.ice_section.specs.Laws.{DescribedAreTaken}

@@ -7,7 +7,7 @@ use Rattle.ice_defs.specs.declared.Group.TheVariants.{Final, Provisional, Withou
 use Rattle.ice_defs.specs.Rows.{Row}
 use Rattle.ice_defs.specs.Round.{Judged}
 use Rattle.ice_defs.specs.Session.{Proved, Settlement, Going, closes}
-use Rattle.ice_journal.specs.Records.{Record, Version, session_kind, regret_kind}
+use Rattle.ice_journal.specs.Records.{Record}
 use Rattle.ice_journal.specs.Records as line
 use Rattle.ice_journal_laws.specs.State.{at_group, at_accuracy_rows, at_balance_rows, at_prices, at_threshold, State, exchange_at, settings_at, trees_at, exact_at, goods_at, weights_at}
 use Rattle.ice_journal_laws.specs.Next.{go_to, bidder_count}

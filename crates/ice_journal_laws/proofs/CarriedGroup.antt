@@ -9,7 +9,6 @@ use Rattle.ice_defs.specs.declared.Group.{Group}
 use Rattle.ice_defs.specs.declared.Group.TheVariants.{Assign, Final, Rival, Provisional, Without}
 use Rattle.ice_defs.specs.Group.{start_of}
 use Rattle.ice_defs.specs.Session.{Proved}
-use Rattle.ice_journal.specs.Records.{Record}
 use Rattle.ice_journal.specs.Records as line
 use Rattle.ice_journal.specs.Plain.{all_zero}
 use Rattle.ice_journal_laws.specs.declared.rule.Rule.{Rule}

@@ -6,7 +6,7 @@ use Rattle.ice_defs.specs.Exchange.{Exchange, trees_of, exact_of, opening_bounds
 use Rattle.ice_defs.specs.Lawful.{IsExchange}
 use Rattle.ice_defs.specs.Right.{bounds_after_rounds}
 use Rattle.ice_defs.specs.Session.{Going}
-use Rattle.ice_journal.specs.Records.{Record, Version, version_2, session_kind}
+use Rattle.ice_journal.specs.Records.{Record, Version, session_kind}
 use Rattle.ice_journal.specs.Records as line
 use Rattle.ice_section.specs.Described.{section_records}
 use Rattle.ice_section.specs.Laws.{DescribedAreTaken}

@@ -14,7 +14,6 @@ use Rattle.ice_defs.specs.Prices.{Prices}
 use Rattle.ice_defs.specs.Pricing.{IsViolation}
 use Rattle.ice_defs.specs.Rows.{Row, IsRow}
 use Rattle.ice_tree.proofs.Satisfied.{set_fault-none}
-use Rattle.ice_journal.specs.Records.{Record}
 use Rattle.ice_journal.specs.Records as line
 use Rattle.ice_journal_laws.specs.declared.rule.Rule.{Rule}
 use Rattle.ice_journal_laws.specs.declared.rule.Rule.TheVariants as rule

@@ -6,7 +6,7 @@ use Rattle.std.proofs.lemmas.List.{length-map}
 use Rattle.ice_defs.specs.Exchange.{Bidder, Exchange, trees_of, exact_of}
 use Rattle.ice_defs.specs.Lawful.{IsExchange}
 use Rattle.ice_defs.specs.Session.{Proved, Settlement, Regretted}
-use Rattle.ice_journal.specs.Records.{Record, Version, version_1, version_2, regret_kind, regret_end, closed_end, assign_end, exchange_end, prices_end, open_end, spent_end, limit_end, EndWord}
+use Rattle.ice_journal.specs.Records.{Record, Version, version_1, version_2, regret_kind, regret_end}
 use Rattle.ice_journal.specs.Records as line
 use Rattle.ice_journal.specs.Plain.{all_zero}
 use Rattle.ice_section.specs.Described.{section_records}

@@ -8,7 +8,7 @@ use Rattle.ice_defs.specs.Bounds.{Bounds}
 use Rattle.ice_defs.specs.Exchange.{Exchange, exact_of}
 use Rattle.ice_defs.specs.Session.{Proved, Settlement, Regretted}
 use Rattle.ice_refute.specs.Code.{CountsGoods}
-use Rattle.ice_journal.specs.Records.{Record, Kind, version_1, version_2, regret_kind, session_kind, regret_end, closed_end}
+use Rattle.ice_journal.specs.Records.{Record, Kind, version_1, version_2, regret_kind, regret_end}
 use Rattle.ice_journal.specs.Records as line
 use Rattle.ice_journal.specs.Plain.{goods_in, all_zero, plain_records, plain, changes_from, changed}
 use Rattle.ice_journal.proofs.Packed.{leaf_back, zeros}

@@ -1,5 +1,5 @@
 -- A group of a journal, its head, its sets and its log, where each test passes.
-use Rattle.std.proofs.Common.{◌≡◌, ◌+◌, ◌<◌, ◌≤◌, ℕ, zero, suc, Bool, true, false, cond, eqb, List, [], ◌∷◌, ◌++◌, length, map, get_or, ℤ, pos, refl, sym, ◌∙◌, ap, subst, arith, ◌⊎◌, inl, inr, length-append}
+use Rattle.std.proofs.Common.{◌≡◌, ◌+◌, ◌<◌, ◌≤◌, ℕ, suc, Bool, true, false, cond, eqb, List, [], ◌∷◌, ◌++◌, length, map, ℤ, pos, refl, sym, ◌∙◌, ap, subst, arith, ◌⊎◌, inl, inr, length-append}
 use Rattle.std.specs.Prelude.{◌≢◌, ◌||◌, Option, Some, None, option_map, IsTrue, IsSome, IfSome, IsSomeAnd}
 use Rattle.std.specs.List.{AllByRecursion}
 use Rattle.std.proofs.lemmas.Bool.{cases_lt, eqb-true, eqb-false, false_from_ne_true, true≢false}
@@ -11,9 +11,9 @@ use Rattle.ice_defs.specs.declared.Mark.{Mark}
 use Rattle.ice_defs.specs.declared.Mark.TheVariants.{Free, Must, Never}
 use Rattle.ice_defs.specs.Tree.{Tree}
 use Rattle.ice_defs.specs.Set.{NodeSet, has, Weights}
-use Rattle.ice_defs.specs.Fixing.{mark_of, Agrees}
+use Rattle.ice_defs.specs.Fixing.{mark_of}
 use Rattle.ice_defs.specs.Vickrey.{IsEmpty}
-use Rattle.ice_defs.specs.Trade.{Assignment, tree_of, set_of, fixing_of, total_value, total_units, is_exact, IsCovered, IsFeasible, MeetsAll}
+use Rattle.ice_defs.specs.Trade.{Assignment, tree_of, set_of, fixing_of, total_value, total_units, is_exact, IsCovered, IsFeasible}
 use Rattle.ice_defs.specs.Bound.{Multipliers}
 use Rattle.ice_defs.specs.Steps.{Step, branch, leaf, dead, Side, sides_after}
 use Rattle.ice_defs.specs.Log.{IsFreeNode, IsDeadBidder, Passes}

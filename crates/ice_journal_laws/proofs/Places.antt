@@ -4,7 +4,7 @@ use Rattle.std.specs.Prelude.{◌||◌, is_none, nat_lt, Option, Some, None, is_
 use Rattle.std.proofs.lemmas.Bool.{and_parts, true≢false, false≢true}
 use Rattle.std.proofs.lemmas.Option.{none-some}
 use Rattle.ice_defs.specs.Exchange.{Settings}
-use Rattle.ice_journal.specs.Records.{Record, Version, version_1, Kind, assign_kind, regret_kind}
+use Rattle.ice_journal.specs.Records.{Record, Version, Kind}
 use Rattle.ice_journal.specs.Records as line
 use Rattle.ice_section.specs.Section.{Section, SectionFault, order, count, no_good, maker, take_record, may_end, exchange_in, settings_in, Draft}
 use Rattle.ice_journal_laws.specs.declared.rule.Rule.{Rule}

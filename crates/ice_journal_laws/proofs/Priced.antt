@@ -1,16 +1,11 @@
 -- What a record makes of the tests at the prices of a settlement, at their certificates, and in its round.
-use Rattle.std.proofs.Common.{◌≡◌, ◌≢◌, ◌<◌, ◌≤◌, ◌+◌, ◌-◌, ◌⊎◌, ℕ, suc, Bool, true, false, cond, eqb, [], ◌∷◌, ◌++◌, List, length, ℤ, pos, refl, sym, ◌∙◌, ap, subst, arith}
-use Rattle.std.specs.Prelude.{◌||◌, ◌&&◌, IsTrue, IsSomeAnd, nat_lt, is_none, Option, Some, None, option_map, option_and_then}
-use Rattle.std.proofs.lemmas.Bool.{false≢true, eqb-true, eq-eqb, and_parts}
+use Rattle.std.proofs.Common.{◌≡◌, ◌≢◌, ◌<◌, ◌+◌, ◌-◌, ℕ, suc, Bool, true, false, cond, eqb, [], ◌∷◌, ◌++◌, length, ℤ, refl, sym, ◌∙◌, ap, subst, arith}
+use Rattle.std.specs.Prelude.{IsSomeAnd, Option, Some, None, option_map}
+use Rattle.std.proofs.lemmas.Bool.{false≢true}
 use Rattle.std.proofs.lemmas.Option.{none-some}
 use Rattle.ice_defs.specs.declared.SatRule.{SatRule}
-use Rattle.ice_defs.specs.declared.SatRule.TheVariants.{Parent, Few, Many}
-use Rattle.ice_defs.specs.Set.{NodeSet}
-use Rattle.ice_defs.specs.SetFault.{set_fault}
-use Rattle.ice_defs.specs.Trade.{tree_of}
 use Rattle.ice_defs.specs.Prices.{Prices}
 use Rattle.ice_defs.specs.Pricing.{IsViolation}
-use Rattle.ice_defs.specs.Rows.{Row}
 use Rattle.ice_defs.specs.Round.{Submission, IsNextVerdict}
 use Rattle.ice_defs.specs.declared.Verdict.{Verdict}
 use Rattle.ice_defs.specs.Session.{standings}
@@ -18,11 +13,11 @@ use Rattle.ice_journal.specs.Records.{Record}
 use Rattle.ice_journal.specs.Records as line
 use Rattle.ice_journal_laws.specs.declared.rule.Rule.{Rule}
 use Rattle.ice_journal_laws.specs.declared.rule.Rule.TheVariants as rule
-use Rattle.ice_journal_laws.specs.State.{Place, at_prices, at_accuracy, at_accuracy_rows, at_balance_rows, at_round, at_verdict, at_pool, done, State, exchange_at, settings_at, trees_at, goods_at}
-use Rattle.ice_journal_laws.specs.Fields.{is_spent, is_limit, is_round_stop, prices_in, Accuracy, accuracy_in, balance_in, row_in, submission_in, settlement_in, verdict_in}
-use Rattle.ice_journal_laws.specs.Next.{next, to_line, go_to, if_true, or_stop, may_have_row, with_row, to_balance, from_round, to_settlement, settled}
-use Rattle.ice_journal_laws.specs.Tests.{Fails, place_of, ended_list, AreUnlawful, offered_weights, AccuracyHolds, BalanceHolds}
-use Rattle.ice_journal_laws.specs.Progress.{passing, failed, TakesOn, passes_on, fails_at, list_fails_at, EndsList}
+use Rattle.ice_journal_laws.specs.State.{at_prices, at_accuracy, at_accuracy_rows, at_round, at_verdict, at_pool, State, exchange_at, settings_at, trees_at, goods_at}
+use Rattle.ice_journal_laws.specs.Fields.{is_limit, prices_in, Accuracy, accuracy_in, submission_in, verdict_in}
+use Rattle.ice_journal_laws.specs.Next.{next, to_line, go_to, if_true, or_stop, from_round, to_settlement, settled}
+use Rattle.ice_journal_laws.specs.Tests.{Fails, place_of, AreUnlawful, offered_weights}
+use Rattle.ice_journal_laws.specs.Progress.{passing, failed, TakesOn, passes_on, fails_at}
 use Rattle.ice_journal_laws.proofs.Places.{fails_order}
 
 module _ (s : State) where

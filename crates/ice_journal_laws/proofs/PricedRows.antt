@@ -1,9 +1,8 @@
 -- What a record makes of the tests at the rows of a certificate of prices.
-use Rattle.std.proofs.Common.{◌≡◌, ◌≢◌, ◌<◌, ◌≤◌, ◌+◌, ◌-◌, ◌⊎◌, inl, inr, ℕ, suc, Bool, true, false, cond, eqb, [], ◌∷◌, ◌++◌, List, length, ℤ, pos, refl, sym, ◌∙◌, ap, subst, arith}
-use Rattle.std.specs.Prelude.{◌||◌, ◌&&◌, IsTrue, IsSome, nat_lt, is_none, Option, Some, None, option_map, option_and_then}
-use Rattle.std.proofs.lemmas.Bool.{false≢true, eqb-true, eq-eqb}
+use Rattle.std.proofs.Common.{◌≡◌, ◌≢◌, ◌<◌, ◌≤◌, ◌+◌, ◌-◌, ◌⊎◌, inl, inr, ℕ, suc, Bool, true, false, cond, eqb, [], ◌∷◌, ◌++◌, List, length, refl, sym, ◌∙◌, ap, arith}
+use Rattle.std.specs.Prelude.{◌&&◌, IsSome, nat_lt, is_none, Option, Some, None, option_map, option_and_then}
+use Rattle.std.proofs.lemmas.Bool.{false≢true}
 use Rattle.std.proofs.lemmas.Option.{none-some}
-use borrow.Author.Tests.{ltb-true, ltb-false}
 use Rattle.ice_defs.specs.declared.SatRule.{SatRule}
 use Rattle.ice_defs.specs.declared.SatRule.TheVariants.{Parent, Few, Many}
 use Rattle.ice_defs.specs.Set.{NodeSet}
@@ -15,10 +14,10 @@ use Rattle.ice_journal.specs.Records.{Record}
 use Rattle.ice_journal.specs.Records as line
 use Rattle.ice_journal_laws.specs.declared.rule.Rule.{Rule}
 use Rattle.ice_journal_laws.specs.declared.rule.Rule.TheVariants as rule
-use Rattle.ice_journal_laws.specs.State.{Place, at_accuracy_rows, at_balance_rows, at_verdict, done, State, trees_at}
-use Rattle.ice_journal_laws.specs.Fields.{is_spent, is_limit, is_round_stop, balance_in, row_in, submission_in, settlement_in}
-use Rattle.ice_journal_laws.specs.Next.{next, to_line, go_to, if_true, or_stop, may_have_row, with_row, to_balance, from_round, to_settlement, settled}
-use Rattle.ice_journal_laws.specs.Tests.{Fails, place_of, ended_list, AccuracyHolds, BalanceHolds, ListHolds}
+use Rattle.ice_journal_laws.specs.State.{at_accuracy_rows, at_balance_rows, at_verdict, done, State, trees_at}
+use Rattle.ice_journal_laws.specs.Fields.{is_round_stop, balance_in, row_in, submission_in}
+use Rattle.ice_journal_laws.specs.Next.{next, to_line, go_to, if_true, or_stop, may_have_row, with_row, to_settlement, settled}
+use Rattle.ice_journal_laws.specs.Tests.{Fails, place_of, AccuracyHolds, BalanceHolds}
 use Rattle.ice_journal_laws.specs.Progress.{passing, failed, TakesOn, passes_on, fails_at, list_fails_at, EndsList}
 use Rattle.ice_journal_laws.specs.Assigning.{rule_of}
 use Rattle.ice_journal_laws.proofs.Priced.{goes_nowhere}

@@ -5,7 +5,7 @@ use Rattle.std.specs.List.{AllByRecursion}
 use Rattle.std.proofs.lemmas.List.{append_assoc, append-nil}
 use Rattle.ice_defs.specs.Bounds.{Bounds}
 use Rattle.ice_defs.specs.Exchange.{opening_bounds}
-use Rattle.ice_journal.specs.Records.{Record, Version, version_1, version_2, Kind, assign_kind, regret_kind, session_kind, exchange_kind, prices_kind, regret_end}
+use Rattle.ice_journal.specs.Records.{Record, Version, version_1, Kind, regret_kind, regret_end}
 use Rattle.ice_journal.specs.Records as line
 use Rattle.ice_journal.specs.Ranges.{IsRecord}
 use Rattle.ice_journal.specs.Plain.{plain}

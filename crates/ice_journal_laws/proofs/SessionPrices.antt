@@ -14,7 +14,7 @@ use Rattle.ice_defs.specs.Pricing.{IsViolation, IsBalanced}
 use Rattle.ice_defs.specs.Rows.{Row}
 use Rattle.ice_defs.specs.Round.{Submission, Judged, IsNextVerdict, next_bounds}
 use Rattle.ice_defs.specs.Session.{Going, standings}
-use Rattle.ice_journal.specs.Records.{Record, Version, session_kind, EndWord}
+use Rattle.ice_journal.specs.Records.{Record, Version, session_kind}
 use Rattle.ice_journal.specs.Records as line
 use Rattle.ice_journal.specs.Ranges.{IsRecord}
 use Rattle.ice_regret_laws.specs.Laws.{PerturbedGivesRegret}

@@ -1,18 +1,9 @@
 -- The best value without a bidder, where the log of its group passes.
-use Rattle.std.proofs.Common.{◌≡◌, ◌<◌, ℕ, zero, suc, Bool, false, List, [], ◌∷◌, length, refl, sym, ap, subst, arith, ◌⊎◌, inl, inr}
-use Rattle.std.specs.Prelude.{slice_set}
-use Rattle.std.proofs.lemmas.Bool.{cases_eq}
-use Rattle.std.proofs.lemmas.List.{get_or-set_same, get_or-set_other}
+use Rattle.std.proofs.Common.{◌<◌, ℕ, Bool, List, length, arith}
 use Rattle.ice_defs.specs.declared.Mark.{Mark}
-use Rattle.ice_defs.specs.declared.Mark.TheVariants.{Free, Must, Never}
-use Rattle.ice_defs.specs.Tree.{Tree}
-use Rattle.ice_defs.specs.Set.{has}
-use Rattle.ice_defs.specs.Fixing.{Fixing, mark_of, Agrees}
-use Rattle.ice_defs.specs.Trade.{Assignment, set_of, fixing_of, MeetsAll}
-use Rattle.ice_defs.specs.Steps.{with_mark}
-use Rattle.ice_defs.specs.Vickrey.{IsEmpty, IsBestWithout}
+use Rattle.ice_defs.specs.Vickrey.{IsBestWithout}
 use Rattle.ice_defs.specs.declared.Group.TheVariants.{Without}
-use Rattle.ice_defs.specs.Group.{free_side, start_of}
+use Rattle.ice_defs.specs.Group.{start_of}
 use Rattle.ice_journal.specs.Records.{Record}
 use Rattle.ice_refute.specs.Laws.{LogRefutes}
 use Rattle.ice_journal_laws.specs.State.{Stated, State, trees_at, exact_at, weights_at}

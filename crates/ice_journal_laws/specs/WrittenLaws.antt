@@ -2,7 +2,7 @@
 use Rattle.std.specs.Prelude.{◌≡◌, List, ◌∷◌, ◌++◌}
 use Rattle.std.specs.List.{AllByRecursion}
 use Rattle.ice_defs.specs.Session.{Regretted, Session}
-use Rattle.ice_journal.specs.Records.{Record, Version, version_2, Kind, session_kind}
+use Rattle.ice_journal.specs.Records.{Record, Version, version_2, Kind}
 use Rattle.ice_journal.specs.Records as line
 use Rattle.ice_journal.specs.Plain.{plain}
 use Rattle.ice_journal.specs.Ranges.{IsRecord}

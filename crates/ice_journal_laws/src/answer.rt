@@ -10,7 +10,8 @@ pub enum Answer {
     Assign { value: i128 },
     /// A journal of kind regret passes every test: the regret of its final sets.
     Regret { amount: i128 },
-    /// A session passes every test: the regret of its last settlement, at which it closes, and the surplus that its payments leave.
+    /// A session passes every test: the regret of its last settlement, at which it closes, and the
+    /// surplus that its payments leave.
     Closed { regret: i128, surplus: Frac },
     /// The first failed test: its line, from 1, and its rule.
     No { line: u64, rule: Rule },
@@ -38,7 +39,8 @@ pub enum CheckEnd {
     Grammar { line: u64 },
     /// The last line has no newline, and none before it is at fault.
     Unended { line: u64 },
-    /// Every line is a record, and the first is no head of a kind that is checked, or there is no line.
+    /// Every line is a record, and the first is no head of a kind that is checked, or there is no
+    /// line.
     OtherKind,
     /// Memory ran out.
     NoMemory,

@@ -1,5 +1,5 @@
-//! What journals say and the tests that they pass, and laws of these, which hold of every journal. It has no code but plain
-//! enums.
+//! What journals say and the tests that they pass, and laws of these, which hold of every journal.
+//! It has no code but plain enums.
 #![tactic(auto)]
 
 ghost use Rattle.ice_journal_laws.specs.Progress.{RecordsLeadOn, ProgressFindsTheFirstFailure};
@@ -26,7 +26,8 @@ pub fn progress_finds_the_first_failure()
     ensures { ProgressFindsTheFirstFailure }
 {}
 
-/// An assign journal whose records lead to its end states a lawful exchange and a feasible assignment: those of the state.
+/// An assign journal whose records lead to its end states a lawful exchange and a feasible
+/// assignment: those of the state.
 #[tactic(auto, using(crate::proofs::Assigned::done_is_right))]
 pub fn done_is_assigned()
     ensures { DoneIsAssigned }
@@ -38,19 +39,22 @@ pub fn checks_give_assigned()
     ensures { ChecksGiveAssigned }
 {}
 
-/// A regret journal whose records lead to its end states a lawful exchange, the best assignment at lower values, and its exact regret: those of the state.
+/// A regret journal whose records lead to its end states a lawful exchange, the best assignment at
+/// lower values, and its exact regret: those of the state.
 #[tactic(auto, using(crate::proofs::Regretted::done_is_right))]
 pub fn done_is_regretted()
     ensures { DoneIsRegretted }
 {}
 
-/// A regret journal that passes every test states a lawful exchange, the best assignment at lower values, and its exact regret.
+/// A regret journal that passes every test states a lawful exchange, the best assignment at lower
+/// values, and its exact regret.
 #[tactic(auto, using(crate::proofs::Regretted::checked_is_right))]
 pub fn checks_give_regret()
     ensures { ChecksGiveRegret }
 {}
 
-/// A session whose records lead to its end states a lawful exchange and a right session of it, with the regret and the surplus of the state.
+/// A session whose records lead to its end states a lawful exchange and a right session of it, with
+/// the regret and the surplus of the state.
 #[tactic(auto, using(crate::proofs::SessionRight::done_is_session))]
 pub fn done_is_right()
     ensures { DoneIsRight }
@@ -62,7 +66,8 @@ pub fn checks_give_right()
     ensures { ChecksGiveRight }
 {}
 
-/// To a session whose records lead to its end the checker may say yes: it has the headline, with the regret and the surplus of the state.
+/// To a session whose records lead to its end the checker may say yes: it has the headline, with
+/// the regret and the surplus of the state.
 #[tactic(auto, using(crate::proofs::SessionRight::session_is_yes))]
 pub fn session_is_yes()
     ensures { SessionIsYes }
@@ -80,7 +85,8 @@ pub fn bytes_have_one_answer()
     ensures { OneAnswer }
 {}
 
-/// Whether a session journal passes every test doesn't depend on the order of the submissions of different bidders in a round.
+/// Whether a session journal passes every test doesn't depend on the order of the submissions of
+/// different bidders in a round.
 #[tactic(auto, using(crate::proofs::Swapping::order_of_rounds_is_free))]
 pub fn order_of_rounds_is_free()
     ensures { OrderOfRoundsIsFree }

@@ -19,7 +19,7 @@ use Rattle.ice_defs.specs.Right.{IsRightFrom, IsClosed, final_bounds, payments_o
 use Rattle.ice_defs.proofs.Lists.{all_push}
 use Rattle.ice_frac.proofs.Gcd.{gcd_is, gcd_comm, dvd_from_coprime}
 use Rattle.ice_pricing_laws.proofs.Lists.{all-map, all-each, all-at}
-use Rattle.ice_journal.specs.Records.{Record, version_1, version_2, Kind, session_kind, closed_end}
+use Rattle.ice_journal.specs.Records.{Record, version_1, version_2, session_kind, closed_end}
 use Rattle.ice_journal.specs.Records as line
 use Rattle.ice_journal.specs.Ranges.{IsRecord, IsFractionField}
 use Rattle.ice_journal.specs.Plain.{plain, plain_records, goods_in, all_zero, changed}

@@ -4,7 +4,7 @@ ghost use Rattle.ice_line.specs.Fields as cut;
 
 use std::marker::Model;
 
-// The part of a text before its first space, and what comes after that space.
+/// The part of a text before its first space, and what comes after that space.
 fn split_field(text: &[u8]) -> (&[u8], Option<&[u8]>)
     ensures { cut.fields text.now ≡ result.0.now ∷ cut.fields_left result.1 }
 {
@@ -16,7 +16,8 @@ fn split_field(text: &[u8]) -> (&[u8], Option<&[u8]>)
     (text, None)
 }
 
-/// The fields of a line, which stand between its spaces. A contract sees those that are not yet taken.
+/// The fields of a line, which stand between its spaces. A contract sees those that are not yet
+/// taken.
 #[derive(Drop)]
 pub struct Fields<'a> {
     rest: Option<&'a [u8]>,

@@ -1,4 +1,5 @@
-//! Lines of text: their bytes, their fields and their numbers, read and written. No call takes memory.
+//! Lines of text: their bytes, their fields and their numbers, read and written. No call takes
+//! memory.
 #![tactic(auto)]
 
 mod fields;

@@ -1,10 +1,10 @@
 //! Numbers, by their one decimal spelling.
-ghost use Rattle.std.specs.Prelude.{◌≡◌, ℕ, ◌+◌, ◌*◌, ◌^◌, ◌<◌, ◌≤◌, List, [], ◌∷◌, ◌++◌, length, decimal, ℤ, pos, negsuc, ◌≤ℤ◌, ◌<ℤ◌, unsigned_abs, FitsSigned, MatchOption};
+ghost use Rattle.std.specs.Prelude.{◌≡◌, ℕ, ◌+◌, ◌*◌, ◌^◌, ◌<◌, ◌≤◌, List, [], ◌∷◌, ◌++◌, decimal, ℤ, ◌≤ℤ◌, unsigned_abs, FitsSigned, MatchOption};
 ghost use Rattle.std.specs.Int.{IsInRange, w128};
 ghost use Rattle.std.specs.Fmt.{signed_decimal};
 ghost use Rattle.ice_line.specs.Reading.{Reads};
 
-// The first byte, and those after it.
+/// The first byte, and those after it.
 fn split_byte(field: &[u8]) -> Option<(u8, &[u8])>
     ensures { MatchOption result (field.now ≡ []) (λ parts. field.now ≡ parts.0 ∷ parts.1.now) }
 {
@@ -14,7 +14,7 @@ fn split_byte(field: &[u8]) -> Option<(u8, &[u8])>
     }
 }
 
-// The number of a digit.
+/// The number of a digit.
 fn digit(byte: u8) -> Option<u8>
     ensures { MatchOption result (¬ IsInRange 48 57 byte) (λ number. (byte ≡ 48 + number) × (number < 10)) }
 {
@@ -25,7 +25,7 @@ fn digit(byte: u8) -> Option<u8>
     }
 }
 
-// The number of 64 bits that the digits of `first` spell with these after them.
+/// The number of 64 bits that the digits of `first` spell with these after them.
 fn more_digits(first: u64, rest: &[u8]) -> Option<u64>
     requires { 0 < first }
     ensures { Reads result (λ n. n < 2 ^ 64) decimal (decimal first ++ rest.now) }
@@ -38,7 +38,7 @@ fn more_digits(first: u64, rest: &[u8]) -> Option<u64>
     Some(value)
 }
 
-// The number of 64 bits that a field spells.
+/// The number of 64 bits that a field spells.
 fn digits(field: &[u8]) -> Option<u64>
     ensures { Reads result (λ n. n < 2 ^ 64) decimal field.now }
 {
@@ -53,7 +53,7 @@ fn digits(field: &[u8]) -> Option<u64>
     }
 }
 
-// The same at 128 bits.
+/// The same at 128 bits.
 fn more_wide_digits(first: u128, rest: &[u8]) -> Option<u128>
     requires { 0 < first }
     ensures { Reads result (λ n. n < 2 ^ 128) decimal (decimal first ++ rest.now) }
@@ -92,7 +92,8 @@ pub fn natural(field: &[u8], least: u64, most: u64) -> Option<u64>
     }
 }
 
-/// The number from `least` to `most` whose one decimal spelling this field is: negative ones have a `-`.
+/// The number from `least` to `most` whose one decimal spelling this field is: negative ones have a
+/// `-`.
 pub fn integer(field: &[u8], least: i64, most: i64) -> Option<i64>
     ensures { Reads result (λ z. (least ≤ℤ z) × (z ≤ℤ most)) signed_decimal field.now }
 {
@@ -104,7 +105,7 @@ pub fn integer(field: &[u8], least: i64, most: i64) -> Option<i64>
     }
 }
 
-// The number of 64 bits and a sign that a field spells.
+/// The number of 64 bits and a sign that a field spells.
 fn number_of_64_bits(field: &[u8]) -> Option<i128>
     ensures { Reads result (λ z. unsigned_abs z < 2 ^ 64) signed_decimal field.now }
 {
@@ -120,7 +121,7 @@ fn number_of_64_bits(field: &[u8]) -> Option<i128>
     }
 }
 
-// What comes after a minus.
+/// What comes after a minus.
 fn after_minus(field: &[u8]) -> Option<&[u8]>
     ensures { MatchOption result ((rest : List ℕ) → field.now ≡ 45 ∷ rest → ⊥) (λ rest. field.now ≡ 45 ∷ rest.now) }
 {
@@ -130,7 +131,8 @@ fn after_minus(field: &[u8]) -> Option<&[u8]>
     }
 }
 
-/// The number whose one decimal spelling this field is, and None exactly where it is the spelling of no number of 128 bits with a sign.
+/// The number whose one decimal spelling this field is, and None exactly where it is the spelling
+/// of no number of 128 bits with a sign.
 pub fn number(field: &[u8]) -> Option<i128>
     ensures { Reads result (FitsSigned w128) signed_decimal field.now }
 {

@@ -1,5 +1,5 @@
 //! The lines of bytes.
-ghost use Rattle.std.specs.Prelude.{◌≡◌, ℕ, ◌<◌, ◌≤◌, ◌&&◌, [], ◌∷◌, ◌++◌, length, Contains, MatchOption, nat_le};
+ghost use Rattle.std.specs.Prelude.{◌≡◌, ℕ, ◌<◌, ◌&&◌, [], Contains, MatchOption};
 ghost use Rattle.std.specs.List.{list_all};
 ghost use Rattle.ice_line.specs.Lines.{is_line_byte, BeginsWithLine, NextLine};
 
@@ -19,7 +19,8 @@ pub enum LineFault {
     Unended,
 }
 
-/// The first line, without its newline, and the bytes after it. None exactly where there is no newline.
+/// The first line, without its newline, and the bytes after it. None exactly where there is no
+/// newline.
 pub fn split_line(bytes: &[u8]) -> Option<(&[u8], &[u8])>
     ensures { MatchOption result (¬ Contains bytes.now 10) (λ parts. BeginsWithLine bytes.now parts.0.now parts.1.now) }
 {
@@ -59,8 +60,8 @@ impl<'a> LineReader<'a> {
         LineReader { rest: bytes }
     }
 
-    /// The next line without its newline, or what is wrong with it. None exactly at the end of the bytes.
-    /// After a fault it goes on with the line after it.
+    /// The next line without its newline, or what is wrong with it. None exactly at the end of the
+    /// bytes. After a fault it goes on with the line after it.
     pub fn next(&mut self) -> Option<Result<&'a [u8], LineFault>>
         ensures { NextLine self.old result self.new }
     {

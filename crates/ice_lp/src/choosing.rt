@@ -1,5 +1,5 @@
 //! The entering and the leaving variable of a turn.
-ghost use Rattle.std.specs.Prelude.{ℕ, ◌≡◌, ◌<◌, length, slice_index_or};
+ghost use Rattle.std.specs.Prelude.{◌≡◌, ◌<◌, length};
 ghost use Rattle.std.specs.Result.{result_ok};
 ghost use Rattle.ice_defs.specs.Dictionary.{lower_spot, lower_ratio, entering_from, leaving_from};
 ghost use Rattle.ice_lp.specs.Shapes.{AreWithin};
@@ -37,8 +37,8 @@ fn lower_ratio(ratio: Ratio, other: Option<Ratio>) -> Option<Ratio>
     }
 }
 
-/// The entering variable: of those on the right with a coefficient above 0 in the objective, the one with
-/// the lowest number.
+/// The entering variable: of those on the right with a coefficient above 0 in the objective, the
+/// one with the lowest number.
 pub(crate) fn entering_of(right: &[usize], objective: &[Frac]) -> Option<Spot>
     requires { length objective.now ≡ length right.now }
     ensures { result ≡ entering_from 0 right.now objective.now }
@@ -57,8 +57,8 @@ pub(crate) fn entering_of(right: &[usize], objective: &[Frac]) -> Option<Spot>
 }
 
 impl LeftRow {
-    /// The best of the left rows from `place` on, where this is the row at `place` and `best` is that of the
-    /// rows after it.
+    /// The best of the left rows from `place` on, where this is the row at `place` and `best` is
+    /// that of the rows after it.
     fn bounded(
         &self,
         place: usize,
@@ -81,8 +81,8 @@ impl LeftRow {
     }
 }
 
-/// The leaving variable: of those on the left that bound the one at `entering`, the one with the lowest ratio,
-/// and of several the one with the lowest number. None where nothing bounds it.
+/// The leaving variable: of those on the left that bound the one at `entering`, the one with the
+/// lowest ratio, and of several the one with the lowest number. None where nothing bounds it.
 pub(crate) fn leaving_of(left: &[LeftRow], entering: usize) -> Result<Option<Ratio>, Wide>
     requires { AreWithin entering left.now }
     ensures { result_ok result ≡ leaving_from entering 0 left.now }

@@ -1,5 +1,6 @@
-//! Dictionaries of a linear program, and the pivot from one to the next (V. Chvatal, Linear Programming, 1983).
-ghost use Rattle.std.specs.Prelude.{ℕ, slice_index_or, slice_set, ◌≡◌, ◌≢◌, ◌<◌, length, pos, Some, None, IfOk, IfErr};
+//! Dictionaries of a linear program, and the pivot from one to the next (V. Chvatal, Linear
+//! Programming, 1983).
+ghost use Rattle.std.specs.Prelude.{slice_index_or, slice_set, ◌≡◌, ◌≢◌, ◌<◌, length, pos, Some, None, IfOk, IfErr};
 ghost use Rattle.std.specs.Result.{result_ok};
 ghost use Rattle.ice_defs.specs.Fraction.{fraction_at};
 ghost use Rattle.ice_defs.specs.Dictionary.{all_of, pivot_entry, pivot_entries, pivot_row, other_entry, other_entries, other_row, other_constant, new_left, no_left, pivoted};
@@ -56,8 +57,8 @@ fn one() -> Frac
     }
 }
 
-/// What a pivot on the coefficient `pivot` of the variable at `entering` makes of the entry at `place` in the
-/// leaving row. A 0 stays, at no cost.
+/// What a pivot on the coefficient `pivot` of the variable at `entering` makes of the entry at
+/// `place` in the leaving row. A 0 stays, at no cost.
 fn pivot_entry(pivot: &Frac, entering: usize, place: usize, entry: &Frac) -> Result<Frac, Wide>
     requires { pivot.now.num ≢ pos 0 }
     ensures { result_ok result ≡ pivot_entry pivot.now entering place entry.now }
@@ -73,8 +74,9 @@ fn pivot_entry(pivot: &Frac, entering: usize, place: usize, entry: &Frac) -> Res
     Ok(quotient.negated())
 }
 
-/// What a pivot makes of the entry at `place` in another row or the objective, which has the coefficient
-/// `factor` of the variable at `entering`; `new` is the leaving row's new entry there. It stays where that is 0.
+/// What a pivot makes of the entry at `place` in another row or the objective, which has the
+/// coefficient `factor` of the variable at `entering`; `new` is the leaving row's new entry there.
+/// It stays where that is 0.
 fn other_entry(
     factor: &Frac,
     entering: usize,
@@ -163,8 +165,8 @@ impl LeftRow {
         Ok(())
     }
 
-    /// What a pivot makes of the row at `place`, where the entering variable's row is `new`: the leaving row
-    /// stays.
+    /// What a pivot makes of the row at `place`, where the entering variable's row is `new`: the
+    /// leaving row stays.
     fn follow_at(
         &mut self,
         place: usize,
@@ -207,8 +209,8 @@ fn other_rows(
     Ok(())
 }
 
-/// What a pivot makes of the left rows: the entering variable's own, which still has to be put in the place of
-/// the leaving one, and in `left` the others.
+/// What a pivot makes of the left rows: the entering variable's own, which still has to be put in
+/// the place of the leaving one, and in `left` the others.
 fn pivot_left(
     alloc: Global,
     left: &mut [LeftRow],
@@ -263,8 +265,8 @@ fn pivot_objective(
 }
 
 impl Dictionary {
-    /// The pivot on the left row at `leaving` and the entering variable. Where it is too wide, the dictionary is
-    /// of no more use.
+    /// The pivot on the left row at `leaving` and the entering variable. Where it is too wide, the
+    /// dictionary is of no more use.
     pub(crate) fn pivot(
         &mut self,
         alloc: Global,

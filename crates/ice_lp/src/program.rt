@@ -20,11 +20,12 @@ impl Model for Row {
     ghost view = { λ r. record { coeffs = r.coeffs.items; least = r.least } };
 }
 
-/// A linear program: of the points with no coordinate below 0 that meet each row, find one with the least costs.
+/// A linear program: of the points with no coordinate below 0 that meet each row, find one with the
+/// least costs.
 ///
-/// A point has one coordinate a column. A row is met where its coefficients times the point sum to at least a
-/// number. There are 1 to 64 columns and at most 400 rows; all numbers are whole and within 2^90 in size, and no
-/// cost is below 0.
+/// A point has one coordinate a column. A row is met where its coefficients times the point sum to
+/// at least a number. There are 1 to 64 columns and at most 400 rows; all numbers are whole and
+/// within 2^90 in size, and no cost is below 0.
 #[derive(Drop)]
 pub struct Program {
     alloc: Global,
@@ -51,7 +52,8 @@ fn copied(alloc: Global, numbers: &[i128]) -> Result<Vec<i128>, AllocError>
 }
 
 impl Program {
-    /// A program with these costs, one a column, and no row yet: 1 to 64 whole numbers from 0 to 2^90.
+    /// A program with these costs, one a column, and no row yet: 1 to 64 whole numbers from 0 to
+    /// 2^90.
     pub fn new(alloc: Global, costs: &[i128]) -> Result<Program, AllocError>
         requires some { 0 < length costs.now }
         requires few { length costs.now ≤ 64 }
@@ -66,8 +68,8 @@ impl Program {
         })
     }
 
-    /// Adds a row to fewer than 400, with one coefficient a column, all within 2^90 in size. Where there is no
-    /// memory the program stays as it was.
+    /// Adds a row to fewer than 400, with one coefficient a column, all within 2^90 in size. Where
+    /// there is no memory the program stays as it was.
     pub fn row(&mut self, coeffs: &[i128], least: i128) -> Result<(), AllocError>
         requires few { length self.old.rows < 400 }
         requires same_length { length coeffs.now ≡ length self.old.costs }

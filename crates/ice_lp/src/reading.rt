@@ -1,8 +1,8 @@
 //! What the end of a trace says.
-ghost use Rattle.std.specs.Prelude.{ℕ, ◌≡◌, ◌+◌, ◌<◌, ◌≤◌, ◌==◌, length, map, find, position, Some, None, MatchOption, IfOk};
+ghost use Rattle.std.specs.Prelude.{◌≡◌, ◌+◌, ◌<◌, ◌≤◌, ◌==◌, map, find, position, Some, None, MatchOption, IfOk};
 ghost use Rattle.ice_defs.specs.Sum.{numbers_below};
 ghost use Rattle.ice_defs.specs.Fraction.{fraction_at, negated};
-ghost use Rattle.ice_defs.specs.Trace.{constant_of, duals_of, objective_of, point_of, mix_entry, mix_of};
+ghost use Rattle.ice_defs.specs.Trace.{constant_of, objective_of, mix_entry};
 ghost use Rattle.ice_lp.specs.Answers.{IsRead};
 
 use crate::dictionary::{Dictionary, LeftRow};
@@ -15,11 +15,12 @@ use std::alloc::{AllocError, Global};
 /// The answer to a program, with the numbers that show it.
 #[derive(Drop)]
 pub enum LpAnswer {
-    /// A feasible point of least costs, one coordinate a column, and one multiplier a row that shows that it is
-    /// least: none is below 0, no column's sum exceeds its cost, and the leasts' sum is the point's cost.
+    /// A feasible point of least costs, one coordinate a column, and one multiplier a row that
+    /// shows that it is least: none is below 0, no column's sum exceeds its cost, and the leasts'
+    /// sum is the point's cost.
     Least { point: Vec<Frac>, duals: Vec<Frac> },
-    /// No point is feasible. One multiplier a row shows it: none is below 0, no column's sum is above 0, and the
-    /// leasts' sum is.
+    /// No point is feasible. One multiplier a row shows it: none is below 0, no column's sum is
+    /// above 0, and the leasts' sum is.
     Infeasible { mix: Vec<Frac> },
 }
 
@@ -158,7 +159,8 @@ fn mix(
     Ok(made)
 }
 
-/// The answer that the last dictionary gives, with the entering variable that nothing bounds, or with none.
+/// The answer that the last dictionary gives, with the entering variable that nothing bounds, or
+/// with none.
 pub(crate) fn read(
     alloc: Global,
     program: &Program,

@@ -23,8 +23,8 @@ impl Model for Spot {
     ghost inverse = { λ v. record { place = v.place; variable = v.variable } };
 }
 
-/// A variable on the left that bounds the entering one, and how far that may rise: the ratio of its constant to
-/// minus its coefficient.
+/// A variable on the left that bounds the entering one, and how far that may rise: the ratio of its
+/// constant to minus its coefficient.
 #[derive(Clone, Copy)]
 pub(crate) struct Ratio {
     pub(crate) spot: Spot,
@@ -72,7 +72,8 @@ impl Ratio {
         self.spot.place()
     }
 
-    /// Whether this ratio is the lower one, or of two equal ones that of the variable with the lower number.
+    /// Whether this ratio is the lower one, or of two equal ones that of the variable with the
+    /// lower number.
     pub(crate) fn is_before(&self, other: &Ratio) -> bool
         ensures { result ≡ is_before self.now other.now }
     {

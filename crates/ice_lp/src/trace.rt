@@ -1,5 +1,5 @@
 //! The trace of a program.
-ghost use Rattle.std.specs.Prelude.{ℕ, ◌≡◌, ◌<◌, ◌≤◌, ◌+◌, ◌-◌, length, IfOk, IfErr};
+ghost use Rattle.std.specs.Prelude.{◌≡◌, ◌<◌, ◌≤◌, ◌+◌, ◌-◌, IfOk, IfErr};
 ghost use Rattle.ice_defs.specs.Dictionary.{choice};
 ghost use Rattle.ice_defs.specs.Trace.{end_from, trace_end};
 ghost use Rattle.ice_program_laws.specs.Solutions.{IsDictionary};
@@ -40,8 +40,8 @@ fn next_turn(dictionary: &Dictionary) -> Result<Turn, Wide>
     Ok(Turn::Pivot(leaving.place(), entering))
 }
 
-/// Follows the trace from a dictionary to its end, and adds the pivots that it makes to the count: the entering
-/// variable that no left variable bounds, or none.
+/// Follows the trace from a dictionary to its end, and adds the pivots that it makes to the count:
+/// the entering variable that no left variable bounds, or none.
 fn run(alloc: Global, dictionary: &mut Dictionary, pivots: &mut u32) -> Result<Option<Spot>, LpEnd>
     requires proper { IsDictionary dictionary.old }
     requires few { pivots.old ≤ 4000000000 }
@@ -70,16 +70,17 @@ fn run(alloc: Global, dictionary: &mut Dictionary, pivots: &mut u32) -> Result<O
     }
 }
 
-/// Solves a program exactly, by the dual simplex method: a least point and the duals that show it, or a mix that
-/// shows that no point is feasible.
+/// Solves a program exactly, by the dual simplex method: a least point and the duals that show it,
+/// or a mix that shows that no point is feasible.
 ///
-/// The pivots are those of one stated trace. The first dictionary has the slacks of the columns on the left, the
-/// entering variable is that of the least number (R. G. Bland, 1977), and so is the leaving one of several with
-/// the least ratio. So an answer, and each end without one, is the program's own. The pivots are added to a count
-/// that the caller keeps, which is at most 4,000,000,000 at entry; they are at most 2,000.
+/// The pivots are those of one stated trace. The first dictionary has the slacks of the columns on
+/// the left, the entering variable is that of the least number (R. G. Bland, 1977), and so is the
+/// leaving one of several with the least ratio. So an answer, and each end without one, is the
+/// program's own. The pivots are added to a count that the caller keeps, which is at most
+/// 4,000,000,000 at entry; they are at most 2,000.
 ///
-/// `Wide` comes where the trace has an operation that is too wide, `Pivots` where it takes more than 2,000 pivots,
-/// and `NoMemory` at any time.
+/// `Wide` comes where the trace has an operation that is too wide, `Pivots` where it takes more
+/// than 2,000 pivots, and `NoMemory` at any time.
 pub fn solve(alloc: Global, program: &Program, pivots: &mut u32) -> Result<LpAnswer, LpEnd>
     requires { pivots.old ≤ 4000000000 }
     ensures answer { IfOk result (IsAnswer program.now (pivots.new - pivots.old)) }

@@ -7,7 +7,7 @@ use Rattle.std.proofs.lemmas.List.{length-map}
 use Rattle.ice_defs.specs.Steps.{Step, leaf, branch, dead, sides_after}
 use Rattle.ice_defs.specs.Bound.{Multipliers}
 use Rattle.ice_defs.specs.declared.Group.TheVariants.{Assign, Final, Rival, Provisional, Without}
-use Rattle.ice_journal.specs.Records.{Record, Change, Version, version_1, version_2, Kind, assign_kind, regret_kind, session_kind, exchange_kind, prices_kind, spent_end}
+use Rattle.ice_journal.specs.Records.{Record, Change, Version, version_1, Kind, assign_kind, regret_kind, session_kind, exchange_kind, prices_kind, spent_end}
 use Rattle.ice_journal.specs.Records as line
 use Rattle.ice_journal.specs.Plain.{goods_in, all_zero}
 use Rattle.ice_section.specs.Section.{Section, SectionFault, order, count, no_good, maker, Draft, take_record, may_end}

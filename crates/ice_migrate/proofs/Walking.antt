@@ -4,7 +4,7 @@ use Rattle.std.specs.Prelude.{Option, Some, None, IsSome, is_none, ◌&&◌}
 use Rattle.std.proofs.lemmas.Bool.{false≢true}
 use Rattle.std.proofs.lemmas.Option.{none-some}
 use Rattle.ice_defs.specs.Steps.{leaf, branch, dead}
-use Rattle.ice_journal.specs.Records.{Record, version_1, Kind, open_end}
+use Rattle.ice_journal.specs.Records.{Record, version_1, Kind}
 use Rattle.ice_journal.specs.Records as line
 use Rattle.ice_journal.specs.Plain.{goods_in, AreOfVersion1}
 use Rattle.ice_journal_laws.specs.declared.rule.Rule.{Rule}

@@ -19,7 +19,8 @@ pub(crate) struct FailedTest {
     pub(crate) rule: Rule,
 }
 
-/// The first record that may not stand in its place, where this line is next and stands here, or the want of one at the end.
+/// The first record that may not stand in its place, where this line is next and stands here, or
+/// the want of one at the end.
 fn first_out_of_order(
     place: Place,
     counts: Counts,
@@ -54,8 +55,8 @@ fn first_out_of_order(
     }
 }
 
-/// Of a version 1 journal that stops at this line: the first record behind it that may not stand in its place, or the want of
-/// one at the end.
+/// Of a version 1 journal that stops at this line: the first record behind it that may not stand in
+/// its place, or the want of one at the end.
 pub(crate) fn order_fault(bytes: &[u8], stop: u64) -> Option<FailedTest>
     ensures { (journal : List Record) → IsJournal bytes.now journal → IsTrue (is_old journal)
         → StopsAt stop journal → order_failure journal ≡ option_map failure_of result }

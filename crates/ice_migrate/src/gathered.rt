@@ -31,8 +31,8 @@ impl Gathered {
         }
     }
 
-    /// Gathers a text behind what is gathered, which is put first where there is no room for both. A text that is too
-    /// long to be gathered is put at once.
+    /// Gathers a text behind what is gathered, which is put first where there is no room for both.
+    /// A text that is too long to be gathered is put at once.
     pub(crate) fn put<K: Sink>(&mut self, text: &[u8], out: &mut K) -> Result<(), SinkFault>
         ensures { IsGathered self.new (self.old ++ text.now) result
             (K.written out.old) (K.written out.new) (K.faults out.old) (K.faults out.new) }

@@ -20,10 +20,12 @@ pub enum Unfit {
     Grammar { line: u64 },
     /// The last line has no newline, and none before it is at fault.
     Unended { line: u64 },
-    /// Every line is a record, and the first is no head of a regret or a session journal in version 1, or there is no line.
+    /// Every line is a record, and the first is no head of a regret or a session journal in version
+    /// 1, or there is no line.
     OtherKind,
-    /// The first failed test of the journal, but for that of a stop: its line and its rule. At a stop
-    /// it is the first record behind it that may not stand in its place, or the want of one at the end.
+    /// The first failed test of the journal, but for that of a stop: its line and its rule. At a
+    /// stop it is the first record behind it that may not stand in its place, or the want of one at
+    /// the end.
     FailsTest { line: u64, rule: Rule },
     /// Memory ran out.
     NoMemory,
@@ -64,7 +66,8 @@ fn is_old(bytes: &[u8]) -> bool
     }
 }
 
-/// The failed test of a version 1 journal whose first failed test this is: a stop is none, but a record behind it may fail one.
+/// The failed test of a version 1 journal whose first failed test this is: a stop is none, but a
+/// record behind it may fail one.
 fn failed_behind(bytes: &[u8], line: u64, rule: Rule) -> Option<FailedTest>
     ensures { (journal : List Record) → IsJournal bytes.now journal → IsTrue (is_old journal)
         → HasNo journal (record { line = line; rule = rule }) → Tells journal result }
@@ -88,9 +91,10 @@ fn failed_test(bytes: &[u8], answer: Answer) -> Option<FailedTest>
 
 /// Judges the bytes of a journal that is to be brought to version 2.
 ///
-/// `Grammar` or `Unended` is answered exactly where a line is no record or the last one has no newline, and names the least such
-/// line. Else `OtherKind` is answered exactly where the first record is no head of a regret or a session journal in version 1.
-/// Else `FailsTest` names the first failed test; at a stop, the first record behind it that may not stand in its place, or the
+/// `Grammar` or `Unended` is answered exactly where a line is no record or the last one has no
+/// newline, and names the least such line. Else `OtherKind` is answered exactly where the first
+/// record is no head of a regret or a session journal in version 1. Else `FailsTest` names the
+/// first failed test; at a stop, the first record behind it that may not stand in its place, or the
 /// want of one at the end. `NoMemory` is answered where memory runs out.
 pub fn judge(alloc: Global, bytes: &[u8]) -> Result<(), Unfit>
     ensures { Judges bytes.now result }

@@ -1,4 +1,5 @@
-//! Journals of version 1 brought to version 2: they are judged first, and then written line for line.
+//! Journals of version 1 brought to version 2: they are judged first, and then written line for
+//! line.
 #![tactic(auto)]
 
 mod behind;

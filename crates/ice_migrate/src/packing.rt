@@ -24,8 +24,8 @@ use ice_journal::{Change, Line, Version, read_record, write_record};
 use ice_line::LineWriter;
 use ice_write::put_record;
 
-/// The multipliers of the leaf before in the same log; all 0, one for each of so many goods, where there
-/// is none.
+/// The multipliers of the leaf before in the same log; all 0, one for each of so many goods, where
+/// there is none.
 #[derive(Drop)]
 struct Packing {
     goods: u64,
@@ -101,7 +101,8 @@ impl Packing {
         put_changes(changes, writer, gathered, out)
     }
 
-    /// Gathers the next record behind the head, which has this line, in version 2: but for a leaf the line is the same.
+    /// Gathers the next record behind the head, which has this line, in version 2: but for a leaf
+    /// the line is the same.
     fn put_line<K: Sink>(
         &mut self,
         line: &[u8],
@@ -183,8 +184,9 @@ fn put_behind_head<K: Sink>(
     gathered.flush(out)
 }
 
-/// Puts a version 1 journal that was judged, in version 2, line for line: each leaf as what it changes of the leaf before it in
-/// its log. From what is put the journal comes back. It takes no memory.
+/// Puts a version 1 journal that was judged, in version 2, line for line: each leaf as what it
+/// changes of the leaf before it in its log. From what is put the journal comes back. It takes no
+/// memory.
 pub fn put_packed<K: Sink>(bytes: &[u8], out: &mut K) -> Result<(), SinkFault>
     requires { OfJournal bytes.now IsMigrated }
     ensures { OfJournal bytes.now (λ journal. PutsPacked journal result

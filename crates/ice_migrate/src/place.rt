@@ -66,7 +66,8 @@ impl Place {
         }
     }
 
-    /// Behind one record more, in a journal of version 1 with so many goods and bidders; None where the record may not stand here.
+    /// Behind one record more, in a journal of version 1 with so many goods and bidders; None where
+    /// the record may not stand here.
     pub(crate) fn after(self, line: &Line, counts: Counts) -> Option<Place>
         requires few { counted self < 2 ^ 64 - 1 }
         ensures place { (s : State) → HasCounts s counts → s.place ≡ place_of self

@@ -7,7 +7,8 @@ use ice_edge::{MemSink, SinkFault};
 use std::alloc::{AllocError, Global};
 use std::test::Fail;
 
-/// A session of a seller of a unit at 10 and a buyer of it at 20 to 30, which closes at its first settlement.
+/// A session of a seller of a unit at 10 and a buyer of it at 20 to 30, which closes at its first
+/// settlement.
 const CLOSED: [&str; 29] = [
     "ice 1 session",
     "settings 50 0 100 1 5 200",
@@ -96,7 +97,8 @@ const SPENT: [&str; 19] = [
 /// Another text in the place of a line, from 1.
 type Change = (usize, &'static str);
 
-/// A journal with some of its lines changed, and the lines that differ in version 2, or why there is none.
+/// A journal with some of its lines changed, and the lines that differ in version 2, or why there
+/// is none.
 struct Case {
     lines: &'static [&'static str],
     changes: &'static [Change],

@@ -1,4 +1,5 @@
-//! Sweeps over bounds that are kept. Where the guess of a multiplier is right, few trees are looked at.
+//! Sweeps over bounds that are kept. Where the guess of a multiplier is right, few trees are looked
+//! at.
 ghost use Rattle.std.specs.Prelude.{◌≡◌, ◌<◌, ◌≤◌, ◌^◌, ℤ, pos, ◌+ℤ◌, length, false, IsTrue, IfSome};
 ghost use Rattle.ice_defs.specs.Bound.{IsNetSum};
 ghost use Rattle.ice_defs.specs.Sweep.{IsLive, SweepsBelow, Sweeps};
@@ -60,7 +61,8 @@ fn rests(kept: &mut Kept, good: u8, direction: Direction, steps: u64) -> bool
     kept.reaches_beside(good, direction.is_up(), here)
 }
 
-/// Moves the good to so many steps from 0, and tells whether the sum is known to stop falling there.
+/// Moves the good to so many steps from 0, and tells whether the sum is known to stop falling
+/// there.
 fn has_foot(kept: &mut Kept, good: u8, direction: Direction, steps: u64) -> bool
     requires may { MayMove kept.old good }
     requires allowed { IsAllowed (is_exact kept.old.exact good) direction }
@@ -72,8 +74,8 @@ fn has_foot(kept: &mut Kept, good: u8, direction: Direction, steps: u64) -> bool
     rests(kept, good, direction, steps) && falls(kept, good, direction, steps)
 }
 
-/// Whether the good may have numbers in this direction, and so many steps are its lowest multiplier where the sum stops
-/// falling there.
+/// Whether the good may have numbers in this direction, and so many steps are its lowest multiplier
+/// where the sum stops falling there.
 fn tells(exact: bool, direction: Direction, steps: u64) -> bool
     ensures allowed { IsTrue result → IsAllowed exact direction }
     ensures steps { IsTrue result → steps < 2 ^ 56 }
@@ -144,8 +146,8 @@ fn sweep_kept(
     }
 }
 
-/// Moves the multipliers of kept bounds to what one sweep makes of them: see `improve`. The bounds are kept of these trees
-/// at these weights. The guess of the outcome changes the time alone.
+/// Moves the multipliers of kept bounds to what one sweep makes of them: see `improve`. The bounds
+/// are kept of these trees at these weights. The guess of the outcome changes the time alone.
 ///
 /// Time: each good's multiplier that changes moves the tables of all trees with a leaf of the good.
 /// Beside that, two looks at those trees where the guess of a good is right, or fewer; where it is

@@ -12,7 +12,8 @@ use ice_terms::Prices;
 /// The greatest denominator of prices and certificates, and the greatest weight.
 pub(crate) const LARGEST: u64 = 4_294_967_296;
 
-/// The least common multiple of the fraction's denominator and a number up to 2^32. None exactly where it is larger.
+/// The least common multiple of the fraction's denominator and a number up to 2^32. None exactly
+/// where it is larger.
 fn common_multiple(fraction: &Frac, den: u64) -> Option<u64>
     requires positive { 0 < den }
     requires fits { den ≤ 2 ^ 32 }

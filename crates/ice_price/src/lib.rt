@@ -1,4 +1,5 @@
-//! Accurate, then balanced prices of a provisional trade, with the certificates that show them to be so.
+//! Accurate, then balanced prices of a provisional trade, with the certificates that show them to
+//! be so.
 #![tactic(auto)]
 
 mod ends;

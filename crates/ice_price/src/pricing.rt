@@ -39,8 +39,9 @@ fn is_proper(pricing: &Pricing, trade: &Provisional<'_>) -> bool
         && pricing.passes(trade, &mut Scratch::new())
 }
 
-/// The prices that cutting planes find, where they pass all tests. Where their memory runs short nothing else is tried: the
-/// stated run may give other prices, and the same files would not give the same journal.
+/// The prices that cutting planes find, where they pass all tests. Where their memory runs short
+/// nothing else is tried: the stated run may give other prices, and the same files would not give
+/// the same journal.
 fn cut(alloc: Global, trade: &Provisional<'_>) -> Result<Option<Pricing>, AllocError>
     ensures { IfOk result (λ found. IfSome found (IsPriced trade.now)) }
 {
@@ -51,9 +52,9 @@ fn cut(alloc: Global, trade: &Provisional<'_>) -> Result<Option<Pricing>, AllocE
     }
 }
 
-/// The prices of a provisional trade as `price` gives them, but by the stated run of pricing alone: they are those that it
-/// ends with. What it takes is added to `work`: neither count falls, and prices come with at least one turn a stage. How
-/// many pivots are counted is in no clause.
+/// The prices of a provisional trade as `price` gives them, but by the stated run of pricing alone:
+/// they are those that it ends with. What it takes is added to `work`: neither count falls, and
+/// prices come with at least one turn a stage. How many pivots are counted is in no clause.
 pub fn run_prices(
     alloc: Global,
     trade: &Provisional<'_>,
@@ -85,16 +86,19 @@ pub fn run_prices(
     })
 }
 
-/// Prices for the provisional sets of an exchange's bidders at their bounds, one satisfied set and one bounds a bidder.
+/// Prices for the provisional sets of an exchange's bidders at their bounds, one satisfied set and
+/// one bounds a bidder.
 ///
-/// The prices are one a good, from 0 to the cap, over their least common denominator. No prices within the cap have a
-/// smaller violation, which is the most, in hundredths of weighted value, that a bidder gains by another satisfied set
-/// than its own. Of those with that violation, none have a smaller greatest price. Two certificates of at most 200 rows
-/// each show it, as `check_pricing` tests.
+/// The prices are one a good, from 0 to the cap, over their least common denominator. No prices
+/// within the cap have a smaller violation, which is the most, in hundredths of weighted value,
+/// that a bidder gains by another satisfied set than its own. Of those with that violation, none
+/// have a smaller greatest price. Two certificates of at most 200 rows each show it, as
+/// `check_pricing` tests.
 ///
-/// They are sought by cutting planes first. What these find is given only where it passes all tests; else the stated run
-/// of pricing takes their place. `Limit` comes only where that ends at a limit: a program is too wide or takes too many
-/// pivots, 200 sets don't suffice, or a denominator or a weight is above 2^32. `NoMemory` comes at any time.
+/// They are sought by cutting planes first. What these find is given only where it passes all
+/// tests; else the stated run of pricing takes their place. `Limit` comes only where that ends at a
+/// limit: a program is too wide or takes too many pivots, 200 sets don't suffice, or a denominator
+/// or a weight is above 2^32. `NoMemory` comes at any time.
 pub fn price(
     alloc: Global,
     exchange: &Exchange,

@@ -14,7 +14,8 @@ use ice_terms::Prices;
 use std::alloc::{AllocError, Global};
 use std::marker::Model;
 
-/// The stage, with the violation of the accuracy stage over its denominator where that stage is past.
+/// The stage, with the violation of the accuracy stage over its denominator where that stage is
+/// past.
 #[derive(Drop)]
 pub(crate) struct StageAt {
     stage: Stage,
@@ -38,7 +39,8 @@ impl Model for StageAt {
     }) };
 }
 
-/// What a stage ends with: prices, their violation times their denominator, and the stage's certificate.
+/// What a stage ends with: prices, their violation times their denominator, and the stage's
+/// certificate.
 #[derive(Drop)]
 pub(crate) struct StageEnd {
     pub(crate) prices: Prices,
@@ -107,7 +109,8 @@ impl StageAt {
         }
     }
 
-    /// The balance stage, after an accuracy stage that ended with this violation over this denominator.
+    /// The balance stage, after an accuracy stage that ended with this violation over this
+    /// denominator.
     pub(crate) fn balance(delta: i128, den: u64) -> StageAt
         requires { IsSizedStage (balance_at delta den) }
         ensures { result ≡ balance_at delta den }
@@ -150,7 +153,8 @@ impl StageAt {
         }
     }
 
-    /// What a good's row has beside the price of the good: a coefficient for each price, and one more.
+    /// What a good's row has beside the price of the good: a coefficient for each price, and one
+    /// more.
     pub(crate) fn no_price(&self, alloc: Global, goods: u8) -> Result<Vec<i128>, AllocError>
         ensures value { IfOk result (λ made. made.items ≡ no_price self.now.stage goods) }
         ensures len { IfOk result (λ made. vec_len made ≡ goods + 1) }
@@ -210,7 +214,8 @@ impl StageAt {
         }
     }
 
-    /// The excess that the stage allows: the last number of the solution, or the violation of the accuracy stage.
+    /// The excess that the stage allows: the last number of the solution, or the violation of the
+    /// accuracy stage.
     pub(crate) fn allowed(&self, last: &Frac) -> Frac
         ensures proper { IsFraction result }
         ensures own { IsFraction (allowed_excess self.now.stage

@@ -31,7 +31,8 @@ pub(crate) enum Turn {
     Ends(StageEnd),
 }
 
-/// The prices of a point, over their least common denominator. None exactly where that is above 2^32.
+/// The prices of a point, over their least common denominator. None exactly where that is above
+/// 2^32.
 fn prices_of(trade: &Provisional<'_>, point: &[Frac]) -> Option<Prices>
     requires long { trade.now.goods < length point.now }
     requires low { AreNonNegative point.now }
@@ -58,8 +59,8 @@ fn member_duals(duals: &[Frac], goods: usize) -> &[Frac]
     duals.split_at(goods).1
 }
 
-/// The end of a stage at these prices of this violation, with the certificate that the duals of the pool's members make,
-/// times a factor.
+/// The end of a stage at these prices of this violation, with the certificate that the duals of the
+/// pool's members make, times a factor.
 fn end_stage(
     alloc: Global,
     factor: u64,

@@ -24,7 +24,8 @@ fn factor_of(factor: u64) -> Frac
     }
 }
 
-/// A dual times a factor, in lowest terms. None exactly where its numerator or its denominator is above 2^32.
+/// A dual times a factor, in lowest terms. None exactly where its numerator or its denominator is
+/// above 2^32.
 fn weight(factor: u64, dual: &Frac) -> Option<Frac>
     requires few { factor ≤ 100 * 2 ^ 32 }
     requires proper { IsFraction dual.now }
@@ -61,8 +62,8 @@ fn weights(alloc: Global, factor: u64, duals: &[Frac]) -> Result<Vec<Frac>, Stop
     Ok(made)
 }
 
-/// The rows of the members with these weights over a denominator, those of weight 0 left out. It stops where one of the
-/// weights is too large.
+/// The rows of the members with these weights over a denominator, those of weight 0 left out. It
+/// stops where one of the weights is too large.
 fn rows(
     alloc: Global,
     pool: &[PoolMember],
@@ -100,8 +101,8 @@ fn rows(
     Ok(made)
 }
 
-/// The certificate that the duals of a pool's members make, times a factor. It stops where the denominator or a weight
-/// is above 2^32.
+/// The certificate that the duals of a pool's members make, times a factor. It stops where the
+/// denominator or a weight is above 2^32.
 pub(crate) fn certified(
     alloc: Global,
     factor: u64,

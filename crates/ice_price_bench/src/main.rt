@@ -1,7 +1,8 @@
-//! Settles an exchange once in part, and prints what it found and the work that it took, for measuring. The words are a
-//! part, `cuts` for prices of the provisional sets by cutting planes, `run` for those of the stated run, `sets` for the
-//! provisional sets alone, or `searches` for the best assignment and its regret; the path of an exchange file in JSON; and
-//! how many times to do it, once where no number is told.
+//! Settles an exchange once in part, and prints what it found and the work that it took, for
+//! measuring. The words are a part, `cuts` for prices of the provisional sets by cutting planes,
+//! `run` for those of the stated run, `sets` for the provisional sets alone, or `searches` for the
+//! best assignment and its regret; the path of an exchange file in JSON; and how many times to do
+//! it, once where no number is told.
 #![tactic(auto)]
 
 mod measured;
@@ -19,12 +20,12 @@ use std::{env, fs, io};
 const USAGE: &str =
     "words: cuts, run, sets or searches, the path of an exchange file, and how many times";
 
-// The words behind the program's name.
+/// The words behind the program's name.
 fn words<R: Env + AllocGlobal>(rt: &R) -> io::Result<Vec<String>> {
     Ok(env::args(rt)?.skip(1).collect(rt.alloc())?)
 }
 
-// The line of the last of so many times.
+/// The line of the last of so many times.
 fn line_of(
     alloc: Global,
     exchange: &Exchange,

@@ -9,7 +9,8 @@ use ice_search::SearchEnd;
 use ice_trade::Exchange;
 use std::alloc::{AllocError, Global};
 
-// The violation, the greatest price, both over the prices' denominator, and the rows of both certificates.
+/// The violation, the greatest price, both over the prices' denominator, and the rows of both
+/// certificates.
 fn figures(alloc: Global, pricing: &Pricing) -> Result<String, AllocError> {
     let prices = &pricing.prices;
     let top = prices.nums().iter().copied().max().unwrap_or(0);
@@ -20,7 +21,7 @@ fn figures(alloc: Global, pricing: &Pricing) -> Result<String, AllocError> {
     format!(in alloc; "{delta}/{den} {top}/{den} rows {accuracy} {balance}")
 }
 
-// By cutting planes.
+/// By cutting planes.
 fn by_cuts(alloc: Global, trade: &Provisional<'_>) -> Result<String, AllocError> {
     let mut work = Work::none();
     let found = cut_prices(alloc, trade, &mut work);
@@ -37,7 +38,7 @@ fn by_cuts(alloc: Global, trade: &Provisional<'_>) -> Result<String, AllocError>
     format!(in alloc; "turns {turns} pivots {pivots} pool {columns} rounded {is_rounded} {text}")
 }
 
-// By the stated run.
+/// By the stated run.
 fn by_run(alloc: Global, trade: &Provisional<'_>) -> Result<String, AllocError> {
     let mut work = RunWork::none();
     let found = run_prices(alloc, trade, &mut work);

@@ -8,7 +8,7 @@ use std::alloc::{AllocError, Global};
 /// So many branches may be spent on both.
 const BRANCHES: u32 = 50_000;
 
-// What is said where a search did not end.
+/// What is said where a search did not end.
 fn unended(alloc: Global, end: SearchEnd) -> Result<String, AllocError> {
     match end {
         SearchEnd::Spent(_) => String::from_str(alloc, "spent"),

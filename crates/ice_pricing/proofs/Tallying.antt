@@ -1,7 +1,6 @@
 -- Tallies of rows, and the tests that they decide.
-use Rattle.std.proofs.Common.{ℕ, suc, ◌≡◌, ◌<◌, ◌≤◌, ◌+◌, ◌++◌, [], ◌∷◌, List, length, ℤ, refl, sym, ◌∙◌, ap, arith}
+use Rattle.std.proofs.Common.{ℕ, suc, ◌≡◌, ◌≤◌, ◌+◌, ◌++◌, [], ◌∷◌, List, length, ℤ, refl, arith}
 use Rattle.std.proofs.lemmas.List.{length-append}
-use Rattle.std.specs.List.{AllByRecursion}
 use Rattle.ice_defs.specs.Prices.{Prices}
 use Rattle.ice_defs.specs.Rows.{Row, IsRow, PassesAccuracy, PassesBalance}
 use Rattle.ice_defs.proofs.Lists.{all_push}

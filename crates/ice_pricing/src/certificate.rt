@@ -46,7 +46,8 @@ impl Model for Certificate {
 const LARGEST: u64 = 4_294_967_296;
 
 impl Certificate {
-    /// Whether the denominator is from 1 to 2^32, and there are at most 200 rows, each with a weight of at most 2^32.
+    /// Whether the denominator is from 1 to 2^32, and there are at most 200 rows, each with a
+    /// weight of at most 2^32.
     pub fn is_limited(&self) -> bool
         ensures yes { IsTrue result → IsLimited self.now }
         ensures no { IsLimited self.now → IsTrue result }

@@ -14,8 +14,8 @@ use ice_trade::Exchange;
 use ice_tree::{AllWeights, Assignment};
 
 impl Pricing {
-    /// Whether the prices pass all tests for a provisional trade, as `check_pricing` tells of an exchange. Then they are
-    /// accurate and balanced. Takes no memory.
+    /// Whether the prices pass all tests for a provisional trade, as `check_pricing` tells of an
+    /// exchange. Then they are accurate and balanced. Takes no memory.
     pub fn passes(&self, trade: &Provisional<'_>, scratch: &mut Scratch) -> bool
         requires goods { length self.now.prices.nums ≡ trade.now.goods }
         requires accuracy { IsLimited self.now.accuracy }
@@ -38,12 +38,13 @@ impl Pricing {
     }
 }
 
-/// Whether prices pass all tests for the sets of an exchange's bidders: they are within the cap and in lowest common
-/// terms, `delta` is their violation, and the certificates show that they are accurate and balanced. Then they are.
+/// Whether prices pass all tests for the sets of an exchange's bidders: they are within the cap and
+/// in lowest common terms, `delta` is their violation, and the certificates show that they are
+/// accurate and balanced. Then they are.
 ///
-/// There is one satisfied set a bidder, one weight a node, which is its weighted value in hundredths and at most
-/// 1,000,000,000,000 in size, and one price a good. A certificate has at most 200 rows of weights up to 2^32 over a
-/// denominator from 1 to 2^32. It takes no memory.
+/// There is one satisfied set a bidder, one weight a node, which is its weighted value in
+/// hundredths and at most 1,000,000,000,000 in size, and one price a good. A certificate has at
+/// most 200 rows of weights up to 2^32 over a denominator from 1 to 2^32. It takes no memory.
 pub fn check_pricing(
     exchange: &Exchange,
     weights: &AllWeights,

@@ -5,8 +5,8 @@ ghost use Rattle.ice_pricing.specs.Lawful.{AreUnlawful};
 use crate::limits::{are_lowest, are_within};
 use ice_terms::Prices;
 
-/// Whether no price is above the cap, which is from 0 to 1,000,000,000, and the denominator and all numerators have no
-/// common divisor above 1.
+/// Whether no price is above the cap, which is from 0 to 1,000,000,000, and the denominator and all
+/// numerators have no common divisor above 1.
 pub fn are_lawful(prices: &Prices, cap: i64) -> bool
     requires low { pos 0 ≤ℤ cap }
     requires high { cap ≤ℤ pos 1000000000 }

@@ -1,4 +1,5 @@
-//! Prices of a provisional trade: by how much they are off, and whether certificates show them accurate and balanced.
+//! Prices of a provisional trade: by how much they are off, and whether certificates show them
+//! accurate and balanced.
 #![tactic(auto)]
 
 mod certificate;

@@ -15,8 +15,8 @@ use ice_trade::Exchange;
 use ice_tree::{AllWeights, Assignment, NodeSet, Tree, Weights};
 use std::marker::Model;
 
-/// A provisional trade, for which prices are sought: each bidder has a tree, weighted values of its nodes, and a
-/// satisfied set of its own.
+/// A provisional trade, for which prices are sought: each bidder has a tree, weighted values of its
+/// nodes, and a satisfied set of its own.
 #[derive(Drop)]
 pub struct Provisional<'a> {
     trees: &'a [Tree],
@@ -49,8 +49,8 @@ impl<'a> Model for Provisional<'a> {
 }
 
 impl<'a> Provisional<'a> {
-    /// The trade in which each bidder of the exchange has its set. The weights are the nodes' weighted values, in
-    /// hundredths, each at most 1,000,000,000,000 in size.
+    /// The trade in which each bidder of the exchange has its set. The weights are the nodes'
+    /// weighted values, in hundredths, each at most 1,000,000,000,000 in size.
     pub fn of(
         exchange: &'a Exchange,
         weights: &'a AllWeights,
@@ -140,8 +140,8 @@ impl<'a> Provisional<'a> {
         )
     }
 
-    /// By how much a best set of the bidder at the prices beats its own, in hundredths and times the prices' denominator,
-    /// and such a set. Takes no memory.
+    /// By how much a best set of the bidder at the prices beats its own, in hundredths and times
+    /// the prices' denominator, and such a set. Takes no memory.
     pub fn best(&self, bidder: u8, prices: &Prices, scratch: &mut Scratch) -> Excess
         requires { bidder < length self.now.trees }
         ensures greatest { let t = self.now in
@@ -159,8 +159,9 @@ impl<'a> Provisional<'a> {
         )
     }
 
-    /// The violation of the prices: the most by which a satisfied set of any bidder beats the bidder's own, in hundredths
-    /// and times the prices' denominator. It is never below 0. Takes no memory.
+    /// The violation of the prices: the most by which a satisfied set of any bidder beats the
+    /// bidder's own, in hundredths and times the prices' denominator. It is never below 0. Takes no
+    /// memory.
     pub fn violation(&self, prices: &Prices, scratch: &mut Scratch) -> i128
         ensures violation { HasViolation self.now prices.now result }
         ensures low { pos 0 ≤ℤ result }

@@ -11,7 +11,8 @@ use ice_certificate::RowSums;
 use ice_terms::Prices;
 
 impl CertificateRow {
-    /// Whether the row names a bidder of the trade, has a weight from 1 on, and a satisfied set of that bidder.
+    /// Whether the row names a bidder of the trade, has a weight from 1 on, and a satisfied set of
+    /// that bidder.
     fn is_of(&self, trade: &Provisional<'_>) -> bool
         ensures yes { let t = trade.now in IsTrue result → IsRow t.trees t.weights t.sets self.now }
         ensures no { let t = trade.now in IsRow t.trees t.weights t.sets self.now → IsTrue result }
@@ -65,8 +66,8 @@ impl Certificate {
         Some(sums)
     }
 
-    /// Whether the rows show that no prices within the cap have a violation below `violation` over the denominator of
-    /// these prices. Takes no memory.
+    /// Whether the rows show that no prices within the cap have a violation below `violation` over
+    /// the denominator of these prices. Takes no memory.
     pub fn passes_accuracy(&self, trade: &Provisional<'_>, prices: &Prices, violation: i128) -> bool
         requires limited { IsLimited self.now }
         requires sized { unsigned_abs violation < 2 ^ 127 }
@@ -84,7 +85,8 @@ impl Certificate {
         }
     }
 
-    /// Whether the rows show that no prices of this violation have a greatest price below that of these. Takes no memory.
+    /// Whether the rows show that no prices of this violation have a greatest price below that of
+    /// these. Takes no memory.
     pub(crate) fn passes_balance(
         &self,
         trade: &Provisional<'_>,

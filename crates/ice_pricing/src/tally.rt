@@ -10,8 +10,8 @@ use ice_certificate::RowSums;
 use ice_terms::Prices;
 use std::marker::Model;
 
-/// The rows of a certificate that came so far: how many, at most 200, and their sums. No row is kept, and no memory is
-/// taken.
+/// The rows of a certificate that came so far: how many, at most 200, and their sums. No row is
+/// kept, and no memory is taken.
 #[derive(Drop)]
 pub struct Tally {
     count: u8,
@@ -59,8 +59,9 @@ impl Tally {
         self.count += 1;
     }
 
-    /// Whether the rows pass the accuracy test of a certificate with the denominator `den`, from 1 on: then no prices
-    /// within the cap have a violation below `violation` over the denominator of these prices.
+    /// Whether the rows pass the accuracy test of a certificate with the denominator `den`, from 1
+    /// on: then no prices within the cap have a violation below `violation` over the denominator of
+    /// these prices.
     pub fn passes_accuracy(
         &self,
         trade: &Provisional<'_>,
@@ -82,8 +83,8 @@ impl Tally {
             .pass_accuracy(trade.goods(), trade.cap(), prices, violation, den)
     }
 
-    /// Whether the rows pass the balance test of a certificate with the denominator `den`, from 1 to 2^32: then no
-    /// prices of this violation have a greatest price below that of these.
+    /// Whether the rows pass the balance test of a certificate with the denominator `den`, from 1
+    /// to 2^32: then no prices of this violation have a greatest price below that of these.
     pub fn passes_balance(
         &self,
         trade: &Provisional<'_>,

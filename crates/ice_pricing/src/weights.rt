@@ -10,8 +10,9 @@ use ice_trade::Exchange;
 use ice_tree::{AllWeights, Bounds};
 use std::alloc::{AllocError, Global};
 
-/// The weighted values of all nodes at bounds of the exchange's bidders, in hundredths: the settings' weight times the
-/// lower value, and the rest of 100 times the upper one. There is one bounds a bidder.
+/// The weighted values of all nodes at bounds of the exchange's bidders, in hundredths: the
+/// settings' weight times the lower value, and the rest of 100 times the upper one. There is one
+/// bounds a bidder.
 pub fn weighted_values(
     alloc: Global,
     exchange: &Exchange,

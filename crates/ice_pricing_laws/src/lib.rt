@@ -16,12 +16,14 @@ pub fn traces_solve()
     ensures { TracesSolve }
 {}
 
-/// Where no set is to be added, the least point of the accuracy program has accurate prices, and their violation is the point's.
+/// Where no set is to be added, the least point of the accuracy program has accurate prices, and
+/// their violation is the point's.
 pub fn least_is_accurate()
     ensures { LeastIsAccurate }
 {}
 
-/// With the violation of accurate prices, and where no set is to be added, the least point of the balance program has balanced prices.
+/// With the violation of accurate prices, and where no set is to be added, the least point of the
+/// balance program has balanced prices.
 pub fn least_is_balanced()
     ensures { LeastIsBalanced }
 {}
@@ -31,7 +33,8 @@ pub fn accuracy_is_feasible()
     ensures { AccuracyIsFeasible }
 {}
 
-/// With the violation of some prices within the cap, the balance program has a feasible point over each pool.
+/// With the violation of some prices within the cap, the balance program has a feasible point over
+/// each pool.
 pub fn balance_is_feasible()
     ensures { BalanceIsFeasible }
 {}
@@ -61,12 +64,14 @@ pub fn run_pool_is_proper()
     ensures { RunPoolIsProper }
 {}
 
-/// The duals of a least point of the accuracy program, over one denominator, give rows that pass the accuracy test.
+/// The duals of a least point of the accuracy program, over one denominator, give rows that pass
+/// the accuracy test.
 pub fn duals_pass_accuracy()
     ensures { DualsPassAccuracy }
 {}
 
-/// Those of the balance program, times 100 times the violation's denominator, give rows that pass the balance test.
+/// Those of the balance program, times 100 times the violation's denominator, give rows that pass
+/// the balance test.
 pub fn duals_pass_balance()
     ensures { DualsPassBalance }
 {}
@@ -81,7 +86,8 @@ pub fn lowered_are_weights()
     ensures { LoweredAreWeights }
 {}
 
-/// A pool that has no set of a bidder twice has at most as many members as there are satisfied sets.
+/// A pool that has no set of a bidder twice has at most as many members as there are satisfied
+/// sets.
 pub fn distinct_is_short()
     ensures { DistinctIsShort }
 {}
@@ -96,12 +102,14 @@ pub fn least_has_violation()
     ensures { LeastHasViolation }
 {}
 
-/// Where the accuracy stage of a run has no set to add, its prices are accurate and its certificate passes.
+/// Where the accuracy stage of a run has no set to add, its prices are accurate and its certificate
+/// passes.
 pub fn accuracy_stage_ends()
     ensures { AccuracyStageEnds }
 {}
 
-/// An accuracy stage that is past gave accurate prices of the violation that the balance stage keeps.
+/// An accuracy stage that is past gave accurate prices of the violation that the balance stage
+/// keeps.
 pub fn accurate_stage_gives()
     ensures { AccurateStageGives }
 {}
@@ -111,7 +119,8 @@ pub fn balance_comes_after()
     ensures { BalanceComesAfter }
 {}
 
-/// Where the balance stage of a run has no set to add, its prices are balanced and both certificates pass.
+/// Where the balance stage of a run has no set to add, its prices are balanced and both
+/// certificates pass.
 pub fn balance_stage_ends()
     ensures { BalanceStageEnds }
 {}

@@ -16,7 +16,8 @@ pub fn pivot_keeps_solutions()
     ensures { PivotKeepsSolutions }
 {}
 
-/// Where costs are at least 0 and the trace ends with the least, it states a feasible point and its duals.
+/// Where costs are at least 0 and the trace ends with the least, it states a feasible point and its
+/// duals.
 pub fn least_end_gives_duals()
     ensures { LeastEndGivesDuals }
 {}

@@ -69,11 +69,12 @@ fn try_attempt(
     }
 }
 
-/// The bid of a proxy that knows the true values: the least attempt, from 0 to 31, whose bounds are accepted where the
-/// bidder stands, and these bounds. They hold the truth, and lie inside the old ones. There always is one, since attempt 31
-/// states the truth itself.
+/// The bid of a proxy that knows the true values: the least attempt, from 0 to 31, whose bounds are
+/// accepted where the bidder stands, and these bounds. They hold the truth, and lie inside the old
+/// ones. There always is one, since attempt 31 states the truth itself.
 ///
-/// The provisional set is satisfied, and the truth has one value for each node, inside the old bounds. It takes no memory.
+/// The provisional set is satisfied, and the truth has one value for each node, inside the old
+/// bounds. It takes no memory.
 pub fn proxy(at: &Standing, truth: &[i64], improve: i64, scratch: &mut Scratch) -> ProxyBid
     requires satisfied { IsSatisfied at.now.tree.now at.now.set.now }
     requires nodes { length at.now.bounds.now.lo ≡ length at.now.tree.now }

@@ -51,12 +51,14 @@ pub fn large_improve_asks_nothing()
     ensures { LargeImproveAsksNothing }
 {}
 
-/// In a right session of proxies the bounds hold the truths at each settlement, and each bid is accepted.
+/// In a right session of proxies the bounds hold the truths at each settlement, and each bid is
+/// accepted.
 pub fn proxies_hold()
     ensures { ProxiesHold }
 {}
 
-/// Where such a session closes, no feasible trade beats the final one at the true values by more than the regret.
+/// Where such a session closes, no feasible trade beats the final one at the true values by more
+/// than the regret.
 pub fn proxies_reach_regret()
     ensures { ProxiesReachRegret }
 {}

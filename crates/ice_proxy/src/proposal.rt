@@ -72,9 +72,10 @@ pub(crate) fn upper_values(old: &Bounds, truth: &[i64], attempt: u8) -> ArrayVec
     values
 }
 
-/// The bounds of an attempt, from 0 to 31, inside the old ones and around the truth: at each node the distance of either
-/// bound from the truth is halved so many times, rounded down. So attempt 0 gives the old bounds, and attempt 31 the
-/// truth. The truth has one value for each node, inside the old bounds. It takes no memory.
+/// The bounds of an attempt, from 0 to 31, inside the old ones and around the truth: at each node
+/// the distance of either bound from the truth is halved so many times, rounded down. So attempt 0
+/// gives the old bounds, and attempt 31 the truth. The truth has one value for each node, inside
+/// the old bounds. It takes no memory.
 pub fn propose(tree: &Tree, old: &Bounds, truth: &[i64], attempt: u8) -> Bounds
     requires nodes { length old.now.lo ≡ length tree.now }
     requires inside { IsInside 1 old.now truth.now }

@@ -1,9 +1,9 @@
 -- The tree that is written for a lawful bidder is read again, node by node in preorder.
-use Rattle.std.proofs.Common.{◌≡◌, ℕ, zero, suc, ◌+◌, ◌-◌, ◌<◌, ◌≤◌, ◌&&◌, not, true, false, ltb, leb, List, [], ◌∷◌, ◌++◌, length, map, take, get_or, ℤ, pos, neg_ℤ, ◌≤ℤ◌, Some, None, Ok, refl, sym, ap, ◌∙◌, ◌⊎◌, inl, inr, subst, arith}
-use Rattle.std.specs.Prelude.{codes, int_le, int_lt}
+use Rattle.std.proofs.Common.{◌≡◌, ℕ, zero, suc, ◌+◌, ◌-◌, ◌<◌, ◌≤◌, true, false, ltb, leb, List, [], ◌∷◌, ◌++◌, length, map, take, get_or, ℤ, pos, neg_ℤ, Some, None, Ok, refl, sym, ap, ◌∙◌, ◌⊎◌, inl, inr, subst, arith}
+use Rattle.std.specs.Prelude.{codes}
 use Rattle.std.specs.List.{filter, IsDistinct, position}
 use Rattle.std.specs.Str.{bytes_eq}
-use Rattle.std.proofs.lemmas.Bool.{cases_lt, and_from, lt-ltb, le-ltb, lt-leb, le-leb, cond-true, cond-false}
+use Rattle.std.proofs.lemmas.Bool.{cases_lt}
 use Rattle.std.proofs.lemmas.Int.{ints}
 use Rattle.std.proofs.lemmas.List.{length-map, length-take-le, get_or-map, take_more, take_all}
 use Rattle.std.proofs.Math.Numerals.{add-one}
@@ -13,7 +13,7 @@ use Rattle.ice_defs.specs.declared.NodeKind.{NodeKind}
 use Rattle.ice_defs.specs.declared.NodeKind.TheVariants.{Choose, Buy, Sell}
 use Rattle.ice_defs.specs.Tree.{IsInterval, kind_of, parent_of, is_child, children_of, no_node}
 use Rattle.ice_defs.specs.Set.{weight_of}
-use Rattle.ice_defs.specs.Making.{is_value, is_lawful_kind, node_refusal, close_refusal}
+use Rattle.ice_defs.specs.Making.{node_refusal, close_refusal}
 use Rattle.ice_defs.specs.Lawful.{IsLimitedKind, IsBidder}
 use Rattle.ice_defs.specs.Exchange.{Good, Bidder}
 use Rattle.ice_defs.specs.FileFault.{Path, Read, ◌>>=◌}

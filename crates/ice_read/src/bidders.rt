@@ -63,7 +63,7 @@ fn tree_member(
     }
 }
 
-// Takes a bidder.
+/// Takes a bidder.
 fn take_bidder(exchange: &mut ExchangeMaker, value: &Value) -> Result<(), ReadFault>
     requires { AreNames (good_names exchange.old) }
     ensures taken { OnOk result ((path : Path)

@@ -23,7 +23,7 @@ struct Interval {
     most: u16,
 }
 
-// A number of an interval, at this index.
+/// A number of an interval, at this index.
 fn bound_of(value: &Value, index: u16) -> Result<u16, ReadFault>
     ensures reading { MatchResult result (λ number. (path : Path)
         → whole_of (at_index path index) (pos 0) (pos 199) (view value.now) ≡ Ok (pos number))

@@ -95,7 +95,12 @@ fn exchange_in(alloc: Global, value: &Value) -> Result<Exchange, ReadFault>
 
 /// The exchange of the bytes of a file in JSON, or the first fault with its place.
 ///
-/// The outermost object comes first, then its settings, its goods and its bidders, each value for its form before the makers may refuse it. `NotJson` comes where the bytes are no JSON, `Shape` where a value is not of the type that its place asks for or an object has other members, `NotWhole` and `Range` at numbers, `UnknownGood` at the name of a good that is not there, and `Tree` and `Make` where a maker refuses a node, a good, a bidder or the whole. Want of memory is told of the whole file: its place is `-`.
+/// The outermost object comes first, then its settings, its goods and its bidders, each value for
+/// its form before the makers may refuse it. `NotJson` comes where the bytes are no JSON, `Shape`
+/// where a value is not of the type that its place asks for or an object has other members,
+/// `NotWhole` and `Range` at numbers, `UnknownGood` at the name of a good that is not there, and
+/// `Tree` and `Make` where a maker refuses a node, a good, a bidder or the whole. Want of memory is
+/// told of the whole file: its place is `-`.
 pub fn read_exchange(alloc: Global, bytes: &[u8]) -> Result<Exchange, ReadFault>
     ensures exchange { IsAnswer result (exchange_of bytes.now) }
     ensures lawful { IfOk result IsExchange }

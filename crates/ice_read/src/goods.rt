@@ -37,7 +37,7 @@ pub(crate) fn good_member(
     }
 }
 
-// The name of a good, and whether it is exact.
+/// The name of a good, and whether it is exact.
 fn good_of(value: &Value) -> Result<(&str, bool), ReadFault>
     ensures reading { MatchResult result (λ good. (path : Path)
         → good_value path (view value.now) ≡ Ok (record { name = good.0.now; exact = good.1 }))
@@ -70,7 +70,7 @@ fn add_good(exchange: &mut ExchangeMaker, name: &str, exact: bool) -> Result<u8,
     }
 }
 
-// Takes a good.
+/// Takes a good.
 fn take_good(exchange: &mut ExchangeMaker, value: &Value) -> Result<(), ReadFault>
     requires { exchange.old.bidders ≡ [] }
     ensures taken { OnOk result ((path : Path)

@@ -1,4 +1,5 @@
-//! What is written is read again, and what is no JSON: laws of the definitions, which hold of every file.
+//! What is written is read again, and what is no JSON: laws of the definitions, which hold of every
+//! file.
 ghost use Rattle.ice_read.specs.Laws.{WrittenIsRead, LineFormIsNoJson};
 
 /// The text of a lawful exchange is read again as that exchange.

@@ -26,7 +26,7 @@ pub(crate) enum Side {
 }
 
 impl Side {
-    // The member that names the good.
+    /// The member that names the good.
     fn word(self) -> &'static str
         ensures { result.now ≡ side_word self }
     {

@@ -14,7 +14,7 @@ use arrayvec::ArrayVec;
 use ice_trade::ExchangeMaker;
 use serde_json::Value;
 
-// Nothing of each good.
+/// Nothing of each good.
 fn nothing(goods: u8) -> ArrayVec<u32, 32>
     requires { goods ≤ 32 }
     ensures { result.items ≡ replicate goods 0 }
@@ -24,7 +24,7 @@ fn nothing(goods: u8) -> ArrayVec<u32, 32>
     own
 }
 
-// Takes one owned amount.
+/// Takes one owned amount.
 fn take_amount(
     exchange: &ExchangeMaker,
     own: &mut ArrayVec<u32, 32>,

@@ -6,7 +6,9 @@ use arrayvec::ArrayString;
 use itoa::Buffer;
 use std::marker::Model;
 
-/// Where in a file a fault is: the members and indices that lead to the value, with dots between them, and `-` for the whole file. It has at most 256 bytes. A contract sees each part after a dot.
+/// Where in a file a fault is: the members and indices that lead to the value, with dots between
+/// them, and `-` for the whole file. It has at most 256 bytes. A contract sees each part after a
+/// dot.
 #[derive(Debug, Drop)]
 pub struct Place {
     text: ArrayString<256>,

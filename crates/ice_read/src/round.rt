@@ -135,9 +135,9 @@ fn bids_of(alloc: Global, file: &Value) -> Result<Vec<Bid>, ReadFault>
 
 /// The bids of a round file, in their order, or the first fault of the file with its place.
 ///
-/// A round has at most 400 bids, each with at most 200 lower and 200 upper values, from -1,000,000,000
-/// to 1,000,000,000. Which bidders there are, and how many values a bid needs, is not known here: a bid
-/// for an unknown name and a wrong count of values are read.
+/// A round has at most 400 bids, each with at most 200 lower and 200 upper values, from
+/// -1,000,000,000 to 1,000,000,000. Which bidders there are, and how many values a bid needs, is
+/// not known here: a bid for an unknown name and a wrong count of values are read.
 pub fn read_round(alloc: Global, bytes: &[u8]) -> Result<Vec<Bid>, ReadFault>
     ensures answer { MatchResult result (λ bids. bids_of bytes.now ≡ Ok bids.items)
         (λ fault. fault.cause ≢ ReadCause.NoMemory → bids_of bytes.now ≡ Err (fault_at [] fault)) }

@@ -34,7 +34,7 @@ fn is_choose(value: &Value) -> bool
     has_exactly(value, &["choose", "lo", "hi", "of"])
 }
 
-// Takes a node and all that is below it into a tree that is being made.
+/// Takes a node and all that is below it into a tree that is being made.
 fn take_node(
     exchange: &ExchangeMaker,
     maker: &mut TreeMaker,

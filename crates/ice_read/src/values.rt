@@ -58,7 +58,7 @@ fn is_between(low: i64, number: i64, high: i64) -> bool
     low <= number && number <= high
 }
 
-// Whether a value is a whole number.
+/// Whether a value is a whole number.
 #[tactic(auto, using(crate::proofs::WholeNumbers::wholes))]
 fn is_whole(value: &Value) -> bool
     ensures { result ≡ is_some (option_and_then as_integer (as_number (view value.now))) }
@@ -84,7 +84,7 @@ pub fn whole_of(value: &Value, low: i64, high: i64) -> Result<i64, ReadFault>
     }
 }
 
-// Whether an object has each of these members.
+/// Whether an object has each of these members.
 fn has_each(value: &Value, names: &[&str]) -> bool
     ensures { result ≡ list_all (λ name. is_some (get name.now (view value.now))) names.now }
 {

@@ -177,7 +177,9 @@ fn exchange_value(alloc: Global, ex: &Exchange) -> Result<Value, AllocError>
     file_value(alloc, settings, goods, bidders)
 }
 
-/// The exchange as a file in JSON: without spaces, the members of each object in the order of their names' bytes, and of what a bidder owns only the amounts that aren't 0. What is written is read again as the same exchange. Only for want of memory can it fail.
+/// The exchange as a file in JSON: without spaces, the members of each object in the order of their
+/// names' bytes, and of what a bidder owns only the amounts that aren't 0. What is written is read
+/// again as the same exchange. Only for want of memory can it fail.
 pub fn write_exchange(alloc: Global, ex: &Exchange) -> Result<Vec<u8>, AllocError>
     ensures text { IfOk result (λ text. text.items ≡ exchange_text ex.now) }
     ensures read_again { IfOk result (λ text. exchange_of text.items ≡ Ok ex.now) }

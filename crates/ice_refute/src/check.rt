@@ -45,12 +45,13 @@ fn take_step(
     Ok(advance(step, &mut desk.marks, &mut desk.sides))
 }
 
-/// Whether the log passes from the start with the target. If not, the fault is the first one in preorder: `Fixed`,
-/// `Sign`, `Above` or `NotDead` of the step with that number; `Short` where the steps end with a side open; `Long` where
-/// a step stands after all sides are closed.
+/// Whether the log passes from the start with the target. If not, the fault is the first one in
+/// preorder: `Fixed`, `Sign`, `Above` or `NotDead` of the step with that number; `Short` where the
+/// steps end with a side open; `Long` where a step stands after all sides are closed.
 ///
-/// The desk is made for the trees, which are at most 40 with at most 2,000 nodes together. Each leaf has one multiplier
-/// per good, and each weight is at most 100,000,000,000 in size. Takes no memory.
+/// The desk is made for the trees, which are at most 40 with at most 2,000 nodes together. Each
+/// leaf has one multiplier per good, and each weight is at most 100,000,000,000 in size. Takes no
+/// memory.
 pub fn check_log(
     trees: &[Tree],
     weights: &AllWeights,

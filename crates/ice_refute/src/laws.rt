@@ -8,7 +8,8 @@ pub fn logs_refute()
     ensures { LogRefutes }
 {}
 
-/// Over n free nodes a log that passes has fewer than 2^n branch steps, and fewer than 2^(n+1) steps.
+/// Over n free nodes a log that passes has fewer than 2^n branch steps, and fewer than 2^(n+1)
+/// steps.
 #[tactic(auto, using(crate::proofs::Counting::log_is_short))]
 pub fn logs_are_short()
     ensures { LogIsShort }

@@ -1,4 +1,5 @@
-//! Refutation logs: lists of branches and multipliers that prove that no feasible assignment is worth more than a target.
+//! Refutation logs: lists of branches and multipliers that prove that no feasible assignment is
+//! worth more than a target.
 #![tactic(auto)]
 
 mod check;

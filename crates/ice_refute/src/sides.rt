@@ -1,5 +1,5 @@
-//! The open sides: the marks of the first one, and the branches that led to it. A branch whose node is Must waits with
-//! its second side; one whose node is Never has none left.
+//! The open sides: the marks of the first one, and the branches that led to it. A branch whose node
+//! is Must waits with its second side; one whose node is Never has none left.
 ghost use Rattle.std.specs.Prelude.{◌≡◌, ◌<◌, ◌≤◌, length, vec_len, vec_capacity, [], ◌∷◌, ◌++◌, reverse, true};
 ghost use Rattle.ice_defs.specs.declared.Mark.TheVariants.{Free};
 ghost use Rattle.ice_defs.specs.Fixing.{mark_of};
@@ -40,7 +40,8 @@ fn split(marks: &mut Fixings, branches: &mut Vec<(u8, u16)>, bidder: u8, node: u
     marks.mark(bidder, node, Mark::Must);
 }
 
-/// Leaves the first open side, which is closed, for the next one. False comes exactly where there is none.
+/// Leaves the first open side, which is closed, for the next one. False comes exactly where there
+/// is none.
 fn leave(marks: &mut Fixings, branches: &mut Vec<(u8, u16)>) -> bool
     requires kept { AreKept marks.old branches.old.items }
     requires room { 2000 ≤ vec_capacity branches.old }

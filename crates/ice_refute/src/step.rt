@@ -9,7 +9,8 @@ use std::marker::Model;
 /// A step of a log.
 #[derive(Drop)]
 pub enum Step {
-    /// Splits its side in two: first the side in which the node is Must, then the one in which it is Never.
+    /// Splits its side in two: first the side in which the node is Must, then the one in which it
+    /// is Never.
     Branch { bidder: u8, node: u16 },
     /// Closes its side by the bound at these multipliers.
     Leaf { m: Multipliers },

@@ -16,8 +16,9 @@ use ice_tree::{AllWeights, Tree};
 use std::alloc::{AllocError, Global};
 use std::marker::Model;
 
-/// A walk through the steps of a log, which need not lie in memory. It is seen as the list of its open sides, the next
-/// one first, and the numbers of nodes of the trees that it is made for. At most 2,001 sides are ever open.
+/// A walk through the steps of a log, which need not lie in memory. It is seen as the list of its
+/// open sides, the next one first, and the numbers of nodes of the trees that it is made for. At
+/// most 2,001 sides are ever open.
 #[derive(Drop)]
 pub struct Walk {
     marks: Fixings,
@@ -37,8 +38,8 @@ impl Model for Walk {
 }
 
 impl Walk {
-    /// A walk for these trees, with no open side. The trees have at most 2,000 nodes together. Takes all the memory that
-    /// the walk needs.
+    /// A walk for these trees, with no open side. The trees have at most 2,000 nodes together.
+    /// Takes all the memory that the walk needs.
     pub fn new(alloc: Global, trees: &[Tree]) -> Result<Walk, AllocError>
         requires { sum (nodes_of trees.now) ≤ 2000 }
         ensures closed { IfOk result (λ walk. walk.sides ≡ []) }
@@ -65,12 +66,12 @@ impl Walk {
         self.is_open = true;
     }
 
-    /// Takes the next step, at the first open side. A branch that passes puts its Must side and then its Never side in
-    /// the place of that side; a leaf or a dead step that passes takes it away. A step at fault changes nothing, and its
-    /// fault has step number 0.
+    /// Takes the next step, at the first open side. A branch that passes puts its Must side and
+    /// then its Never side in the place of that side; a leaf or a dead step that passes takes it
+    /// away. A step at fault changes nothing, and its fault has step number 0.
     ///
-    /// A side is open, a leaf has one multiplier per good, and weights are at most 100,000,000,000 in size. Takes no
-    /// memory.
+    /// A side is open, a leaf has one multiplier per good, and weights are at most 100,000,000,000
+    /// in size. Takes no memory.
     pub fn step(
         &mut self,
         trees: &[Tree],

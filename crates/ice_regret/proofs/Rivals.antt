@@ -1,11 +1,7 @@
 -- From the best assignment at perturbed values to the regret.
-use Rattle.std.proofs.Common.{◌≡◌, sym, subst, ◌<◌, List, [], length, replicate, arith, ℤ, ◌-ℤ◌}
-use Rattle.std.proofs.lemmas.List.{get_or-map}
-use Rattle.ice_defs.specs.declared.Mark.TheVariants.{Free}
-use Rattle.ice_defs.specs.Tree.{Tree}
-use Rattle.ice_defs.specs.Fixing.{Meets}
+use Rattle.std.proofs.Common.{◌≡◌, sym, subst, List, length, ℤ, ◌-ℤ◌}
 use Rattle.ice_defs.specs.Set.{Weights}
-use Rattle.ice_defs.specs.Trade.{Assignment, set_of, tree_of, IsFeasible, MeetsAll, total_value, IsBest, IsBestOfAll}
+use Rattle.ice_defs.specs.Trade.{Assignment, IsFeasible, total_value, IsBest, IsBestOfAll}
 use Rattle.ice_defs.specs.Bounds.{Bounds}
 use Rattle.ice_defs.specs.Group.{free_side}
 use Rattle.ice_defs.specs.Weighing.{lower_weights, perturbed_weights}

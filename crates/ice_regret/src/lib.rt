@@ -1,4 +1,5 @@
-//! The regret of an assignment: how far it may be from the best, whatever the true values inside the bounds are.
+//! The regret of an assignment: how far it may be from the best, whatever the true values inside
+//! the bounds are.
 #![tactic(auto)]
 
 mod lead;

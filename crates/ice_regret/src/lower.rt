@@ -14,9 +14,11 @@ use ice_trade::Exchange;
 use ice_tree::{AllWeights, Assignment, Bounds};
 use std::alloc::Global;
 
-/// The best feasible assignment at the lower values of bounds, by a search that begins with the empty sets.
+/// The best feasible assignment at the lower values of bounds, by a search that begins with the
+/// empty sets.
 ///
-/// The branches fall by the log's branch steps. Errors are those of `search`. There are at most 50,000 branches.
+/// The branches fall by the log's branch steps. Errors are those of `search`. There are at most
+/// 50,000 branches.
 pub fn best_at_lower_values(
     alloc: Global,
     exchange: &Exchange,

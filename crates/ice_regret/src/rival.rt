@@ -14,11 +14,12 @@ use ice_trade::Exchange;
 use ice_tree::{AllWeights, Assignment, Bounds};
 use std::alloc::Global;
 
-/// The regret of a feasible assignment inside bounds: the search at perturbed values begins with the assignment itself. No
-/// feasible trade is worth more than that of the assignment by more than the regret, whatever the true values inside the
-/// bounds are, fractions included.
+/// The regret of a feasible assignment inside bounds: the search at perturbed values begins with
+/// the assignment itself. No feasible trade is worth more than that of the assignment by more than
+/// the regret, whatever the true values inside the bounds are, fractions included.
 ///
-/// The branches fall by the log's branch steps. Errors are those of `search`. There are at most 50,000 branches.
+/// The branches fall by the log's branch steps. Errors are those of `search`. There are at most
+/// 50,000 branches.
 pub fn regret(
     alloc: Global,
     exchange: &Exchange,

@@ -50,8 +50,9 @@ impl Ranking {
     }
 }
 
-/// How much a branch at a node promises: the nearer it was to being taken half of the time and the more it is worth, the
-/// more is lost on either side. Among nodes that were always or never taken the worth alone decides.
+/// How much a branch at a node promises: the nearer it was to being taken half of the time and the
+/// more it is worth, the more is lost on either side. Among nodes that were always or never taken
+/// the worth alone decides.
 fn score(halfness: u32, worth: i64) -> i128 {
     let size = i128::from(worth).saturating_abs();
     size.saturating_add(64)
@@ -71,9 +72,10 @@ fn is_free(trees: &[Tree], marks: &Fixings, candidate: Candidate) -> bool
     marks.of(candidate.bidder).get(candidate.node) == Mark::Free
 }
 
-/// Free nodes that look worth a branch, the best first: those that the choices above them leave open, that were taken
-/// about half of the time and that are worth much. There may be none. That a mark on them leaves its bidder alive is
-/// likely, and isn't promised. Takes no memory. Time: a pass over the open nodes of each tree.
+/// Free nodes that look worth a branch, the best first: those that the choices above them leave
+/// open, that were taken about half of the time and that are worth much. There may be none. That a
+/// mark on them leaves its bidder alive is likely, and isn't promised. Takes no memory. Time: a
+/// pass over the open nodes of each tree.
 pub fn pick(trees: &[Tree], marks: &Fixings, relaxation: &Relaxation) -> Candidates
     requires few { length trees.now ≤ 40 }
     requires marks { AreFixingsOf trees.now marks.now }

@@ -1,5 +1,6 @@
-//! The relaxation of a side: what its trees net together at many multipliers, worked out quickly, and the nodes that it
-//! shows as worth a branch. It guides the steps of a search and decides nothing: what it says is measured and not proved.
+//! The relaxation of a side: what its trees net together at many multipliers, worked out quickly,
+//! and the nodes that it shows as worth a branch. It guides the steps of a search and decides
+//! nothing: what it says is measured and not proved.
 #![tactic(auto)]
 
 mod candidates;

@@ -1,4 +1,5 @@
-//! A tree under marks as a short list of operations, which work out its greatest net and take the nodes of it.
+//! A tree under marks as a short list of operations, which work out its greatest net and take the
+//! nodes of it.
 ghost use Rattle.std.specs.Prelude.{◌<◌, ◌≤◌, length};
 
 use crate::openness::{Choice, Open, Openness, mark_of};
@@ -22,7 +23,8 @@ pub(crate) enum Rule {
     BestGain,
     /// Beside those, the best other one.
     Best,
-    /// Beside those, as many of the best as are needed, and then those that add value, as long as there is room.
+    /// Beside those, as many of the best as are needed, and then those that add value, as long as
+    /// there is room.
     Several,
 }
 
@@ -50,9 +52,10 @@ struct Leaf {
     good: u8,
 }
 
-/// The operations of one tree, the rows first, and each choice after its operands, with what they worked out last. Numbers
-/// of operations, operands, leaves and nodes all fit in a byte, which spares the tests whether they are in range. All of it
-/// is kept small, since a search begins with one for each tree.
+/// The operations of one tree, the rows first, and each choice after its operands, with what they
+/// worked out last. Numbers of operations, operands, leaves and nodes all fit in a byte, which
+/// spares the tests whether they are in range. All of it is kept small, since a search begins with
+/// one for each tree.
 #[derive(Clone, Copy)]
 pub(crate) struct Operations {
     list: [Operation; 256],
@@ -81,7 +84,8 @@ pub(crate) struct Operations {
     values: [i64; 256],
     /// The operand that each took as the best, or `NONE`.
     bests: [u8; 256],
-    /// The operands once more, where those that a `Rule::Several` may take stand in order, the best first ..
+    /// The operands once more, where those that a `Rule::Several` may take stand in order, the best
+    /// first ..
     ranked: [u8; 256],
     /// .. and where those of them end that each took.
     taken_ends: [u8; 256],
@@ -366,8 +370,8 @@ impl Operations {
         self.greatest_net()
     }
 
-    /// The greatest net at the multipliers, of which that of one good alone may be another than at the last time. Only those
-    /// operations are worked out that may change.
+    /// The greatest net at the multipliers, of which that of one good alone may be another than at
+    /// the last time. Only those operations are worked out that may change.
     pub(crate) fn evaluate_good(&mut self, m: &[i64; 32], good: u8) -> i64 {
         let mut waiting = self.rows_of[usize::from(good % 32)];
         for part in 0..=self.count / 64 {
@@ -394,8 +398,8 @@ impl Operations {
         self.count > 0 && self.rows >= self.count.saturating_sub(1) && root.rule != Rule::Several
     }
 
-    /// What the tree adds as the multiplier of a good moves, where the values stand at 0 of it. Its rows that may be taken and
-    /// have the good are told to the profile.
+    /// What the tree adds as the multiplier of a good moves, where the values stand at 0 of it. Its
+    /// rows that may be taken and have the good are told to the profile.
     pub(crate) fn share(&self, good: u8, profile: &mut Profile) -> Share {
         let root = self.root();
         if root.rule == Rule::Row {
@@ -469,7 +473,8 @@ impl Operations {
         value != before && !self.is_left(number, before, value)
     }
 
-    /// Whether the operation above left this one where it added the first value, and leaves it too where it adds the other.
+    /// Whether the operation above left this one where it added the first value, and leaves it too
+    /// where it adds the other.
     fn is_left(&self, number: u8, before: i64, value: i64) -> bool {
         let above = self.above[usize::from(number)];
         if above == NONE {
@@ -519,8 +524,9 @@ impl Operations {
         self.count > 0 && (self.is_forced || self.root_value() > 0)
     }
 
-    /// What a choice adds where its node is inside. Inlined, since a call costs as much as most choices do. Numbers that wrap
-    /// around would only mislead the steps, and none does: weights stay below 2^60, and what units cost below 2^54.
+    /// What a choice adds where its node is inside. Inlined, since a call costs as much as most
+    /// choices do. Numbers that wrap around would only mislead the steps, and none does: weights
+    /// stay below 2^60, and what units cost below 2^54.
     #[inline(always)]
     fn choice_value(&mut self, number: u8) -> i64 {
         let operation = self.list[usize::from(number)];
@@ -583,7 +589,8 @@ impl Operations {
         value
     }
 
-    /// Takes the other operands that are needed and those that add value, as long as there is room, and says what they add.
+    /// Takes the other operands that are needed and those that add value, as long as there is room,
+    /// and says what they add.
     fn take_several(&mut self, number: u8, operation: Operation) -> i64 {
         for place in operation.offered..operation.end {
             self.rank(operation.offered, place);
@@ -609,8 +616,8 @@ impl Operations {
         self.values[usize::from(number)]
     }
 
-    /// Moves the ranked operand at a place to the front, as far as it adds more than those before it. From one time to the
-    /// next few change places.
+    /// Moves the ranked operand at a place to the front, as far as it adds more than those before
+    /// it. From one time to the next few change places.
     fn rank(&mut self, first: u8, place: u8) {
         let number = self.ranked[usize::from(place)];
         let value = self.values[usize::from(number)];
@@ -624,7 +631,8 @@ impl Operations {
         }
     }
 
-    /// Adds the units of the set that was found to the excess, and the weight to the count of each of its operations.
+    /// Adds the units of the set that was found to the excess, and the weight to the count of each
+    /// of its operations.
     pub(crate) fn take(&mut self, weight: u32, excess: &mut [i64; 32]) {
         if !self.takes_root() {
             return;
@@ -643,7 +651,8 @@ impl Operations {
         }
     }
 
-    /// Lets the operands that an operation takes wait, of which there are so many then; a row's units are added.
+    /// Lets the operands that an operation takes wait, of which there are so many then; a row's
+    /// units are added.
     fn take_operands(&mut self, number: u8, height: u8, excess: &mut [i64; 32]) -> u8 {
         let operation = self.list[usize::from(number)];
         if operation.rule == Rule::Row {

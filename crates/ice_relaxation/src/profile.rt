@@ -14,8 +14,8 @@ pub(crate) struct Line {
     pub(crate) units: i64,
 }
 
-/// What a tree adds, as the multiplier moves: its fixed part and, as the rule says, the best of its rows that may be taken,
-/// or all of these that add value.
+/// What a tree adds, as the multiplier moves: its fixed part and, as the rule says, the best of its
+/// rows that may be taken, or all of these that add value.
 #[derive(Clone, Copy)]
 pub(crate) struct Share {
     pub(crate) fixed: Line,
@@ -28,8 +28,8 @@ pub(crate) struct Share {
     end: u8,
 }
 
-/// Multipliers, and what the trees that may buy or sell one good add together as its multiplier moves. Such a sum is worked
-/// out in few steps for each tree that chooses among rows.
+/// Multipliers, and what the trees that may buy or sell one good add together as its multiplier
+/// moves. Such a sum is worked out in few steps for each tree that chooses among rows.
 #[derive(Drop)]
 pub struct Profile {
     /// The multipliers of all goods.
@@ -107,7 +107,8 @@ impl Profile {
         self.m[usize::from(self.good % 32)] = multiplier;
     }
 
-    /// Adds a row that has the good to the tree that is told next. There is room for all rows of that tree.
+    /// Adds a row that has the good to the tree that is told next. There is room for all rows of
+    /// that tree.
     pub(crate) fn add_line(&mut self, line: Line) {
         self.lines[usize::from(self.line_count)] = line;
         self.line_count = self.line_count.saturating_add(1).min(MOST_LINES);
@@ -124,8 +125,8 @@ impl Profile {
         self.share_count = self.share_count.saturating_add(1);
     }
 
-    /// Tells what a tree adds as the multiplier of the good moves, where its values stand at 0 of it. False where it can't
-    /// be told so, since it is no choice among rows, or has too many.
+    /// Tells what a tree adds as the multiplier of the good moves, where its values stand at 0 of
+    /// it. False where it can't be told so, since it is no choice among rows, or has too many.
     pub(crate) fn tell(&mut self, tree: &Operations) -> bool {
         let first = self.line_count;
         if !tree.is_flat()

@@ -19,8 +19,9 @@ pub struct Sight {
     pub excess: [i64; 32],
 }
 
-/// The relaxation of a side: each tree under its marks, made ready to be worked out at many multipliers, and how often
-/// each node was taken. It is seen as the number of trees: what it says is a guide, which decides nothing.
+/// The relaxation of a side: each tree under its marks, made ready to be worked out at many
+/// multipliers, and how often each node was taken. It is seen as the number of trees: what it says
+/// is a guide, which decides nothing.
 ///
 /// Only `new` takes memory.
 #[derive(Drop)]
@@ -67,8 +68,8 @@ impl Relaxation {
         })
     }
 
-    /// Looks at the side of these marks. All looks are at the same trees and weights. Time: some passes over the nodes of
-    /// the trees whose marks aren't those of the last look.
+    /// Looks at the side of these marks. All looks are at the same trees and weights. Time: some
+    /// passes over the nodes of the trees whose marks aren't those of the last look.
     pub fn look_at(&mut self, trees: &[Tree], weights: &AllWeights, marks: &Fixings)
         requires few { length trees.now ≤ 40 }
         requires weights { AreWeightsOf trees.now weights.now }
@@ -99,7 +100,8 @@ impl Relaxation {
         self.fill(trees, weights, marks, bidder, None);
     }
 
-    /// Looks at the marks of one tree where one node has another mark. Time: some passes over its nodes.
+    /// Looks at the marks of one tree where one node has another mark. Time: some passes over its
+    /// nodes.
     pub fn look_at_child(
         &mut self,
         trees: &[Tree],
@@ -157,7 +159,8 @@ impl Relaxation {
         self.weight = 0;
     }
 
-    /// What is seen at the multipliers. The weight is added to the count of each node that is taken.
+    /// What is seen at the multipliers. The weight is added to the count of each node that is
+    /// taken.
     pub fn evaluate(&mut self, m: &[i64; 32], weight: u32) -> Sight
         ensures { self.new ≡ self.old }
     {
@@ -183,7 +186,8 @@ impl Relaxation {
         }
     }
 
-    /// Makes the profile that of a good, whose multiplier is 0. The rows of the trees stand at the profile's multipliers.
+    /// Makes the profile that of a good, whose multiplier is 0. The rows of the trees stand at the
+    /// profile's multipliers.
     pub fn fill_profile(&mut self, profile: &mut Profile, good: u8)
         ensures { self.new ≡ self.old }
     {
@@ -203,8 +207,8 @@ impl Relaxation {
         }
     }
 
-    /// The sum of the greatest nets of these trees. The multiplier of the profile's good alone may be another than at the
-    /// last time.
+    /// The sum of the greatest nets of these trees. The multiplier of the profile's good alone may
+    /// be another than at the last time.
     fn part_at(&mut self, trees: u64, profile: &Profile) -> i128
         ensures { self.new ≡ self.old }
     {
@@ -221,7 +225,8 @@ impl Relaxation {
         total
     }
 
-    /// The sum of the greatest nets of the trees that may buy or sell the profile's good, at a multiplier of it.
+    /// The sum of the greatest nets of the trees that may buy or sell the profile's good, at a
+    /// multiplier of it.
     pub fn sum_at(&mut self, profile: &mut Profile, multiplier: i64) -> i128
         ensures { self.new ≡ self.old }
     {
@@ -233,8 +238,8 @@ impl Relaxation {
         told.saturating_add(self.part_at(profile.others, profile))
     }
 
-    /// Leaves the profile and the trees at a multiplier of the profile's good: the rows of those that the profile tells, and
-    /// what is above them with the next profile.
+    /// Leaves the profile and the trees at a multiplier of the profile's good: the rows of those
+    /// that the profile tells, and what is above them with the next profile.
     pub fn leave_at(&mut self, profile: &mut Profile, multiplier: i64)
         ensures { self.new ≡ self.old }
     {
@@ -250,8 +255,8 @@ impl Relaxation {
         }
     }
 
-    /// How near the operation's node was to being taken half of the time: the count of the times that it was taken, or of
-    /// those that it wasn't, whichever is less.
+    /// How near the operation's node was to being taken half of the time: the count of the times
+    /// that it was taken, or of those that it wasn't, whichever is less.
     pub(crate) fn halfness(&self, bidder: u8, number: u8) -> u32
         requires { bidder < self.now }
     {

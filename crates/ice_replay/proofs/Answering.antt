@@ -1,5 +1,5 @@
 -- What is answered where the records end.
-use Rattle.std.proofs.Common.{◌≡◌, ℕ, true, List, [], ◌∷◌, ◌++◌, refl, sym, ◌∙◌, ap, subst, append-nil}
+use Rattle.std.proofs.Common.{◌≡◌, ℕ, List, [], ◌∷◌, refl, sym, ◌∙◌, ap, subst, append-nil}
 use Rattle.std.specs.Prelude.{Some, None, Result, Ok, Err}
 use Rattle.ice_journal.specs.Records.{Record, session_kind}
 use Rattle.ice_journal.specs.Records as line
@@ -7,7 +7,6 @@ use Rattle.ice_journal.specs.Journal.{IsJournal}
 use Rattle.ice_journal_laws.specs.declared.answer.Answer.{Answer}
 use Rattle.ice_journal_laws.specs.declared.answer.Answer.TheVariants as answer
 use Rattle.ice_journal_laws.specs.declared.answer.CheckEnd.{CheckEnd}
-use Rattle.ice_journal_laws.specs.declared.answer.CheckEnd.TheVariants as ending
 use Rattle.ice_journal_laws.specs.declared.rule.Rule.{Rule}
 use Rattle.ice_journal_laws.specs.declared.rule.Rule.TheVariants as rule
 use Rattle.ice_journal_laws.specs.State.{State, begun}

@@ -10,7 +10,7 @@ use Rattle.ice_journal_laws.specs.State.{Place, at_regret, at_accuracy_rows, at_
 use Rattle.ice_journal_laws.specs.Next.{next, after_all}
 use Rattle.ice_journal_laws.specs.Tests.{Fails, IsStop, ended_list}
 use Rattle.ice_journal_laws.specs.Checks.{Failure, IsChecked}
-use Rattle.ice_journal_laws.specs.Progress.{Progress, nothing, other_kind, passing, failed, out_of_memory, passes_on, fails_at, list_fails_at, IsAfter, Leads, stays, goes}
+use Rattle.ice_journal_laws.specs.Progress.{Progress, nothing, other_kind, passing, failed, out_of_memory, passes_on, fails_at, list_fails_at, IsAfter, Leads, goes}
 use Rattle.ice_journal_laws.proofs.Leading.{stays_failed, finds}
 use Rattle.ice_journal_laws.proofs.Carried.{leads_ordered}
 use Rattle.ice_replay.specs.Settlements.{Settles}

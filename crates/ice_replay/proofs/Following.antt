@@ -22,7 +22,7 @@ use Rattle.ice_replay.specs.declared.watch.Watch.TheVariants as watch
 use Rattle.ice_replay.specs.Settlements.{OfSession, IsSession, is_session_head, Settles, prices_from}
 use Rattle.ice_replay.specs.Replays.{names_in, bounds_in, Tells}
 use Rattle.ice_replay.specs.Watching.{IsFine, prices_to_come, prices_behind, HasBegun, IsWhole, IsWatched, IsComeTo, IsStated, WatchesOn}
-use Rattle.ice_replay.proofs.Stopping.{is_stopped, stopped_regret, IsBehind, stops, no_prices_behind}
+use Rattle.ice_replay.proofs.Stopping.{stopped_regret, IsBehind, stops, no_prices_behind}
 use Rattle.ice_replay.proofs.Coming.{some_is, list_stops, Stood, all_passed, has_stopped, stood, fine_before, IsLast, none_settles, settled}
 
 -- ---- prices

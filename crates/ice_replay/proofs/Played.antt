@@ -1,5 +1,5 @@
 -- The bytes that are read so far: their records, where the tests of them have come, and what is known of a settlement.
-use Rattle.std.proofs.Common.{◌≡◌, ◌<◌, ◌≤◌, ◌+◌, ℕ, suc, List, [], ◌∷◌, ◌++◌, length, Contains, refl, sym, ◌∙◌, ap, arith, length-append, append_assoc}
+use Rattle.std.proofs.Common.{◌≡◌, ◌+◌, ℕ, suc, List, [], ◌∷◌, ◌++◌, length, refl, sym, ◌∙◌, ap, arith, length-append, append_assoc}
 use Rattle.std.specs.List.{AllByRecursion}
 use Rattle.std.proofs.lemmas.List.{append-nil}
 use Rattle.std.proofs.lemmas.Grind.{flat_map-append}
@@ -7,7 +7,7 @@ use Rattle.ice_defs.proofs.Lists.{all_push}
 use Rattle.ice_journal.specs.Records.{Record}
 use Rattle.ice_journal.specs.Ranges.{IsRecord}
 use Rattle.ice_journal.specs.Spelling.{text_of, line_of}
-use Rattle.ice_journal.specs.Journal.{bytes_of, IsJournal}
+use Rattle.ice_journal.specs.Journal.{bytes_of}
 use Rattle.ice_journal_laws.specs.Progress.{Progress, nothing, Leads, stays}
 use Rattle.ice_journal_laws.proofs.Leading.{leads_more}
 use Rattle.ice_check_records.specs.Checking.{Checking, HasCome, ComesTo}

@@ -1,21 +1,20 @@
 -- Where a stop leads: behind it neither a regret nor prices come.
-use Rattle.std.proofs.Common.{◌≡◌, ◌+◌, ℕ, suc, Bool, true, false, cond, IsTrue, List, [], ◌∷◌, ℤ, refl, sym, ◌∙◌, ap, subst}
+use Rattle.std.proofs.Common.{◌≡◌, ◌+◌, ℕ, suc, Bool, true, false, cond, List, [], ◌∷◌, ℤ, refl, sym, ◌∙◌, ap, subst}
 use Rattle.std.specs.Prelude.{◌==◌, Option, Some, None, option_map, option_and_then}
-use Rattle.std.proofs.lemmas.Bool.{true≢false, false≢true}
+use Rattle.std.proofs.lemmas.Bool.{false≢true}
 use Rattle.std.proofs.lemmas.Option.{none-some}
 use Rattle.ice_defs.specs.Bound.{Multipliers}
-use Rattle.ice_defs.specs.Prices.{Prices}
 use Rattle.ice_defs.specs.PricingLimit.{Stage, LimitKind}
 use Rattle.ice_defs.specs.declared.Group.TheVariants.{Assign, Final, Rival, Provisional, Without}
 use Rattle.ice_journal.specs.Records.{Record, Version, version_1, version_2, Kind, assign_kind, regret_kind, session_kind, exchange_kind, prices_kind, open_end, spent_end, limit_end}
 use Rattle.ice_journal.specs.Records as line
 use Rattle.ice_journal.specs.Plain.{all_zero}
 use Rattle.ice_section.specs.Section.{may_end}
-use Rattle.ice_journal_laws.specs.Fields.{is_spent, is_limit, is_pool, is_round_stop, is_end, set_in, prices_in, step_in}
+use Rattle.ice_journal_laws.specs.Fields.{is_pool, is_round_stop, is_end, set_in, prices_in, step_in}
 use Rattle.ice_journal_laws.specs.State.{Place, at_section, at_group, at_log, at_regret, at_prices, at_balance_rows, at_spent_sets, at_spent_log, at_pool, at_end, done, State, goods_at}
 use Rattle.ice_journal_laws.specs.Next.{next, next_at, go_to, to_line, bidder_count, if_true, after_section, section_ended, open_after, after_all}
 use Rattle.ice_journal_laws.specs.Tests.{IsStop}
-use Rattle.ice_check_records.specs.Due.{is_regret_place, is_prices_place}
+use Rattle.ice_check_records.specs.Due.{is_prices_place}
 use Rattle.ice_replay.specs.Settlements.{prices_from}
 
 -- behind a stop

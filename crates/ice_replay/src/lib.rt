@@ -1,5 +1,5 @@
-//! Replays of single settlements: what a session journal says of one, where the journal passes the tests of the checker, and the
-//! lines that say it.
+//! Replays of single settlements: what a session journal says of one, where the journal passes the
+//! tests of the checker, and the lines that say it.
 #![tactic(auto)]
 
 mod bidders;

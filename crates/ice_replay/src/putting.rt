@@ -99,9 +99,9 @@ fn put_end<K: Sink>(out: &mut K) -> Result<(), SinkFault>
     out.put(b"end replay\n")
 }
 
-/// Puts a settlement, each line with its newline in one put: `settle N`, for each bidder `bounds NAME LO HI ..` with the two
-/// values of each node, `final V`, `regret A`, the record of the prices where there are any, and `end replay`. It takes no
-/// memory.
+/// Puts a settlement, each line with its newline in one put: `settle N`, for each bidder `bounds
+/// NAME LO HI ..` with the two values of each node, `final V`, `regret A`, the record of the prices
+/// where there are any, and `end replay`. It takes no memory.
 pub fn put_replay<K: Sink>(replay: &Replay, out: &mut K) -> Result<(), SinkFault>
     ensures { IsPut (replay_lines replay.now) result
         (K.written out.old) (K.written out.new) (K.faults out.old) (K.faults out.new) }

@@ -13,7 +13,8 @@ use ice_journal::read_record;
 use ice_line::split_line;
 use std::alloc::Global;
 
-/// Feeds the records of the bytes to a checker that has taken none, and looks for the settlement with this number.
+/// Feeds the records of the bytes to a checker that has taken none, and looks for the settlement
+/// with this number.
 fn read_all(
     alloc: Global,
     bytes: &[u8],
@@ -47,13 +48,15 @@ fn read_all(
     Ok(watch)
 }
 
-/// Replays a settlement of a session from the bytes of its journal: what the session says of the settlement with this number.
+/// Replays a settlement of a session from the bytes of its journal: what the session says of the
+/// settlement with this number.
 ///
-/// `Grammar` or `Unended` is answered exactly where a line is no record or the last one has no newline, and names the least such
-/// line. Else `OtherKind` is answered exactly where there is no line, or the first is no head of a session. Else `No` is answered
-/// exactly where a test of the checker fails, and the first one isn't that of a stop; it names that test. Else `NoSettlement` is
-/// answered exactly where the session states no regret of such a settlement: what stands behind a stop isn't looked at.
-/// `NoMemory` is answered where memory runs out.
+/// `Grammar` or `Unended` is answered exactly where a line is no record or the last one has no
+/// newline, and names the least such line. Else `OtherKind` is answered exactly where there is no
+/// line, or the first is no head of a session. Else `No` is answered exactly where a test of the
+/// checker fails, and the first one isn't that of a stop; it names that test. Else `NoSettlement`
+/// is answered exactly where the session states no regret of such a settlement: what stands behind
+/// a stop isn't looked at. `NoMemory` is answered where memory runs out.
 pub fn replay(alloc: Global, bytes: &[u8], number: u8) -> Result<Replay, ReplayEnd>
     ensures { ReplaysBytes bytes.now number result }
 {

@@ -103,7 +103,8 @@ fn after_begun(mut replay: Replay, checker: &Checker, line: &Line) -> Watch
 }
 
 impl Watch {
-    /// What is known behind one record more, which the checker is yet to take, of the settlement with this number.
+    /// What is known behind one record more, which the checker is yet to take, of the settlement
+    /// with this number.
     pub(crate) fn after(
         self,
         alloc: Global,

@@ -12,9 +12,9 @@ use ice_trade::Exchange;
 use ice_tree::{Assignment, Bounds};
 use std::marker::Model;
 
-/// A session whose round takes submissions, seen as its exchange, the number of the settlement that opened the round, the
-/// branches that are left, and the round: the bounds, provisional sets and prices at its start, and of each bidder the next
-/// bounds and whether a submission was accepted.
+/// A session whose round takes submissions, seen as its exchange, the number of the settlement that
+/// opened the round, the branches that are left, and the round: the bounds, provisional sets and
+/// prices at its start, and of each bidder the next bounds and whether a submission was accepted.
 #[derive(Drop)]
 pub struct InRound {
     pub(crate) session: Session,
@@ -67,12 +67,13 @@ impl InRound {
         self.session.number
     }
 
-    /// The verdict on a bid. The first that holds: `UnknownBidder` where no bidder has its name; `Repeated` where a bid of the bidder was accepted in this round; `WrongCount` where its
-    /// values don't count the nodes of the bidder's tree; and else the verdict on new bounds, judged against the bounds, sets
-    /// and prices at the start of the round.
+    /// The verdict on a bid. The first that holds: `UnknownBidder` where no bidder has its name;
+    /// `Repeated` where a bid of the bidder was accepted in this round; `WrongCount` where its
+    /// values don't count the nodes of the bidder's tree; and else the verdict on new bounds,
+    /// judged against the bounds, sets and prices at the start of the round.
     ///
-    /// An accepted bid gives the bidder its next bounds and a mark, and changes nothing else. Any other one changes nothing.
-    /// It takes no memory.
+    /// An accepted bid gives the bidder its next bounds and a mark, and changes nothing else. Any
+    /// other one changes nothing. It takes no memory.
     pub fn submit(&mut self, bid: &Bid) -> Verdict
         ensures verdict { IsVerdictIn self.old.exchange self.old.round bid.now result }
         ensures next { (judged : List Judged) → IsAfter self.old.exchange judged self.old.round
@@ -96,7 +97,8 @@ impl InRound {
             .submit(&session.exchange, bid.bidder().text(), bid.lo(), bid.hi())
     }
 
-    /// The session after the round: the next bounds stand, and the next settlement comes. It takes no memory.
+    /// The session after the round: the next bounds stand, and the next settlement comes. It takes
+    /// no memory.
     pub fn end(self) -> Ready
         ensures { result ≡ session_after self }
     {

@@ -11,8 +11,8 @@ use ice_verdicts::Judge;
 use std::alloc::{AllocError, Global};
 use std::marker::Model;
 
-/// A session whose next settlement may come, seen as its exchange, the bidders' bounds, the number of that settlement, and
-/// the branches that are left.
+/// A session whose next settlement may come, seen as its exchange, the bidders' bounds, the number
+/// of that settlement, and the branches that are left.
 #[derive(Drop)]
 pub struct Ready {
     pub(crate) session: Session,
@@ -30,8 +30,8 @@ impl Model for Ready {
 }
 
 impl Ready {
-    /// The session of an exchange: its opening bounds stand, settlement 0 comes next, and all branches of the settings are
-    /// left. It takes the memory that its rounds need.
+    /// The session of an exchange: its opening bounds stand, settlement 0 comes next, and all
+    /// branches of the settings are left. It takes the memory that its rounds need.
     pub fn start(alloc: Global, exchange: Exchange) -> Result<Ready, AllocError>
         ensures { IfOk result (λ r. r ≡ record {
           exchange = exchange;
@@ -82,13 +82,15 @@ impl Ready {
         self.session.branches
     }
 
-    /// The next settlement, in this order: the search at lower values from the empty assignment, the regret of what it finds,
-    /// and the close test. Where the test closes the session, the Vickrey discounts and the Threshold payments follow. Where it
-    /// doesn't, the search at weighted values from the empty assignment follows, then the prices of what it finds, and a round
-    /// begins, with the same bounds and the branches that these searches left.
+    /// The next settlement, in this order: the search at lower values from the empty assignment,
+    /// the regret of what it finds, and the close test. Where the test closes the session, the
+    /// Vickrey discounts and the Threshold payments follow. Where it doesn't, the search at
+    /// weighted values from the empty assignment follows, then the prices of what it finds, and a
+    /// round begins, with the same bounds and the branches that these searches left.
     ///
-    /// `Spent` comes only where a search used all branches that those before it left; `Limit` only where the pricing run ended
-    /// so. After these, and after want of memory, the session is gone; the halt has what was done.
+    /// `Spent` comes only where a search used all branches that those before it left; `Limit` only
+    /// where the pricing run ended so. After these, and after want of memory, the session is gone;
+    /// the halt has what was done.
     pub fn settle(self) -> Settled
         ensures { IsSettledAs self result }
     {

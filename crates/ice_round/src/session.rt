@@ -4,8 +4,8 @@ use ice_trade::Exchange;
 use ice_verdicts::Judge;
 use std::alloc::Global;
 
-/// An exchange, what is known of its round, the number of the settlement that comes next or that opened the round, and the
-/// branches that are left.
+/// An exchange, what is known of its round, the number of the settlement that comes next or that
+/// opened the round, and the branches that are left.
 #[derive(Drop)]
 pub(crate) struct Session {
     pub(crate) alloc: Global,

@@ -219,7 +219,8 @@ impl Session {
         }
     }
 
-    /// A settlement: the final sets, their regret and the close test, and then what closes the session or opens a round.
+    /// A settlement: the final sets, their regret and the close test, and then what closes the
+    /// session or opens a round.
     pub(crate) fn settle(self) -> Settled
         requires { IsKept self }
         ensures { IsSettledAs (session_at self) result }

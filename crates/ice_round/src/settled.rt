@@ -12,8 +12,8 @@ pub enum Settled {
     Closed(Closing),
     /// The close test fails: a round begins.
     Going(InRound, Opening),
-    /// A search spent the branches: the first one, in the order of a settlement, whose result the halt lacks. With the halt's
-    /// logs, its log has as many branch steps as branches were left.
+    /// A search spent the branches: the first one, in the order of a settlement, whose result the
+    /// halt lacks. With the halt's logs, its log has as many branch steps as branches were left.
     Spent(Halt, Spent),
     /// The pricing run ended at a limit.
     Limit(Halt, PriceLimit),

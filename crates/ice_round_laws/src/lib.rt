@@ -1,11 +1,13 @@
-//! Laws of rounds: their order is free between bidders, one taken submission by submission is the round of the definition, and bounds stay bounds. It has no code.
+//! Laws of rounds: their order is free between bidders, one taken submission by submission is the
+//! round of the definition, and bounds stay bounds. It has no code.
 #![tactic(auto)]
 
 ghost use Rattle.ice_round_laws.specs.Keeping.{RoundsKeepBounds};
 ghost use Rattle.ice_round_laws.specs.Laws.{OrderIsFree, OwnSubmissionsTell, OthersSwap};
 ghost use Rattle.ice_round_laws.specs.Running.{EntriesBegin, EntriesGoOn, EntriesAreDefined, EntriesTellBounds, EntriesTellVerdict, RoundsBegin, RoundsGoOn, VerdictsMakeRound, VerdictIsOne, NamesBegin, NamesStay, StandingsAreNamed, StandingIs, OneEntryDecides, NoEntryDecides, OneEntryChanges, AcceptedIsTaken, OthersChangeNothing, OtherEntriesStay};
 
-/// Rounds with the same submissions of each name in the same order give the same verdicts to each name and the same next bounds.
+/// Rounds with the same submissions of each name in the same order give the same verdicts to each
+/// name and the same next bounds.
 pub fn order_is_free()
     ensures { OrderIsFree }
 {}

@@ -5,12 +5,14 @@ ghost use Rattle.ice_row_laws.specs.Laws.{TestsGiveAccurate, TestsGiveBalanced};
 ghost use Rattle.ice_row_laws.specs.Sums.{ZeroIsSums, RowIsAdded, SumsDecideAccuracy, SumsDecideBalance};
 ghost use Rattle.ice_row_laws.specs.Sizes.{SumsAreWithin};
 
-/// Prices whose rows pass the accuracy test are accurate: no prices within the cap have a smaller violation.
+/// Prices whose rows pass the accuracy test are accurate: no prices within the cap have a smaller
+/// violation.
 pub fn tests_give_accurate()
     ensures { TestsGiveAccurate }
 {}
 
-/// Prices whose rows pass both tests are balanced: no accurate prices have a smaller greatest price.
+/// Prices whose rows pass both tests are balanced: no accurate prices have a smaller greatest
+/// price.
 pub fn tests_give_balanced()
     ensures { TestsGiveBalanced }
 {}

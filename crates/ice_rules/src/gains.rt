@@ -16,9 +16,10 @@ pub(crate) fn is_less(a: i128, b: i128) -> bool
     a < b
 }
 
-/// The loss of a satisfied set: the greatest, over all satisfied sets and all profiles of true values inside the bounds,
-/// by which a net exceeds its own, times the prices' denominator. A net is the value less what the units cost; profiles
-/// may be fractions. The loss is never negative. Takes no memory.
+/// The loss of a satisfied set: the greatest, over all satisfied sets and all profiles of true
+/// values inside the bounds, by which a net exceeds its own, times the prices' denominator. A net
+/// is the value less what the units cost; profiles may be fractions. The loss is never negative.
+/// Takes no memory.
 pub fn loss(at: &Standing, scratch: &mut Scratch) -> i128
     requires satisfied { IsSatisfied at.now.tree.now at.now.set.now }
     requires nodes { length at.now.bounds.now.lo ≡ length at.now.tree.now }
@@ -32,8 +33,8 @@ pub fn loss(at: &Standing, scratch: &mut Scratch) -> i128
     best.net - net(at.tree, at.set, &weights, 1, at.prices)
 }
 
-/// The greatest gain over a satisfied set that some satisfied set has at every profile inside the bounds, times the
-/// prices' denominator.
+/// The greatest gain over a satisfied set that some satisfied set has at every profile inside the
+/// bounds, times the prices' denominator.
 pub(crate) fn least_gain(at: &Standing, scratch: &mut Scratch) -> i128
     requires satisfied { IsSatisfied at.now.tree.now at.now.set.now }
     requires nodes { length at.now.bounds.now.lo ≡ length at.now.tree.now }
@@ -75,8 +76,9 @@ pub(crate) fn is_ahead(at: &Standing, other: &NodeSet) -> bool
     is_less(net(at.tree, other, &weights, 1, at.prices), ahead)
 }
 
-/// A set that is best at the centre of the bounds. Since a gain that is never negative inside the bounds and none at
-/// their centre is none at all, it is as good as any set that is best throughout.
+/// A set that is best at the centre of the bounds. Since a gain that is never negative inside the
+/// bounds and none at their centre is none at all, it is as good as any set that is best
+/// throughout.
 pub(crate) fn best_at_centre(at: &Standing, scratch: &mut Scratch) -> NodeSet
     requires { length at.now.bounds.now.lo ≡ length at.now.tree.now }
     ensures satisfied { IsSatisfied at.now.tree.now result }

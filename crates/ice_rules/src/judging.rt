@@ -96,11 +96,12 @@ fn first_that_holds(
     Verdict::Accepted
 }
 
-/// The verdict on new lower and upper values of a bidder, of which there is one for each node, inside the value limits:
-/// the first of these that holds. `Crossed` at the least node whose lower value is above its upper one, `Loosened` at
-/// the least node whose values reach beyond the old bounds, `Mrpar` where the first rule fails at the new bounds,
-/// `Improve` where the second one does, and else `Accepted`. A bid that states its true values exactly, inside the old
-/// bounds, is accepted.
+/// The verdict on new lower and upper values of a bidder, of which there is one for each node,
+/// inside the value limits: the first of these that holds. `Crossed` at the least node whose lower
+/// value is above its upper one, `Loosened` at the least node whose values reach beyond the old
+/// bounds, `Mrpar` where the first rule fails at the new bounds, `Improve` where the second one
+/// does, and else `Accepted`. A bid that states its true values exactly, inside the old bounds, is
+/// accepted.
 ///
 /// The provisional set is satisfied. Takes no memory.
 pub fn judge(at: &Standing, lo: &[i64], hi: &[i64], improve: i64, scratch: &mut Scratch) -> Verdict

@@ -9,8 +9,8 @@ use ice_best_at_prices::Scratch;
 use ice_terms::Prices;
 use ice_tree::Bounds;
 
-/// The first rule: whether some satisfied set is best at every profile inside the bounds, and the provisional set is so
-/// too or has a smaller net at every profile. Takes no memory.
+/// The first rule: whether some satisfied set is best at every profile inside the bounds, and the
+/// provisional set is so too or has a smaller net at every profile. Takes no memory.
 pub fn mrpar(at: &Standing, scratch: &mut Scratch) -> bool
     requires satisfied { IsSatisfied at.now.tree.now at.now.set.now }
     requires nodes { length at.now.bounds.now.lo ≡ length at.now.tree.now }
@@ -53,9 +53,9 @@ fn allowed_loss(loss: i128, improve: i64, prices: &Prices) -> i128
     loss - times_den(improve, prices.den())
 }
 
-/// The second rule: whether the provisional set's loss at the new bounds is none, or is smaller than at the old ones by
-/// what is required, or some satisfied set gains more than the old loss less what is required at every profile inside
-/// the new bounds. Takes no memory.
+/// The second rule: whether the provisional set's loss at the new bounds is none, or is smaller
+/// than at the old ones by what is required, or some satisfied set gains more than the old loss
+/// less what is required at every profile inside the new bounds. Takes no memory.
 pub fn improvement(at: &Standing, new: &Bounds, improve: i64, scratch: &mut Scratch) -> bool
     requires satisfied { IsSatisfied at.now.tree.now at.now.set.now }
     requires old { length at.now.bounds.now.lo ≡ length at.now.tree.now }

@@ -51,8 +51,8 @@ fn root(bounded: Bounded) -> Part
 }
 
 impl<'a> Progress<'a> {
-    /// A search with one part, the start, which is polished from the multipliers that are given. The candidates are offered
-    /// where they are feasible and meet the start.
+    /// A search with one part, the start, which is polished from the multipliers that are given.
+    /// The candidates are offered where they are feasible and meet the start.
     pub(crate) fn begin(
         alloc: Global,
         problem: Problem<'a>,

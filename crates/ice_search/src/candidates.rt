@@ -45,7 +45,8 @@ fn may_take(tree: &Tree, fixing: &Fixing, set: &NodeSet) -> bool
     set.len() == tree.nodes() && tree.is_satisfied(set).is_ok() && meets(set, fixing)
 }
 
-/// Whether the assignment is feasible and meets the marks, as one that a search begins with has to. Takes no memory.
+/// Whether the assignment is feasible and meets the marks, as one that a search begins with has to.
+/// Takes no memory.
 pub fn is_feasible(exchange: &Exchange, start: &Fixings, sets: &Assignment) -> bool
     requires { AreFixingsOf (trees_of exchange.now) start.now }
     ensures { IsTrue result ↔ (IsFeasible (trees_of exchange.now) (exact_of exchange.now) sets.now

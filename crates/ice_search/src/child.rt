@@ -36,7 +36,8 @@ fn bounded(evaluated: Evaluated) -> Bounded
 }
 
 impl<'a> Workspace<'a> {
-    /// The candidate that promises most, where both of its children are looked at from the multipliers that are kept.
+    /// The candidate that promises most, where both of its children are looked at from the
+    /// multipliers that are kept.
     pub(crate) fn most_promising(
         &mut self,
         candidates: &Candidates,

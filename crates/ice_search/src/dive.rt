@@ -1,4 +1,5 @@
-//! Dives: where the branches are spent, a better assignment may still come up below the part that would be split next.
+//! Dives: where the branches are spent, a better assignment may still come up below the part that
+//! would be split next.
 ghost use Rattle.std.specs.Prelude.{◌≡◌, ◌<◌, ◌⊎◌, length, IfOk, ◌≤ℤ◌};
 ghost use Rattle.ice_defs.specs.Log.{IsFreeNode};
 ghost use Rattle.ice_search_log.specs.Code.{parts_of};
@@ -71,7 +72,8 @@ impl<'a> Workspace<'a> {
         })
     }
 
-    /// Takes over an assignment that is feasible, meets the start and is worth more than the incumbent.
+    /// Takes over an assignment that is feasible, meets the start and is worth more than the
+    /// incumbent.
     pub(crate) fn consider(&self, sets: &Assignment, incumbent: &mut Incumbent)
         requires { IsIncumbentOf self.now.instance incumbent.old.sets incumbent.old.value }
         ensures incumbent { IsIncumbentOf self.now.instance incumbent.new.sets incumbent.new.value }
@@ -120,8 +122,9 @@ impl<'a> Workspace<'a> {
         );
     }
 
-    /// Goes down from the side that is looked at, to the child of the greater bound each time, as long as that is above
-    /// what was found. What comes up on the way is offered to the finds, which may then be of any side.
+    /// Goes down from the side that is looked at, to the child of the greater bound each time, as
+    /// long as that is above what was found. What comes up on the way is offered to the finds,
+    /// which may then be of any side.
     pub(crate) fn dive(&mut self, candidate: Candidate, from: &Multipliers, finds: &mut Incumbent)
         requires from { AreMultipliersOf self.old.instance.exact from.now }
         requires sets { length finds.old.sets ≡ length self.old.instance.trees }

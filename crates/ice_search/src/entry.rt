@@ -89,17 +89,19 @@ pub fn search_from(
     }
 }
 
-/// The best feasible assignment that meets the start, with a log that refutes every greater one. The branches fall by the
-/// log's branch steps.
+/// The best feasible assignment that meets the start, with a log that refutes every greater one.
+/// The branches fall by the log's branch steps.
 ///
-/// `Spent` comes only where all branches were used: then no branch is left, and the log refutes what is above its bound,
-/// which is above the value that was found. `NoMemory` may come at any time, and leaves no more branches than there were.
+/// `Spent` comes only where all branches were used: then no branch is left, and the log refutes
+/// what is above its bound, which is above the value that was found. `NoMemory` may come at any
+/// time, and leaves no more branches than there were.
 ///
-/// Each branch step of a log is earned: both its sides are live, and the bound that one sweep gives of the side that it
-/// splits is above the first assignment's value and no less than the best. The log of a spent search leaves such a step.
+/// Each branch step of a log is earned: both its sides are live, and the bound that one sweep gives
+/// of the side that it splits is above the first assignment's value and no less than the best. The
+/// log of a spent search leaves such a step.
 ///
-/// Weights are at most 100,000,000,000 in size, the first assignment is feasible and meets the start, and there are at most
-/// 50,000 branches.
+/// Weights are at most 100,000,000,000 in size, the first assignment is feasible and meets the
+/// start, and there are at most 50,000 branches.
 pub fn search(
     alloc: Global,
     exchange: &Exchange,

@@ -5,8 +5,8 @@ use crate::workspace::Workspace;
 use ice_bound::Multipliers;
 use ice_relaxation::{Candidate, Candidates};
 
-/// A search with fewer parts than this, two for each branch, takes the first candidate. In a longer one trials of all
-/// candidates cost less than the branches that they save.
+/// A search with fewer parts than this, two for each branch, takes the first candidate. In a longer
+/// one trials of all candidates cost less than the branches that they save.
 const PARTS_BEFORE_TRIALS: usize = 200;
 
 /// A hint for a part.

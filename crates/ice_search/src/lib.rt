@@ -1,5 +1,5 @@
-//! Branch and bound: the best feasible assignment with a log that refutes every greater one, or what was found when the
-//! branches were spent.
+//! Branch and bound: the best feasible assignment with a log that refutes every greater one, or
+//! what was found when the branches were spent.
 #![tactic(auto)]
 
 mod begin;

@@ -11,8 +11,8 @@ use ice_trade::Exchange;
 use ice_tree::{AllWeights, Assignment, Tree};
 use std::marker::Model;
 
-/// What a search is asked: the trees and goods of an exchange, weights, the marks to start from, and a feasible assignment
-/// that meets them.
+/// What a search is asked: the trees and goods of an exchange, weights, the marks to start from,
+/// and a feasible assignment that meets them.
 #[derive(Drop)]
 pub(crate) struct Problem<'a> {
     exchange: &'a Exchange,
@@ -32,7 +32,8 @@ impl<'a> Model for Problem<'a> {
 }
 
 impl<'a> Problem<'a> {
-    /// The weights and the marks are of the exchange's trees, and the first assignment is feasible and meets the marks.
+    /// The weights and the marks are of the exchange's trees, and the first assignment is feasible
+    /// and meets the marks.
     pub(crate) fn new(
         exchange: &'a Exchange,
         weights: &'a AllWeights,

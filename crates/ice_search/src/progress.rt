@@ -20,7 +20,8 @@ use ice_subgradient::Incumbent;
 use std::alloc::{AllocError, Global};
 use std::marker::Model;
 
-/// A search as it goes on: its parts with a hint for each, the best assignment so far, and the open parts.
+/// A search as it goes on: its parts with a hint for each, the best assignment so far, and the open
+/// parts.
 #[derive(Drop)]
 pub(crate) struct Progress<'a> {
     pub(crate) space: Workspace<'a>,
@@ -103,7 +104,8 @@ impl<'a> Progress<'a> {
         self.space.find_node()
     }
 
-    /// Looks for a better assignment below a part that is looked at, where no branch is left. The parts stay.
+    /// Looks for a better assignment below a part that is looked at, where no branch is left. The
+    /// parts stay.
     pub(crate) fn dive(&mut self, alloc: Global, number: u32) -> Result<(), AllocError>
         requires { LooksAt self.old number }
         ensures instance { self.new.instance ≡ self.old.instance }

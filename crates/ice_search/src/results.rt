@@ -22,7 +22,8 @@ pub struct Spent {
     pub found: Assignment,
     /// What they are worth.
     pub value: i128,
-    /// No feasible assignment that meets the start is worth more than this, which is above the value.
+    /// No feasible assignment that meets the start is worth more than this, which is above the
+    /// value.
     pub bound: i128,
     /// It refutes every feasible assignment that meets the start and is worth more than the bound.
     pub log: Log,

@@ -15,8 +15,8 @@ pub(crate) enum Ended {
     Spent { number: u32, node: Candidate },
 }
 
-/// Takes turns until nothing better is left, or no branch: a part of the greatest bound is swept, and then split. Where no
-/// branch is left, dives look once for something better.
+/// Takes turns until nothing better is left, or no branch: a part of the greatest bound is swept,
+/// and then split. Where no branch is left, dives look once for something better.
 pub(crate) fn run(
     alloc: Global,
     progress: &mut Progress,

@@ -10,8 +10,8 @@ use ice_best::Fixings;
 use ice_bound::copy_fixings;
 use ice_search_log::Part;
 
-/// Makes the marks those of the part's side: the start's, and those along the parts above it, of which there are no more
-/// than free nodes at the start.
+/// Makes the marks those of the part's side: the start's, and those along the parts above it, of
+/// which there are no more than free nodes at the start.
 pub(crate) fn put_side(problem: &Problem, parts: &[Part], number: u32, marks: &mut Fixings)
     requires search { IsSearchOf problem.now (parts_of parts.now) }
     requires there { number < length parts.now }

@@ -35,8 +35,8 @@ fn kept_bound(kept: &Kept) -> Bounded
 }
 
 impl<'a> Workspace<'a> {
-    /// The multipliers that one sweep makes of zeros, with the bound at them. The relaxed sets there are offered. The guess
-    /// of the outcome changes the time alone.
+    /// The multipliers that one sweep makes of zeros, with the bound at them. The relaxed sets
+    /// there are offered. The guess of the outcome changes the time alone.
     pub(crate) fn sweep(&mut self, guess: &Multipliers, incumbent: &mut Incumbent) -> Bounded
         requires live { IsLive self.old.instance.trees self.old.side }
         requires sets { length incumbent.old.sets ≡ length self.old.instance.trees }
@@ -61,7 +61,8 @@ impl<'a> Workspace<'a> {
         kept_bound(&self.kept)
     }
 
-    /// Offers the relaxed sets. Where the side has no node to be split at, its swept bound is then at most the value.
+    /// Offers the relaxed sets. Where the side has no node to be split at, its swept bound is then
+    /// at most the value.
     pub(crate) fn offer(&self, incumbent: &mut Incumbent)
         requires live { IsLive self.now.instance.trees self.now.side }
         requires sets { length incumbent.old.sets ≡ length self.now.instance.trees }

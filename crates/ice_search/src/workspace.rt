@@ -1,4 +1,5 @@
-//! The workspace of a search: the side that is looked at, with its kept bounds, and the room that sweeps need.
+//! The workspace of a search: the side that is looked at, with its kept bounds, and the room that
+//! sweeps need.
 ghost use Rattle.std.specs.Prelude.{◌≡◌, ◌<◌, length, IfOk, List, Bool};
 ghost use Rattle.ice_defs.specs.Conditions.{AreMultipliersOf};
 ghost use Rattle.ice_search_log.specs.Parts.{side_at};
@@ -14,8 +15,9 @@ use ice_subgradient::Trial;
 use std::alloc::{AllocError, Global};
 use std::marker::Model;
 
-/// The workspace of a search. It is seen as what is asked and the side that is looked at. Only `new` takes memory. What is
-/// large stands in boxes, since a search is handed on several times as it begins.
+/// The workspace of a search. It is seen as what is asked and the side that is looked at. Only
+/// `new` takes memory. What is large stands in boxes, since a search is handed on several times as
+/// it begins.
 #[derive(Drop)]
 pub(crate) struct Workspace<'a> {
     pub(crate) problem: Problem<'a>,
@@ -71,7 +73,8 @@ impl<'a> Workspace<'a> {
         })
     }
 
-    /// Looks at the side of a part: at its multipliers, and where it isn't swept yet at zeros, which a sweep begins with.
+    /// Looks at the side of a part: at its multipliers, and where it isn't swept yet at zeros,
+    /// which a sweep begins with.
     pub(crate) fn look_at(&mut self, parts: &[Part], number: u32)
         requires search { IsSearchOf self.old.instance (parts_of parts.now) }
         requires there { number < length parts.now }

@@ -6,9 +6,9 @@ use Rattle.ice_defs.specs.declared.Mark.{Mark}
 use Rattle.ice_defs.specs.declared.Mark.TheVariants.{Free, Must, Never}
 use Rattle.ice_defs.specs.Set.{NodeSet, has}
 use Rattle.ice_defs.specs.Fixing.{Agrees, mark_of}
-use Rattle.ice_defs.specs.Trade.{Assignment, tree_of, set_of, fixing_of, MeetsAll}
+use Rattle.ice_defs.specs.Trade.{tree_of, set_of, fixing_of, MeetsAll}
 use Rattle.ice_defs.specs.Bound.{IsOpen}
-use Rattle.ice_defs.specs.Steps.{branch, Side, with_mark}
+use Rattle.ice_defs.specs.Steps.{branch, with_mark}
 use Rattle.ice_defs.specs.Log.{IsFreeNode}
 use Rattle.ice_defs.specs.Conditions.{AreFixingsOf}
 use Rattle.ice_bound.proofs.Fixings.{marked_fixings}

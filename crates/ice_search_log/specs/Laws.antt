@@ -8,7 +8,7 @@ use Rattle.ice_defs.specs.Tree.{Tree}
 use Rattle.ice_defs.specs.Set.{NodeSet, Weights}
 use Rattle.ice_defs.specs.Fixing.{mark_of}
 use Rattle.ice_defs.specs.Trade.{Assignment, tree_of, set_of, weights_of, fixing_of, total_units, is_exact, IsCovered, IsFeasible, MeetsAll, total_value, IsBest}
-use Rattle.ice_defs.specs.Bound.{Multipliers, net, IsOpen, IsDead, IsBound}
+use Rattle.ice_defs.specs.Bound.{Multipliers, net, IsOpen, IsBound}
 use Rattle.ice_defs.specs.Steps.{Side, branch, leaf, with_mark, branch_count}
 use Rattle.ice_defs.specs.Log.{HasWrongSign, IsFreeNode, Passes}
 use Rattle.ice_defs.specs.Sweep.{IsLive, Sweeps, all_zero, IsSweptBound, IsEarned, IsEarnedLog, LeavesEarned}

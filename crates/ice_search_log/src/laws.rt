@@ -11,7 +11,8 @@ pub fn splits_cover()
     ensures { SplitCovers }
 {}
 
-/// No feasible assignment that meets the start is worth more than the greatest bound of a part that isn't split.
+/// No feasible assignment that meets the start is worth more than the greatest bound of a part that
+/// isn't split.
 pub fn bests_are_below()
     ensures { BestIsBelow }
 {}
@@ -81,7 +82,8 @@ pub fn searches_are_found()
     ensures { SearchIsFound }
 {}
 
-/// Where the next part has a free node both of whose sides are live, the search is spent at its bound.
+/// Where the next part has a free node both of whose sides are live, the search is spent at its
+/// bound.
 pub fn searches_are_spent()
     ensures { SearchIsSpent }
 {}
@@ -91,7 +93,8 @@ pub fn closed_are_low()
     ensures { ClosedIsLow }
 {}
 
-/// A part but the first has the marks of the part above it, and one more on a node that is free there.
+/// A part but the first has the marks of the part above it, and one more on a node that is free
+/// there.
 pub fn sides_are_below()
     ensures { SideIsBelow }
 {}

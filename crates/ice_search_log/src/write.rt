@@ -34,8 +34,8 @@ fn split_above(part: &Part, value: Option<i128>) -> Option<Split>
     }
 }
 
-/// Appends the log of all parts. Where a value is given, a split part whose bound is at most the value is written as a
-/// leaf, without the parts below it.
+/// Appends the log of all parts. Where a value is given, a split part whose bound is at most the
+/// value is written as a leaf, without the parts below it.
 pub fn write_log(
     alloc: Global,
     parts: &[Part],

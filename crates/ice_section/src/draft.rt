@@ -13,7 +13,8 @@ use ice_terms::Name;
 use ice_tree::{Bounds, Tree, TreeFault, TreeMaker};
 use std::marker::Model;
 
-/// A bidder with the nodes of its tree so far, and for each open node, from the root down, the number of children that are still to come.
+/// A bidder with the nodes of its tree so far, and for each open node, from the root down, the
+/// number of children that are still to come.
 #[derive(Drop)]
 pub(crate) struct Draft {
     name: Name,
@@ -33,7 +34,7 @@ impl Model for Draft {
     ghost invariant = { λ d. length d.to_come.items ≡ length d.maker.draft.opened };
 }
 
-// A node is complete: an open node whose last child it is gets closed, and is complete in turn.
+/// A node is complete: an open node whose last child it is gets closed, and is complete in turn.
 fn complete(maker: &mut TreeMaker, to_come: &mut ArrayVec<u16, 16>) -> Result<(), TreeFault>
     requires { AreKept maker.old.draft.tree maker.old.draft.opened (reverse to_come.old.items) }
     ensures same { maker.new
@@ -84,7 +85,8 @@ impl Draft {
         }
     }
 
-    /// Adds a leaf. Refuses what the maker of the tree refuses: the leaf, or the close of a node that it completes.
+    /// Adds a leaf. Refuses what the maker of the tree refuses: the leaf, or the close of a node
+    /// that it completes.
     pub(crate) fn leaf(&mut self, kind: NodeKind, lo: i64, hi: i64) -> Result<(), TreeFault>
         requires going { IsDrafting self.old }
         requires leaf { IsLeaf kind }
@@ -97,7 +99,8 @@ impl Draft {
         complete(&mut self.maker, &mut self.to_come)
     }
 
-    /// Adds a choose node, whose record states so many children. Refuses what the maker of the tree refuses: the node, or its close where it states no child.
+    /// Adds a choose node, whose record states so many children. Refuses what the maker of the tree
+    /// refuses: the node, or its close where it states no child.
     pub(crate) fn choose(
         &mut self,
         least: u16,
@@ -149,7 +152,8 @@ impl Draft {
         self.to_come.is_empty()
     }
 
-    /// The bidder: its name, its owned amounts, its tree and the bounds of its nodes. It takes no memory.
+    /// The bidder: its name, its owned amounts, its tree and the bounds of its nodes. It takes no
+    /// memory.
     pub(crate) fn finish(self) -> (Name, ArrayVec<u32, 32>, Tree, Bounds)
         requires closed { self.draft.opened ≡ [] }
         requires some { 0 < length self.draft.bidder.tree }

@@ -48,7 +48,8 @@ fn is_exchange_end(line: &Line) -> bool
 }
 
 impl ExchangeFile {
-    // Takes the next record, after so many lines. Want of memory alone ends it: a fault is kept, since a later line at fault comes before it.
+    /// Takes the next record, after so many lines. Want of memory alone ends it: a fault is kept,
+    /// since a later line at fault comes before it.
     fn take(&mut self, lines: u64, next: &Line) -> Result<(), AllocError>
         requires few { lines < 2 ^ 63 }
         requires lawful { IsRecord (record_of next.now) }
@@ -93,7 +94,7 @@ impl ExchangeFile {
         Ok(())
     }
 
-    // What the file gives where it ends after so many lines.
+    /// What the file gives where it ends after so many lines.
     fn finish(self, lines: u64) -> Result<Exchange, LineFileFault>
         requires few { lines < 2 ^ 63 }
         requires numbered { IsNumbered self.reached }
@@ -121,7 +122,11 @@ impl ExchangeFile {
 
 /// The exchange that a file in line form describes.
 ///
-/// It refuses at the least line that is no record (number 50), or at a last line without a newline (51), before every other fault. Then the records are taken in turn, and the first fault counts: a record that may not stand there, owned amounts that are not as many as the goods, or a missing record, at the line after the last (50); a node of a good that is not there (5); and what a maker refuses, with its number, at the line that was read last.
+/// It refuses at the least line that is no record (number 50), or at a last line without a newline
+/// (51), before every other fault. Then the records are taken in turn, and the first fault counts:
+/// a record that may not stand there, owned amounts that are not as many as the goods, or a missing
+/// record, at the line after the last (50); a node of a good that is not there (5); and what a
+/// maker refuses, with its number, at the line that was read last.
 pub fn read_exchange_lines(alloc: Global, bytes: &[u8]) -> Result<Exchange, LineFileFault>
     ensures exchange { IfOk result (λ exchange. IsExchangeOfLines bytes.now (Found exchange)) }
     ensures fault { IfErr result (IsFaultFrom (IsExchangeOfLines bytes.now)) }

@@ -38,7 +38,7 @@ fn is_prices_end(line: &Line) -> bool
     matches!(line, Line::End(EndWord::Prices))
 }
 
-// The prices of a record, where they are for so many goods.
+/// The prices of a record, where they are for so many goods.
 fn prices_of(goods: u8, line: Line) -> Option<Prices>
     ensures { (rest : List Record) → prices_from goods (record_of line ∷ rest)
         ≡ ended_where result rest }
@@ -56,7 +56,7 @@ fn prices_of(goods: u8, line: Line) -> Option<Prices>
 }
 
 impl PricesFile {
-    // The file with one more record, for so many goods.
+    /// The file with one more record, for so many goods.
     fn after(self, goods: u8, next: Line) -> PricesFile
         ensures { (rest : List Record)
             → prices_after goods (prices_so_far self) (record_of next ∷ rest)
@@ -86,7 +86,7 @@ impl PricesFile {
         }
     }
 
-    // What the file gives where it ends here.
+    /// What the file gives where it ends here.
     fn finish(self) -> Result<Prices, LineFileFault>
         ensures prices { IfOk result (λ prices. (goods : ℕ)
             → prices_after goods (prices_so_far self) [] ≡ Found prices) }
@@ -106,7 +106,10 @@ impl PricesFile {
 
 /// The prices that a file in line form states, for so many goods.
 ///
-/// It refuses at the least line that is no record (number 50), or at a last line without a newline (51), before every other fault. Then the first record counts that may not stand there, or prices that are not as many as the goods (50); where a record is missing, its line is the one after the last. It takes no memory.
+/// It refuses at the least line that is no record (number 50), or at a last line without a newline
+/// (51), before every other fault. Then the first record counts that may not stand there, or prices
+/// that are not as many as the goods (50); where a record is missing, its line is the one after the
+/// last. It takes no memory.
 pub fn read_prices_lines(bytes: &[u8], goods: u8) -> Result<Prices, LineFileFault>
     ensures prices { IfOk result (λ prices. IsPricesOfLines goods bytes.now (Found prices)) }
     ensures fault { IfErr result (λ fault. IsFaultFrom (IsPricesOfLines goods bytes.now) fault

@@ -22,7 +22,8 @@ use ice_trade::{Exchange, ExchangeMaker};
 use std::alloc::{AllocError, Global};
 use std::marker::Model;
 
-/// The section of a journal or file that describes its exchange, as far as its records were taken. After a refusal it takes no more: what it then answers is not said.
+/// The section of a journal or file that describes its exchange, as far as its records were taken.
+/// After a refusal it takes no more: what it then answers is not said.
 pub struct Section {
     alloc: Global,
     maker: Option<ExchangeMaker>,
@@ -100,7 +101,7 @@ fn copy_of(own: &ArrayVec<u32, 32>) -> ArrayVec<u32, 32>
     copy
 }
 
-// Whether a leaf is of a good that isn't there.
+/// Whether a leaf is of a good that isn't there.
 fn names_no_good(kind: NodeKind, goods: u8) -> bool
     ensures { result ≡ names_no_good kind goods }
 {
@@ -122,7 +123,8 @@ impl Section {
         })
     }
 
-    /// Whether the section may end after the records so far: a bidder is there, and no tree is incomplete.
+    /// Whether the section may end after the records so far: a bidder is there, and no tree is
+    /// incomplete.
     pub fn may_end(&self) -> bool
         ensures { result ≡ may_end self.now }
     {
@@ -221,7 +223,11 @@ impl Section {
 
     /// Takes the next record, whose numbers are in the ranges of their fields.
     ///
-    /// It refuses, in this order, where the record may not stand here (`Order`), where the owned amounts of a bidder are not as many as the goods (`Count`), where a node is of a good that is not there (`NoGood`), where the tree's maker refuses a node, or the close of a node with its last child (`Tree`), and where the exchange's maker refuses a good, or a bidder with its whole tree (`Make`). Want of memory comes with the settings alone.
+    /// It refuses, in this order, where the record may not stand here (`Order`), where the owned
+    /// amounts of a bidder are not as many as the goods (`Count`), where a node is of a good that
+    /// is not there (`NoGood`), where the tree's maker refuses a node, or the close of a node with
+    /// its last child (`Tree`), and where the exchange's maker refuses a good, or a bidder with its
+    /// whole tree (`Make`). Want of memory comes with the settings alone.
     pub fn take(&mut self, line: &Line) -> Result<(), SectionFault>
         requires { IsRecord (record_of line.now) }
         ensures taken { OnOk result (take_record self.old (record_of line.now) ≡ Found self.new) }

@@ -1,5 +1,6 @@
-//! Laws of sessions that are run: settlements and rounds, one after another, are what their journals say, and the journals
-//! pass the checker's tests, or stop where the session does. It has no code.
+//! Laws of sessions that are run: settlements and rounds, one after another, are what their
+//! journals say, and the journals pass the checker's tests, or stop where the session does. It has
+//! no code.
 #![tactic(auto)]
 
 ghost use Rattle.ice_session_laws.specs.Laws.{RunBegins, RoundBegins, RoundGoesOn, RoundEnds, RunIsUnended, RoundIsUnended, RunCloses, RoundStops, RoundStaysOpen, RunSpends, RunIsLimited, VerdictMayBeWritten, OpeningMayBeWritten, ClosingMayBeWritten, SpentMayBeWritten, LimitMayBeWritten};
@@ -34,12 +35,14 @@ pub fn round_is_unended()
     ensures { RoundIsUnended }
 {}
 
-/// The journal of a session that closes passes every test, and says a right session, which has the headline.
+/// The journal of a session that closes passes every test, and says a right session, which has the
+/// headline.
 pub fn run_closes()
     ensures { RunCloses }
 {}
 
-/// The journal of a round without a submission may stop: the round has no file, its file is refused, or it can't be read.
+/// The journal of a round without a submission may stop: the round has no file, its file is
+/// refused, or it can't be read.
 pub fn round_stops()
     ensures { RoundStops }
 {}
@@ -49,7 +52,8 @@ pub fn round_stays_open()
     ensures { RoundStaysOpen }
 {}
 
-/// The journal of a session whose search is spent says how far it came, and that all branches are used.
+/// The journal of a session whose search is spent says how far it came, and that all branches are
+/// used.
 pub fn run_spends()
     ensures { RunSpends }
 {}

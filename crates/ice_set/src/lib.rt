@@ -21,7 +21,7 @@ pub struct NodeSet {
 }
 
 impl Model for NodeSet {
-    ghost use Rattle.std.specs.Prelude.{List, Bool, length, refl};
+    ghost use Rattle.std.specs.Prelude.{List, Bool, length};
     ghost use Rattle.ice_set.specs.Words.{bits_of, words_of, ArePacked};
     ghost use Rattle.ice_set.specs.Bits.{length-bits_of};
     ghost use Rattle.ice_set.specs.Packing.{words_of-bits_of};

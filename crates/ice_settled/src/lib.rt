@@ -1,4 +1,5 @@
-//! What a settlement gives: the one that closes a session, one that opens a round, and what is left of one that was halted.
+//! What a settlement gives: the one that closes a session, one that opens a round, and what is left
+//! of one that was halted.
 #![tactic(auto)]
 
 mod settled;

@@ -106,8 +106,8 @@ fn proxy_bid(round: &InRound, bidder: u8, truths: &[Bid], scratch: &mut Scratch)
     bid_of(exchange.bidder_name(bidder), &found.bounds)
 }
 
-/// The bids of all bidders' proxies in this round, in order. Each states the bounds of the least attempt that is accepted
-/// there.
+/// The bids of all bidders' proxies in this round, in order. Each states the bounds of the least
+/// attempt that is accepted there.
 pub fn proxy_bids(alloc: Global, round: &InRound, truths: &[Bid]) -> Result<Vec<Bid>, AllocError>
     requires stands { Stands round.now }
     requires hold { HoldTruths round.now.round.bounds

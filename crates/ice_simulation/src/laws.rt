@@ -11,8 +11,8 @@ pub fn proxy_round_goes_on()
     ensures { ProxyRoundGoesOn }
 {}
 
-/// Behind a round in which all are judged the session is still one of proxies, its bounds hold the truths, and each bid is
-/// accepted.
+/// Behind a round in which all are judged the session is still one of proxies, its bounds hold the
+/// truths, and each bid is accepted.
 pub fn proxy_round_ends()
     ensures { ProxyRoundEnds }
 {}

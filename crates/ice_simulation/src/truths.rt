@@ -13,8 +13,9 @@ use ice_tree::Bounds;
 /// Why bids don't say the true values of an exchange's bidders.
 #[derive(Clone, Copy, PartialEq, Eq, Debug, Drop)]
 pub enum TruthFault {
-    /// The bid at this index is of no bidder, or of one that an earlier bid has named, or it doesn't state one value for
-    /// each node of the bidder's tree, inside its opening bounds, and as both bounds.
+    /// The bid at this index is of no bidder, or of one that an earlier bid has named, or it
+    /// doesn't state one value for each node of the bidder's tree, inside its opening bounds, and
+    /// as both bounds.
     NotTruth { index: u64 },
     /// A bidder has no bid.
     NoTruth,
@@ -115,9 +116,9 @@ fn not_truth(exchange: &Exchange, bids: &[Bid]) -> Option<usize>
     None
 }
 
-/// Why the bids don't say the true values of all bidders: the first bid that states none, or else that a bidder has none.
-/// None exactly where there is one bid of each bidder, in any order, which states one value for each node of its tree,
-/// inside its opening bounds, and as both bounds.
+/// Why the bids don't say the true values of all bidders: the first bid that states none, or else
+/// that a bidder has none. None exactly where there is one bid of each bidder, in any order, which
+/// states one value for each node of its tree, inside its opening bounds, and as both bounds.
 pub fn truth_fault(exchange: &Exchange, bids: &[Bid]) -> Option<TruthFault>
     ensures { option_map fault_of result ≡ truth_fault exchange.now bids.now }
 {

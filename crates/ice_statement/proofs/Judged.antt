@@ -14,14 +14,13 @@ use Rattle.ice_journal_laws.specs.declared.answer.Answer.TheVariants.{Assign, Re
 use Rattle.ice_journal_laws.specs.declared.answer.CheckEnd.{CheckEnd}
 use Rattle.ice_journal_laws.specs.declared.answer.CheckEnd.TheVariants as ending
 use Rattle.ice_journal_laws.specs.Checks.{IsChecked, Checks}
-use Rattle.ice_journal_laws.specs.Answers.{OfJournal, AnswersJournal, AnswersBytes}
+use Rattle.ice_journal_laws.specs.Answers.{AnswersJournal, AnswersBytes}
 use Rattle.ice_journal_laws.specs.Theorems.{HasKind}
 use Rattle.ice_journal_laws.proofs.SessionRight.{checked_is_right}
-use Rattle.ice_statement_laws.specs.Statement.{Own}
 use Rattle.ice_statement.specs.declared.judging.StatementEnd.{StatementEnd}
 use Rattle.ice_statement.specs.declared.judging.StatementEnd.TheVariants.{Grammar, Unended, OtherKind, FailsTest, NoBidder, NoMemory}
 use Rattle.ice_statement.specs.Judging.{is_session, end_at, answer_or, has_bidder, HasStatement, HasNoBidder, MayState, IsEnd, Finds}
-use Rattle.ice_statement.proofs.Gathers.{First, first_of, read_is, has_newline}
+use Rattle.ice_statement.proofs.Gathers.{first_of, read_is, has_newline}
 use Rattle.ice_statement.proofs.Named.{has_own, has_none}
 
 -- ---- the first record

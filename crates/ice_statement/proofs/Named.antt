@@ -1,9 +1,9 @@
 -- A bidder of a closed session journal has something of its own in it, and nobody else has.
-use Rattle.std.proofs.Common.{◌≡◌, ◌∙◌, refl, ap, sym, subst, ℕ, zero, suc, ◌<◌, ℤ, Bool, true, false, List, [], ◌∷◌, ◌++◌, map, length, get_or, append_assoc}
+use Rattle.std.proofs.Common.{◌≡◌, ◌∙◌, refl, ap, sym, ℕ, zero, suc, ℤ, Bool, true, false, List, [], ◌∷◌, ◌++◌, map, length, append_assoc}
 use Rattle.std.specs.Prelude.{if◌then◌else◌, Option, Some, None, slice_get, slice_index_or}
-use Rattle.std.specs.List.{AllByRecursion, flat_map}
+use Rattle.std.specs.List.{flat_map}
 use Rattle.std.specs.Str.{bytes_eq}
-use Rattle.std.proofs.lemmas.Bool.{false≢true, true≢false}
+use Rattle.std.proofs.lemmas.Bool.{false≢true}
 use Rattle.std.proofs.lemmas.Option.{none-some}
 use Rattle.std.proofs.lemmas.List.Concat.{flat_map-cons}
 use Rattle.ice_defs.proofs.Naming.{bytes_eq-same, same-bytes_eq}
@@ -17,15 +17,15 @@ use Rattle.ice_defs.specs.Bounds.{Bounds}
 use Rattle.ice_defs.specs.Exchange.{Good, Bidder, Exchange, names_of, opening_bounds}
 use Rattle.ice_defs.specs.Session.{Going, Payment, Closed, Session}
 use Rattle.ice_defs.specs.Right.{bounds_after_round, IsRightFrom, IsRight}
-use Rattle.ice_journal.specs.Records.{Record, version_1, version_2, session_kind}
+use Rattle.ice_journal.specs.Records.{Record, version_2}
 use Rattle.ice_journal.specs.Records as line
 use Rattle.ice_journal.specs.Nodes.{node_record}
 use Rattle.ice_journal.specs.Plain.{changed, all_zero, goods_in, plain_records, plain}
 use Rattle.ice_section.specs.Section.{good_record}
-use Rattle.ice_section.specs.Described.{bidder_records, section_records}
+use Rattle.ice_section.specs.Described.{bidder_records}
 use Rattle.ice_journal_laws.specs.Theorems.{Says}
 use Rattle.ice_journal_laws.specs.Written.{settlement_records, session_records}
-use Rattle.ice_statement_laws.specs.Statement.{Own, own_going, IsOwn}
+use Rattle.ice_statement_laws.specs.Statement.{Own, own_going}
 use Rattle.ice_statement_laws.specs.Texts.{IsOwnOf}
 use Rattle.ice_statement.specs.Judging.{end_at, answer_or, has_bidder}
 

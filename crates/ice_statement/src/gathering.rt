@@ -1,5 +1,5 @@
 //! What is known of one bidder while the records of a journal are read.
-ghost use Rattle.std.specs.Prelude.{◌≡◌, ◌+◌, ◌-◌, ◌<◌, ◌≤◌, ◌^◌, ◌==◌, ◌&&◌, suc, length};
+ghost use Rattle.std.specs.Prelude.{◌≡◌, ◌+◌, ◌-◌, ◌<◌, ◌≤◌, ◌^◌, ◌==◌};
 ghost use Rattle.std.specs.Str.{bytes_eq};
 ghost use Rattle.ice_journal.specs.Lines.{record_of};
 ghost use Rattle.ice_statement_laws.specs.Gathering.{gathering, gathering_after, with_bidder, with_set};
@@ -19,8 +19,9 @@ pub(crate) enum Slot {
     Nowhere,
 }
 
-/// What is known of the bidder with this name: how many bidders came, and its number among them, if it came; whether the last
-/// bidder or submission is its own; where the sets go, and how many came; its final and its provisional set.
+/// What is known of the bidder with this name: how many bidders came, and its number among them, if
+/// it came; whether the last bidder or submission is its own; where the sets go, and how many came;
+/// its final and its provisional set.
 #[derive(Drop)]
 pub(crate) struct Gathering<'a> {
     name: &'a [u8],

@@ -20,7 +20,8 @@ pub enum StatementEnd {
     Unended { line: u64 },
     /// Every line is a record, and the first is no head of a session journal, or there is no line.
     OtherKind,
-    /// The first failed test of a session journal: its line and its rule. A session that isn't closed fails one.
+    /// The first failed test of a session journal: its line and its rule. A session that isn't
+    /// closed fails one.
     FailsTest { line: u64, rule: Rule },
     /// The journal is closed and passes every test, and no bidder has the name.
     NoBidder,
@@ -119,9 +120,10 @@ fn found(bytes: &[u8], name: &[u8], answer: Answer) -> Result<(), StatementEnd>
 
 /// Judges the bytes of a journal of which the bidder with this name is to have its statement.
 ///
-/// `Grammar` or `Unended` is answered exactly where a line is no record or the last one has no newline, and names the least such
-/// line. Else `OtherKind` is answered exactly where the first record is no head of a session journal. Else `FailsTest` names the
-/// first failed test; a session that isn't closed fails one. Else `NoBidder` is answered exactly where no bidder has the name.
+/// `Grammar` or `Unended` is answered exactly where a line is no record or the last one has no
+/// newline, and names the least such line. Else `OtherKind` is answered exactly where the first
+/// record is no head of a session journal. Else `FailsTest` names the first failed test; a session
+/// that isn't closed fails one. Else `NoBidder` is answered exactly where no bidder has the name.
 /// `NoMemory` is answered where memory runs out.
 pub fn judge(alloc: Global, bytes: &[u8], name: &[u8]) -> Result<(), StatementEnd>
     ensures { MayState bytes.now name.now result }

@@ -99,7 +99,8 @@ pub(crate) fn put_added<K: Sink>(
     }
 }
 
-/// Puts what all records of the bytes of a journal add to the statement of the bidder with this name. It takes no memory.
+/// Puts what all records of the bytes of a journal add to the statement of the bidder with this
+/// name. It takes no memory.
 fn put_gathered<K: Sink>(bytes: &[u8], name: &[u8], out: &mut K) -> Result<(), SinkFault>
     ensures { (journal : List Record) → IsJournal bytes.now journal
         → IsPut (bytes_of_lines (gathered (gathering name.now) journal)) result
@@ -172,7 +173,8 @@ fn put_lines<K: Sink>(bytes: &[u8], name: &[u8], out: &mut K) -> Result<(), Sink
     put_behind_name(bytes, name, out)
 }
 
-/// Puts the statement of the bidder with this name, where the bytes are a closed journal that passes every test. It takes no memory.
+/// Puts the statement of the bidder with this name, where the bytes are a closed journal that
+/// passes every test. It takes no memory.
 pub fn put_statement<K: Sink>(bytes: &[u8], name: &[u8], out: &mut K) -> Result<(), SinkFault>
     ensures { (journal : List Record) (own : Own) → IsJournal bytes.now journal → IsOwnOf journal name.now own
         → IsPut (statement_of (published journal) own) result

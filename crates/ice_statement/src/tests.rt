@@ -6,7 +6,8 @@ use ice_edge::{MemSink, SinkFault};
 use std::alloc::{AllocError, Global};
 use std::test::Fail;
 
-/// A session of a seller of a unit at 15 and a buyer of it at 10 to 20, which closes behind one bid.
+/// A session of a seller of a unit at 15 and a buyer of it at 10 to 20, which closes behind one
+/// bid.
 const CLOSED: [&str; 49] = [
     "ice 2 session",
     "settings 60 0 100 2 5 200",

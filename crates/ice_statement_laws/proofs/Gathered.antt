@@ -23,7 +23,7 @@ use Rattle.ice_defs.specs.Trade.{Assignment, IsFeasible}
 use Rattle.ice_defs.specs.Bounds.{Bounds}
 use Rattle.ice_defs.specs.Right.{bounds_after_round, IsRightFrom, IsRight}
 use Rattle.ice_defs.specs.Session.{Proved, Settlement, Going, Payment, Closed, Session}
-use Rattle.ice_journal.specs.Records.{Record, Version, version_1, version_2, Kind, closed_end, session_kind}
+use Rattle.ice_journal.specs.Records.{Record, version_2, closed_end}
 use Rattle.ice_journal.specs.Records as line
 use Rattle.ice_journal.specs.Nodes.{node_record}
 use Rattle.ice_journal.specs.Plain.{changed, all_zero, goods_in, plain_records, plain}

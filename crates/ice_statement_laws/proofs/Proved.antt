@@ -1,7 +1,5 @@
 -- The laws, with what other crates prove put in.
-use Rattle.std.proofs.Common.{◌≡◌, ℕ, List}
 use Rattle.std.specs.Prelude.{Ok}
-use Rattle.ice_journal.specs.Records.{Record}
 use Rattle.ice_journal.proofs.OneSpelling.{one_spelling}
 use Rattle.ice_journal.proofs.Journals.{record_line, one_answer as bytes_tell}
 use Rattle.ice_section.proofs.Describing.{described_are_taken, described_are_records}

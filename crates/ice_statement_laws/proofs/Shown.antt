@@ -16,7 +16,7 @@ use Rattle.ice_defs.specs.Rows.{Row}
 use Rattle.ice_defs.specs.Round.{Judged}
 use Rattle.ice_defs.specs.Exchange.{Good, Bidder, Exchange}
 use Rattle.ice_defs.specs.Session.{Proved, Settlement, Going, Payment, Closed, Session}
-use Rattle.ice_journal.specs.Records.{Record, Version, version_1, version_2, Kind, closed_end}
+use Rattle.ice_journal.specs.Records.{Record, version_2, closed_end}
 use Rattle.ice_journal.specs.Records as line
 use Rattle.ice_journal.specs.Nodes.{node_record}
 use Rattle.ice_journal.specs.Plain.{changed, all_zero, goods_in, plain_records, plain}

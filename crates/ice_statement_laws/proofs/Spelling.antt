@@ -9,7 +9,7 @@ use Rattle.std.proofs.lemmas.List.Elements.{Contains-append_right}
 use Rattle.ice_defs.specs.Name.{is_name_byte}
 use Rattle.ice_defs.specs.declared.Verdict.TheVariants as verdict
 use Rattle.ice_defs.specs.Steps.{branch, leaf, dead}
-use Rattle.ice_journal.specs.Records.{Record, Version, version_1, version_2, Kind, EndWord, assign_end, exchange_end, prices_end, regret_end, closed_end, open_end, spent_end, limit_end}
+use Rattle.ice_journal.specs.Records.{Record, EndWord, assign_end, exchange_end, prices_end, regret_end, closed_end, open_end, spent_end, limit_end}
 use Rattle.ice_journal.specs.Records as line
 use Rattle.ice_journal.specs.Ranges.{IsName, IsRecord}
 use Rattle.ice_journal.specs.Spelling.{bit_byte, bits, text_of}

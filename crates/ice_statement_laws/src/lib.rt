@@ -4,7 +4,8 @@
 ghost use Rattle.ice_statement_laws.specs.Laws.{RightPartsPass, StatementsPass, AuditIsOne, AnswerIsOne, AuditSaysYes, StatementHidesOthers, YesIsRight, StatementIsOne};
 ghost use Rattle.ice_statement_laws.specs.Gathering.{GatheredIsStatement, LinesAreOne};
 
-/// Two closed journals that agree in what is published and in what is one bidder's own give it the same bytes.
+/// Two closed journals that agree in what is published and in what is one bidder's own give it the
+/// same bytes.
 #[tactic(auto, using(crate::proofs::Accepting::statement_hides_others))]
 pub fn statement_hides_others()
     ensures { StatementHidesOthers }
@@ -52,7 +53,8 @@ pub fn answer_is_one()
     ensures { AnswerIsOne }
 {}
 
-/// To every text that a statement has the audit says yes, with the bidder's payment, or answers want of memory.
+/// To every text that a statement has the audit says yes, with the bidder's payment, or answers
+/// want of memory.
 #[tactic(auto, using(crate::proofs::Proved::audit_says_yes))]
 pub fn audit_says_yes()
     ensures { AuditSaysYes }

@@ -4,14 +4,15 @@ ghost use Rattle.std.specs.Prelude.{◌<◌};
 /// Steps are counted in so many parts of a 64th, so that small ones aren't lost in rounding.
 const PARTS: i64 = 64;
 
-/// The greatest size of a multiplier after a step, in 64ths. No price of a unit comes near it, and all that is worked out
-/// from it stays far from the limits of its type.
+/// The greatest size of a multiplier after a step, in 64ths. No price of a unit comes near it, and
+/// all that is worked out from it stays far from the limits of its type.
 pub(crate) const FARTHEST: i64 = 1 << 44;
 
 /// A step follows the excess with this weight ..
 const EXCESS_WEIGHT: i64 = 16;
 
-/// .. and goes on along the last direction with this one, in 16ths: most of the way, since the excess jumps to and fro.
+/// .. and goes on along the last direction with this one, in 16ths: most of the way, since the
+/// excess jumps to and fro.
 const MOMENTUM: i64 = 12;
 
 /// No direction goes farther than this in a good, so that its square can be added up.
@@ -47,7 +48,8 @@ pub(crate) struct Course {
 /// What a turn gives.
 #[derive(Clone, Copy)]
 pub(crate) struct Turn {
-    /// No good has an excess that its multiplier could move against: no multipliers make the sum less.
+    /// No good has an excess that its multiplier could move against: no multipliers make the sum
+    /// less.
     pub(crate) is_least: bool,
     /// The square of the length of the direction.
     pub(crate) square: i128,
@@ -96,7 +98,8 @@ impl Course {
         }
     }
 
-    /// Turns the direction toward the excess of each good. A multiplier that can't fall isn't pushed down.
+    /// Turns the direction toward the excess of each good. A multiplier that can't fall isn't
+    /// pushed down.
     pub(crate) fn turn(&mut self, goods: &Goods, excess: &[i64; 32]) -> Turn {
         let mut turn = Turn {
             is_least: true,

@@ -60,7 +60,8 @@ impl Descent {
         self.is_over
     }
 
-    /// The multipliers to look at: those where an assignment above the value came up, and those of the least sum at the end.
+    /// The multipliers to look at: those where an assignment above the value came up, and those of
+    /// the least sum at the end.
     pub(crate) fn sought(&self) -> &[i64; 32] {
         &self.sought
     }
@@ -75,7 +76,8 @@ impl Descent {
         self.least.total
     }
 
-    /// Looks here at first, and goes on until an assignment above the value comes up, or to the end.
+    /// Looks here at first, and goes on until an assignment above the value comes up, or to the
+    /// end.
     pub(crate) fn go(&mut self, relaxation: &mut Relaxation, value: i128)
         ensures { relaxation.new ≡ relaxation.old }
     {
@@ -140,7 +142,8 @@ impl Descent {
         is_more
     }
 
-    /// Keeps a lower sum. Where none came up for long, the level is raised, and the steps begin anew at the lowest one.
+    /// Keeps a lower sum. Where none came up for long, the level is raised, and the steps begin
+    /// anew at the lowest one.
     fn settle(&mut self) {
         let fall = self.least.total.saturating_sub(self.here.total);
         let is_falling = self.level.watch(fall);

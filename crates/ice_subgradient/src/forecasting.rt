@@ -68,7 +68,8 @@ fn is_least(relaxation: &mut Relaxation, profile: &mut Profile, number: i64) -> 
     before > here && after >= here
 }
 
-/// The steps from 0 in a direction after which the sum falls no more. They are few where the guess is near.
+/// The steps from 0 in a direction after which the sum falls no more. They are few where the guess
+/// is near.
 fn foot(relaxation: &mut Relaxation, profile: &mut Profile, direction: i64, guess: i64) -> i64
     ensures { relaxation.new ≡ relaxation.old }
 {
@@ -113,8 +114,9 @@ fn lowest(relaxation: &mut Relaxation, profile: &mut Profile, exact: bool, guess
     foot(relaxation, profile, -1, guess.wrapping_neg()).wrapping_neg()
 }
 
-/// What a sweep will make of zeros, as far as the relaxation shows, in short time where it is near to the guess. Takes no
-/// memory. Time: some times working out the relaxation of those trees that have the good, for each good.
+/// What a sweep will make of zeros, as far as the relaxation shows, in short time where it is near
+/// to the guess. Takes no memory. Time: some times working out the relaxation of those trees that
+/// have the good, for each good.
 pub fn forecast(relaxation: &mut Relaxation, kept: &Kept<'_>, guess: &Multipliers) -> Multipliers
     ensures multipliers { AreMultipliersOf kept.now.exact result }
     ensures relaxation { relaxation.new ≡ relaxation.old }

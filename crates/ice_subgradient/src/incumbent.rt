@@ -31,7 +31,8 @@ fn are_covered(kept: &Kept<'_>, units: &TotalUnits) -> bool
 }
 
 impl Incumbent {
-    /// Takes over the relaxed sets where they are feasible and worth more than the value. Takes no memory.
+    /// Takes over the relaxed sets where they are feasible and worth more than the value. Takes no
+    /// memory.
     pub fn offer(&mut self, kept: &Kept<'_>)
         requires live { IsLive kept.now.trees kept.now.marks }
         requires sets { length self.old.sets ≡ length kept.now.trees }

@@ -6,10 +6,12 @@ const PATIENCE: u8 = 8;
 /// A fall is a real one where it is more than this part of the way to the level.
 const REAL_FALL: i128 = 16;
 
-/// The level is aimed at so far below the sum that closes the side: aimed at that sum itself, sides stay one 64th above it.
+/// The level is aimed at so far below the sum that closes the side: aimed at that sum itself, sides
+/// stay one 64th above it.
 const AIM: i128 = 64;
 
-/// Where the level is nearer than this to the least sum, in 64ths, the steps end: less would hardly lower a bound.
+/// Where the level is nearer than this to the least sum, in 64ths, the steps end: less would hardly
+/// lower a bound.
 const NEAREST: i128 = 16;
 
 /// No step is reckoned from a gap above this.
@@ -31,7 +33,8 @@ impl Level {
         }
     }
 
-    /// Aims at most a little below the sum that closes the side. False where the least sum closes it, or is too near.
+    /// Aims at most a little below the sum that closes the side. False where the least sum closes
+    /// it, or is too near.
     pub(crate) fn aim(&mut self, least: i128, value: i128) -> bool {
         let closing = value.saturating_mul(64).saturating_add(63);
         self.depth = self
@@ -40,15 +43,16 @@ impl Level {
         closing < least && NEAREST <= self.depth
     }
 
-    /// The rate of a step from a sum toward the level, for a direction of this square, in 2^30ths of a part. No
-    /// direction has the rate 0.
+    /// The rate of a step from a sum toward the level, for a direction of this square, in 2^30ths
+    /// of a part. No direction has the rate 0.
     pub(crate) fn rate(&self, total: i128, least: i128, square: i128) -> i128 {
         let gap = total.saturating_sub(least).saturating_add(self.depth);
         let reach = gap.clamp(0, WIDEST) * (1 << 40);
         reach.checked_div(square).unwrap_or(0)
     }
 
-    /// Takes notice of a sum that is so far below the least one before. False where the level has to be raised.
+    /// Takes notice of a sum that is so far below the least one before. False where the level has
+    /// to be raised.
     pub(crate) fn watch(&mut self, fall: i128) -> bool {
         if fall > self.depth / REAL_FALL {
             self.waited = 0;

@@ -1,5 +1,6 @@
-//! Heuristics of a search: multipliers that make the bound of a side small, the assignments that come up on the way, and
-//! trials of nodes to split a side at. What they achieve is measured and not proved; what they answer is lawful.
+//! Heuristics of a search: multipliers that make the bound of a side small, the assignments that
+//! come up on the way, and trials of nodes to split a side at. What they achieve is measured and
+//! not proved; what they answer is lawful.
 #![tactic(auto)]
 
 mod course;

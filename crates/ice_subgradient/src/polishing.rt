@@ -37,7 +37,8 @@ impl Evaluated {
     }
 }
 
-/// A number that the multiplier of a good may have: near to this one, and 0 or more unless the good is exact.
+/// A number that the multiplier of a good may have: near to this one, and 0 or more unless the good
+/// is exact.
 fn allowed(number: i64, exact: bool) -> i64
     ensures low { neg_ℤ (pos (2 ^ 44)) ≤ℤ result }
     ensures high { result ≤ℤ pos (2 ^ 44) }
@@ -78,7 +79,8 @@ pub(crate) fn goods_of(kept: &Kept<'_>) -> Goods {
     Goods { count, exact }
 }
 
-/// Looks at what is kept: the relaxed sets are offered to the incumbent. The answer is the sum of the greatest nets.
+/// Looks at what is kept: the relaxed sets are offered to the incumbent. The answer is the sum of
+/// the greatest nets.
 fn look(kept: &Kept<'_>, incumbent: &mut Incumbent) -> i128
     requires live { IsLive kept.now.trees kept.now.marks }
     requires sets { length incumbent.old.sets ≡ length kept.now.trees }
@@ -126,14 +128,16 @@ fn go_on(kept: &mut Kept<'_>, incumbent: &mut Incumbent, least: &mut Evaluated, 
     least.lower(&m, total);
 }
 
-/// Looks for multipliers at which the sum of the greatest nets is small, from these on and in at most so many steps. Where
-/// the relaxation shows a feasible assignment that is worth more than the incumbent, it is offered, and so are the relaxed
-/// sets at the multipliers that are kept. The answer is the least sum that was looked at, with its multipliers, and no more
-/// than the sum at those that were kept; what multipliers are kept afterwards does not matter.
+/// Looks for multipliers at which the sum of the greatest nets is small, from these on and in at
+/// most so many steps. Where the relaxation shows a feasible assignment that is worth more than the
+/// incumbent, it is offered, and so are the relaxed sets at the multipliers that are kept. The
+/// answer is the least sum that was looked at, with its multipliers, and no more than the sum at
+/// those that were kept; what multipliers are kept afterwards does not matter.
 ///
-/// Every bidder has a satisfied set that meets its fixing, and the relaxation should be that of the same side: how small
-/// the sum gets rests on it, and nothing else does. Takes no memory. Time: each step works out the relaxation once; the
-/// beginning, the end and each assignment that comes up take one pass over each tree.
+/// Every bidder has a satisfied set that meets its fixing, and the relaxation should be that of the
+/// same side: how small the sum gets rests on it, and nothing else does. Takes no memory. Time:
+/// each step works out the relaxation once; the beginning, the end and each assignment that comes
+/// up take one pass over each tree.
 pub fn polish(
     kept: &mut Kept<'_>,
     incumbent: &mut Incumbent,
@@ -161,8 +165,9 @@ pub fn polish(
     least
 }
 
-/// What `polish` does, where a trial has taken the steps: looks where it looked. What multipliers are kept afterwards does
-/// not matter. Takes no memory. Time: one pass over each tree at the beginning and for each look.
+/// What `polish` does, where a trial has taken the steps: looks where it looked. What multipliers
+/// are kept afterwards does not matter. Takes no memory. Time: one pass over each tree at the
+/// beginning and for each look.
 pub fn repeat(kept: &mut Kept<'_>, incumbent: &mut Incumbent, trace: &Trace) -> Evaluated
     requires live { IsLive kept.old.trees kept.old.marks }
     requires sets { length incumbent.old.sets ≡ length kept.old.trees }

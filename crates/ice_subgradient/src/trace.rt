@@ -8,8 +8,8 @@ use ice_relaxation::{Candidates, Relaxation};
 /// After so many assignments that came up, a descent is taken as it is.
 const MOST_FINDS: usize = 4;
 
-/// What a descent came to: the numbers of the multipliers where assignments came up, in order, and of those of the least sum
-/// at the end; that sum; and nodes to split the side at.
+/// What a descent came to: the numbers of the multipliers where assignments came up, in order, and
+/// of those of the least sum at the end; that sum; and nodes to split the side at.
 #[derive(Drop)]
 pub struct Trace {
     looks: [[i64; 32]; MOST_FINDS + 1],

@@ -11,7 +11,8 @@ use ice_bound::{Kept, NetSum};
 use ice_relaxation::{Candidate, Candidates, Relaxation, pick};
 use ice_tree::{AllWeights, Tree};
 
-/// A child whose sum doesn't fall counts as if it fell by so many 64ths, so that the other child's fall still counts.
+/// A child whose sum doesn't fall counts as if it fell by so many 64ths, so that the other child's
+/// fall still counts.
 const LEAST_FALL: i128 = 8;
 
 /// A candidate, with what a descent at each of its children came to.
@@ -163,8 +164,9 @@ fn try_candidate(
     })
 }
 
-/// The candidate that promises most where both of its children are looked at in so many steps: of several the first.
-/// None where there is no candidate. Where several were tried, its trial is kept. Takes no memory.
+/// The candidate that promises most where both of its children are looked at in so many steps: of
+/// several the first. None where there is no candidate. Where several were tried, its trial is
+/// kept. Takes no memory.
 pub fn most_promising(
     candidates: &Candidates,
     trees: &[Tree],

@@ -6,8 +6,9 @@ use crate::name::Name;
 use arrayvec::ArrayVec;
 use std::marker::Model;
 
-/// A bid of a round: the name of a bidder, and at most 200 lower and 200 upper values, each at most 1,000,000,000 in
-/// size. Whether the name is a bidder's, and whether the values count the nodes of its tree, is judged later.
+/// A bid of a round: the name of a bidder, and at most 200 lower and 200 upper values, each at most
+/// 1,000,000,000 in size. Whether the name is a bidder's, and whether the values count the nodes of
+/// its tree, is judged later.
 #[derive(Drop)]
 pub struct Bid {
     bidder: Name,

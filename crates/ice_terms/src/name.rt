@@ -1,7 +1,7 @@
 //! Names of goods and bidders.
-ghost use Rattle.std.specs.Prelude.{◌≡◌, ℕ, ◌<◌, ◌≤◌, IsTrue, length};
+ghost use Rattle.std.specs.Prelude.{◌≡◌, ℕ, ◌<◌};
 ghost use Rattle.std.specs.List.{list_all};
-ghost use Rattle.ice_defs.specs.Name.{is_name, is_name_byte};
+ghost use Rattle.ice_defs.specs.Name.{is_name_byte};
 ghost use Rattle.ice_terms.specs.Terms.{IsName};
 ghost use Rattle.ice_terms.specs.Made.{IsMade};
 

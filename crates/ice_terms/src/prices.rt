@@ -1,7 +1,6 @@
 //! Prices of goods.
-ghost use Rattle.std.specs.Prelude.{◌≡◌, ℕ, ◌<◌, ◌≤◌, length, slice_index_or, ℤ, pos, IfSome, IfNone};
-ghost use Rattle.ice_terms.specs.Terms.{ArePriceTerms, is_numerator};
-ghost use Rattle.std.specs.List.{list_all};
+ghost use Rattle.std.specs.Prelude.{◌≡◌, ◌<◌, length, pos, IfSome, IfNone};
+ghost use Rattle.ice_terms.specs.Terms.{ArePriceTerms};
 ghost use Rattle.ice_defs.specs.Prices as exchange;
 
 use arrayvec::ArrayVec;
@@ -28,7 +27,8 @@ impl Model for Prices {
 }
 
 impl Prices {
-    /// The prices with this denominator and these numerators, and None exactly where they are outside their limits.
+    /// The prices with this denominator and these numerators, and None exactly where they are
+    /// outside their limits.
     pub fn new(den: i64, nums: &[i128]) -> Option<Prices>
         ensures some { IfSome result (λ p. ArePriceTerms p × (pos p.den ≡ den) × (p.nums ≡ nums.now)) }
         ensures none { IfNone result ((p : exchange.Prices) → ArePriceTerms p → pos p.den ≡ den → p.nums ≡ nums.now → ⊥) }

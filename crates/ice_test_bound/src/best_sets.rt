@@ -38,8 +38,8 @@ fn three_leaves(least: u16, most: u16) -> Result<Tree, TreeFault> {
     Ok(tree)
 }
 
-/// A root over one to three children, of which the first two may be choose nodes over one or two leaves each: at most
-/// 8 nodes. The intervals are drawn too.
+/// A root over one to three children, of which the first two may be choose nodes over one or two
+/// leaves each: at most 8 nodes. The intervals are drawn too.
 fn drawn_tree(draw: &mut Draw) -> Result<Tree, TreeFault> {
     let mut maker = TreeMaker::new(1);
     let children = 1 + draw.below(3);

@@ -1,5 +1,5 @@
-//! Tests of best sets, bounds, sweeps, logs and heuristics. They stand apart so that the crates they try are not proved again
-//! with them.
+//! Tests of best sets, bounds, sweeps, logs and heuristics. They stand apart so that the crates
+//! they try are not proved again with them.
 #![tactic(auto)]
 
 #[cfg(test)]

@@ -131,7 +131,8 @@ fn a_negative_price_of_an_exact_good(rt: HostRuntime) -> Result<(), Fail> {
     Ok(())
 }
 
-/// The sum of the greatest nets of a seller who asks for this and a buyer who offers that, at a price in 64ths.
+/// The sum of the greatest nets of a seller who asks for this and a buyer who offers that, at a
+/// price in 64ths.
 fn sum_at(asked: i64, offered: i64, price: i64) -> i64 {
     let bought = offered.wrapping_mul(64).wrapping_sub(price);
     let sold = price.wrapping_sub(asked.wrapping_mul(64));

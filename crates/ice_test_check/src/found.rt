@@ -25,5 +25,6 @@ impl Found {
     }
 }
 
-/// A change of a journal: the line from 1, or 0 for none, what stands in its place, and what is then found.
+/// A change of a journal: the line from 1, or 0 for none, what stands in its place, and what is
+/// then found.
 pub type Change = (usize, &'static str, Found);

@@ -143,8 +143,8 @@ fn cut_journals_are_short(rt: HostRuntime) -> Result<(), Fail> {
     Ok(())
 }
 
-/// A journal of a buyer of one of 199 units, both of whose logs branch at each of its 200 nodes in turn; before the first
-/// of their 201 leaves stands this record.
+/// A journal of a buyer of one of 199 units, both of whose logs branch at each of its 200 nodes in
+/// turn; before the first of their 201 leaves stands this record.
 fn deep_journal(alloc: Global, more: &str) -> Result<String, AllocError> {
     let mut text = String::from_str(
         alloc,

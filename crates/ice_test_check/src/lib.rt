@@ -1,5 +1,5 @@
-//! Tests of the checker: whole journals, and each with one of its lines changed. They stand apart so that the checker is
-//! not proved again with them.
+//! Tests of the checker: whole journals, and each with one of its lines changed. They stand apart
+//! so that the checker is not proved again with them.
 #![tactic(auto)]
 
 #[cfg(test)]

@@ -100,8 +100,8 @@ fn cut_bytes_are_answered(rt: HostRuntime) -> Result<(), Fail> {
     Ok(())
 }
 
-/// A line that is no record is a fault as soon as it ends, and no later one takes its place; so is one that is longer than any
-/// record.
+/// A line that is no record is a fault as soon as it ends, and no later one takes its place; so is
+/// one that is longer than any record.
 #[test]
 fn lines_at_fault_are_answered(rt: HostRuntime) -> Result<(), Fail> {
     let alloc = rt.alloc();

@@ -2,7 +2,8 @@
 use crate::found::{Change, Found};
 use ice_check::Rule;
 
-/// A session of a seller of a unit at 10 and a buyer of it at 20 to 30, which closes at its first settlement.
+/// A session of a seller of a unit at 10 and a buyer of it at 20 to 30, which closes at its first
+/// settlement.
 pub const SESSION: [&str; 29] = [
     "ice 1 session",
     "settings 50 0 100 1 5 200",
@@ -114,8 +115,8 @@ pub const NEAR_SESSION_CHANGES: [Change; 3] = [
     (12, "leaf 640\n", Found::No(12, Rule::Order)),
 ];
 
-/// A session whose core is empty: each of three bidders owns a unit, which two of them may trade at 10, and none of them is
-/// missed.
+/// A session whose core is empty: each of three bidders owns a unit, which two of them may trade at
+/// 10, and none of them is missed.
 pub const CORE: [&str; 67] = [
     "ice 1 session",
     "settings 50 0 100 1 5 200",

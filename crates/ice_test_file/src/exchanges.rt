@@ -221,13 +221,13 @@ const NODES_FAULTS: [Change; 12] = [
     ),
 ];
 
-// The file with a part of it changed.
+/// The file with a part of it changed.
 fn changed(alloc: Global, old: &str, new: &str) -> Result<String, Fail> {
     let (before, after) = BASE.split_once(old).ok_or("no such part")?;
     Ok(format!(in alloc; "{before}{new}{after}")?)
 }
 
-// The first fault of a file.
+/// The first fault of a file.
 fn fault_of(alloc: Global, text: &str) -> Result<ReadFault, Fail> {
     Ok(
         read_exchange(alloc, text.as_bytes())
@@ -245,7 +245,7 @@ fn accepted(rt: HostRuntime) -> Result<(), Fail> {
     Ok(())
 }
 
-// Each change is refused with its number at its place.
+/// Each change is refused with its number at its place.
 fn check_faults(rt: &impl Abort, alloc: Global, changes: &[Change]) -> Result<(), Fail> {
     for (old, new, number, place) in changes {
         let text = changed(alloc, old, new)?;
@@ -291,7 +291,7 @@ fn nodes(rt: HostRuntime) -> Result<(), Fail> {
     check_faults(&rt, rt.alloc(), &NODES_FAULTS)
 }
 
-// The file with these values in the place of its bidders.
+/// The file with these values in the place of its bidders.
 fn with_bidders(alloc: Global, bidders: &str) -> Result<String, Fail> {
     let (before, _) = BASE.split_once(BIDDERS).ok_or("the bidders")?;
     Ok(format!(in alloc; "{before}[{bidders}]}}")?)

@@ -71,7 +71,7 @@ const READ_FAULTS: [(&str, &str); 5] = [
     ),
 ];
 
-// The first fault of a round file.
+/// The first fault of a round file.
 fn fault_of(alloc: Global, file: &str) -> Result<ReadFault, Fail> {
     Ok(read_round(alloc, file.as_bytes()).err().ok_or("no fault")?)
 }

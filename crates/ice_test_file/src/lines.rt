@@ -4,7 +4,7 @@ use ice_section::{LineFileFault, Section, read_exchange_lines, read_prices_lines
 use std::alloc::Global;
 use std::test::Fail;
 
-// The number and the line of a fault.
+/// The number and the line of a fault.
 fn numbers(fault: LineFileFault) -> (u8, u64) {
     match fault {
         LineFileFault::Fault { cause, line } => (cause.number().unwrap_or(0), line),
@@ -12,7 +12,7 @@ fn numbers(fault: LineFileFault) -> (u8, u64) {
     }
 }
 
-// The number and the line of the fault of an exchange file.
+/// The number and the line of the fault of an exchange file.
 fn exchange_fault(alloc: Global, text: &str) -> Option<(u8, u64)> {
     match read_exchange_lines(alloc, text.as_bytes()) {
         Ok(_) => None,

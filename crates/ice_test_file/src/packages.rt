@@ -1,4 +1,5 @@
-//! Flat bids: what trades are worth in their trees, by all sets of the trees' nodes, and how many packages a tree takes.
+//! Flat bids: what trades are worth in their trees, by all sets of the trees' nodes, and how many
+//! packages a tree takes.
 use ice_tree::{Bounds, NodeSet, Tree, Units};
 use ice_xor::{TranslateFault, read_flat, translate};
 use std::alloc::Global;
@@ -20,8 +21,8 @@ const WORTHS: [(&str, [i64; 2], Option<i64>); 8] = [
     ("or", [-1, 5], None),
 ];
 
-/// How many packages, their member, and the number of the refusal, where there is one: 99 packages of one good have 199
-/// nodes.
+/// How many packages, their member, and the number of the refusal, where there is one: 99 packages
+/// of one good have 199 nodes.
 const MANY: [(u16, &str, Option<u8>); 3] = [
     (99, "or", None),
     (200, "or", Some(23)),
@@ -40,7 +41,8 @@ fn fits(units: &Units, trade: [i64; 2]) -> bool {
     units.get(0) <= trade[0] && units.get(1) <= trade[1]
 }
 
-/// The value of the set of those of six nodes whose bits are set, where the set is satisfied and fits the trade.
+/// The value of the set of those of six nodes whose bits are set, where the set is satisfied and
+/// fits the trade.
 fn value_of(tree: &Tree, bounds: &Bounds, bits: u64, trade: [i64; 2]) -> Option<i64> {
     let mut set = NodeSet::empty(6);
     for node in 0..6 {

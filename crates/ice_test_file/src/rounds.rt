@@ -89,7 +89,7 @@ const FAULTS: [(&str, u8, &str); 22] = [
     ),
 ];
 
-// The first fault of a file.
+/// The first fault of a file.
 fn fault_of(alloc: Global, text: &str) -> Result<ReadFault, Fail> {
     Ok(read_round(alloc, text.as_bytes()).err().ok_or("no fault")?)
 }
@@ -104,7 +104,7 @@ fn faults(rt: HostRuntime) -> Result<(), Fail> {
     Ok(())
 }
 
-// A part of a text so many times, with commas between.
+/// A part of a text so many times, with commas between.
 fn repeated(alloc: Global, part: &str, times: u16) -> Result<String, Fail> {
     let mut text = String::new(alloc);
     for time in 0..times {
@@ -116,7 +116,7 @@ fn repeated(alloc: Global, part: &str, times: u16) -> Result<String, Fail> {
     Ok(text)
 }
 
-// How many of these bids are read.
+/// How many of these bids are read.
 fn count(alloc: Global, bids: &str) -> Result<usize, Fail> {
     let text = format!(in alloc; "{{\"bids\":[{bids}]}}")?;
     Ok(read_round(alloc, text.as_bytes())?.len())

@@ -8,7 +8,7 @@ use ice_trade::ExchangeMaker;
 use ice_tree::{Bounds, NodeKind, Tree, TreeMaker};
 use std::test::Fail;
 
-// One or two of two leaves over two goods.
+/// One or two of two leaves over two goods.
 fn tree() -> Result<(Tree, Bounds), Fail>
     ensures tree { IfOk result (λ r. IsLimitedTree 2 r.0) }
     ensures bounds { IfOk result (λ r. AreBounds (length r.0) r.1) }

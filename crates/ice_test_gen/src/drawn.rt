@@ -1,4 +1,5 @@
-//! Kept bounds while marks and multipliers are drawn: after each change they are those that are reckoned anew.
+//! Kept bounds while marks and multipliers are drawn: after each change they are those that are
+//! reckoned anew.
 ghost use Rattle.std.specs.Prelude.{◌≡◌, ◌<◌, ◌≤◌, length, IfOk, IfSome};
 ghost use Rattle.ice_defs.specs.Exchange.{trees_of};
 ghost use Rattle.ice_defs.specs.Trade.{tree_of};

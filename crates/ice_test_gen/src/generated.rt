@@ -35,7 +35,8 @@ fn wanted(alloc: Global, bidder: u8, draws: &mut Draws) -> Result<Vec<PlainNode>
     }
 }
 
-/// Whether a bidder owns one unit of each of the three goods that it sells, and none of another good.
+/// Whether a bidder owns one unit of each of the three goods that it sells, and none of another
+/// good.
 fn owns_its_goods(exchange: &Exchange, bidder: u8) -> bool {
     if bidder >= exchange.bidders() {
         return false;

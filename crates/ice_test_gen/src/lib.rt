@@ -1,5 +1,5 @@
-//! Tests of the generator: each exchange against one that plain code reckons, node by node. They stand apart so that the
-//! generator is not proved again with them.
+//! Tests of the generator: each exchange against one that plain code reckons, node by node. They
+//! stand apart so that the generator is not proved again with them.
 #![tactic(auto)]
 
 #[cfg(test)]

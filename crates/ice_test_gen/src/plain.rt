@@ -85,7 +85,8 @@ impl Draws {
         worth
     }
 
-    /// The tree of a buyer: at most one of three packages, of two, three and four goods that lie five apart.
+    /// The tree of a buyer: at most one of three packages, of two, three and four goods that lie
+    /// five apart.
     pub(crate) fn buyer(&mut self, alloc: Global) -> Result<Vec<PlainNode>, AllocError> {
         let mut nodes = Vec::new(alloc);
         nodes.push(worthless(NodeKind::Choose { least: 0, most: 1 }, 0))?;

@@ -49,7 +49,8 @@ fn open_drawn(maker: &mut TreeMaker, draw: &mut Draw, children: u16) -> Result<(
     maker.open_choose(least, most, lo, lo + i64::from(draw.below(2)))
 }
 
-/// A root over one to three children, of which the first may be a choose node over one or two leaves: at most 6 nodes.
+/// A root over one to three children, of which the first may be a choose node over one or two
+/// leaves: at most 6 nodes.
 fn drawn_tree(draw: &mut Draw) -> Result<(Tree, Bounds), TreeFault> {
     let mut maker = TreeMaker::new(2);
     let children = 1 + draw.below(3);
@@ -83,8 +84,9 @@ fn cost(kind: NodeKind, nums: [i64; 2]) -> i64 {
     }
 }
 
-/// The nets of all sets of at most 6 nodes, each at all corners of the bounds, and which sets are satisfied. A set and a
-/// corner are numbers whose bits are the nodes inside, or those at their upper values.
+/// The nets of all sets of at most 6 nodes, each at all corners of the bounds, and which sets are
+/// satisfied. A set and a corner are numbers whose bits are the nodes inside, or those at their
+/// upper values.
 #[derive(Drop)]
 struct Nets {
     nets: [[i64; 64]; 64],
@@ -223,7 +225,8 @@ struct Expected {
     verdict: Verdict,
 }
 
-/// What they must find where the loss must fall by so much, by the nets at the old bounds and at the new ones.
+/// What they must find where the loss must fall by so much, by the nets at the old bounds and at
+/// the new ones.
 fn expected_of(before: &Nets, after: &Nets, set: usize, fall: i64) -> Expected
     requires { set < 64 }
 {
@@ -246,8 +249,8 @@ fn expected_of(before: &Nets, after: &Nets, set: usize, fall: i64) -> Expected
     }
 }
 
-/// The loss at the old bounds, and whether the rules hold at the new ones; None where the arguments are not those of one
-/// tree.
+/// The loss at the old bounds, and whether the rules hold at the new ones; None where the arguments
+/// are not those of one tree.
 fn found(
     tree: &Tree,
     old: &Bounds,

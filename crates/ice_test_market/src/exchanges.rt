@@ -12,7 +12,7 @@ fn settings() -> Result<Settings, Fail> {
     Ok(Settings::new(50, 0, 100, 1, 0, 200).ok_or("settings")?)
 }
 
-// A tree of one leaf over one good.
+/// A tree of one leaf over one good.
 fn leaf(kind: NodeKind, value: i64) -> Result<(Tree, Bounds), Fail>
     requires { IsLeaf kind }
     ensures tree { IfOk result (λ r. IsLimitedTree 1 r.0) }
@@ -23,7 +23,7 @@ fn leaf(kind: NodeKind, value: i64) -> Result<(Tree, Bounds), Fail>
     Ok(maker.finish()?)
 }
 
-// Nothing to two of two leaves that sell one unit each.
+/// Nothing to two of two leaves that sell one unit each.
 fn two_sales() -> Result<(Tree, Bounds), Fail>
     ensures tree { IfOk result (λ r. IsLimitedTree 1 r.0) }
     ensures bounds { IfOk result (λ r. AreBounds (length r.0) r.1) }
@@ -36,7 +36,7 @@ fn two_sales() -> Result<(Tree, Bounds), Fail>
     Ok(maker.finish()?)
 }
 
-// Adds a bidder that owns so many units of the one good.
+/// Adds a bidder that owns so many units of the one good.
 fn add(
     maker: &mut ExchangeMaker,
     name: &str,
@@ -53,7 +53,7 @@ fn add(
     maker.bidder(name, &[own], tree, bounds)
 }
 
-// The maker of an exchange of one good.
+/// The maker of an exchange of one good.
 fn one_good(alloc: Global, exact: bool) -> Result<ExchangeMaker, Fail>
     ensures { IfOk result (λ maker. length maker.goods ≡ 1) }
 {
@@ -66,7 +66,7 @@ fn one_good(alloc: Global, exact: bool) -> Result<ExchangeMaker, Fail>
     Ok(maker)
 }
 
-// One seller of two units, which owns them, and one buyer of one unit.
+/// One seller of two units, which owns them, and one buyer of one unit.
 fn sale(alloc: Global, exact: bool) -> Result<Exchange, Fail> {
     let mut maker = one_good(alloc, exact)?;
     let (tree, bounds) = leaf(NodeKind::Sell { good: 0, units: 2 }, -2)?;
@@ -76,7 +76,7 @@ fn sale(alloc: Global, exact: bool) -> Result<Exchange, Fail> {
     Ok(maker.finish()?)
 }
 
-// Adds a good.
+/// Adds a good.
 fn add_good(maker: &mut ExchangeMaker, name: &str, exact: bool) -> Result<u8, MakeFault> {
     if exact {
         maker.exact_good(name)
@@ -85,7 +85,7 @@ fn add_good(maker: &mut ExchangeMaker, name: &str, exact: bool) -> Result<u8, Ma
     }
 }
 
-// The refusal of a maker that is finished.
+/// The refusal of a maker that is finished.
 fn refusal(maker: ExchangeMaker) -> Option<MakeFault> {
     maker.finish().err()
 }
@@ -172,7 +172,7 @@ fn lists_trees(rt: HostRuntime) -> Result<(), Fail> {
     Ok(())
 }
 
-// Puts the root of a bidder's tree into the bidder's set.
+/// Puts the root of a bidder's tree into the bidder's set.
 fn take_root(sets: &mut Assignment, bidder: u8) {
     if usize::from(bidder) >= sets.len() {
         return;
@@ -184,7 +184,7 @@ fn take_root(sets: &mut Assignment, bidder: u8) {
     sets.put(bidder, &set);
 }
 
-// Whether the sets balance, where each is satisfied.
+/// Whether the sets balance, where each is satisfied.
 fn judged(exchange: &Exchange, sets: &Assignment) -> Option<Result<(), TradeFault>> {
     if sets.len() != exchange.trees().len() {
         return None;
@@ -198,7 +198,7 @@ fn judged(exchange: &Exchange, sets: &Assignment) -> Option<Result<(), TradeFaul
     Some(exchange.feasible(sets))
 }
 
-// What is said of the sale of two units where one is bought.
+/// What is said of the sale of two units where one is bought.
 fn one_unit_left(alloc: Global, exact: bool) -> Result<Option<Result<(), TradeFault>>, Fail> {
     let exchange = sale(alloc, exact)?;
     let mut sets = Assignment::empty(alloc, exchange.trees())?;

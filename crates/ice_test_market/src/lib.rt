@@ -1,5 +1,5 @@
-//! Tests of terms, bids, sets, trees, exchanges, rates and rules, of lines, fractions, payments and linear programs. They stand
-//! apart so that the crates they try are not proved again with them.
+//! Tests of terms, bids, sets, trees, exchanges, rates and rules, of lines, fractions, payments and
+//! linear programs. They stand apart so that the crates they try are not proved again with them.
 #![tactic(auto)]
 
 #[cfg(test)]

@@ -99,8 +99,8 @@ fn refuses(rt: HostRuntime) {
     assert!(rt; maker.finish().is_err());
 }
 
-/// The set's value at lower, at weighted and at perturbed weights, the latter from another chosen set; and the value of
-/// the chosen set at lower values and at weighted ones.
+/// The set's value at lower, at weighted and at perturbed weights, the latter from another chosen
+/// set; and the value of the chosen set at lower values and at weighted ones.
 fn values(
     alloc: Global,
     tree: Tree,

@@ -1,5 +1,5 @@
-//! Tests of searches, regrets, prices and sessions of worked exchanges. They stand apart so that the crates they try are not
-//! proved again with them.
+//! Tests of searches, regrets, prices and sessions of worked exchanges. They stand apart so that
+//! the crates they try are not proved again with them.
 #![tactic(auto)]
 
 #[cfg(test)]

@@ -10,7 +10,8 @@ use ice_tree::AllWeights;
 use std::alloc::{AllocError, Global};
 use std::test::Fail;
 
-/// Buyers of two of three goods each, where one unit of each is sold: only one of them can be served.
+/// Buyers of two of three goods each, where one unit of each is sold: only one of them can be
+/// served.
 pub(crate) const PAIRS: &str = "ice 1 exchange\nsettings 50 0 100 1 5 200\ngood A\ngood B\ngood C\n\
     bidder p 0 0 0\nnode choose 2 2 2 10 10\nnode buy 0 1 0 0\nnode buy 1 1 0 0\n\
     bidder q 0 0 0\nnode choose 2 2 2 10 10\nnode buy 1 1 0 0\nnode buy 2 1 0 0\n\
@@ -65,14 +66,14 @@ pub(crate) const EMPTY_CORE: &str = "ice 1 exchange\nsettings 50 0 100 1 5 200\n
     bidder y 1\nnode choose 1 1 2 0 0\nnode buy 0 1 10 10\nnode sell 0 1 0 0\n\
     bidder z 1\nnode choose 1 1 2 0 0\nnode buy 0 1 10 10\nnode sell 0 1 0 0\nend exchange\n";
 
-/// A seller and a buyer of a unit, who trade only once the buyer says that it is worth more. Its weighted values have a
-/// weight of 60, and a round has to improve by 2.
+/// A seller and a buyer of a unit, who trade only once the buyer says that it is worth more. Its
+/// weighted values have a weight of 60, and a round has to improve by 2.
 pub(crate) const OPEN_SALE: &str = "ice 1 exchange\nsettings 60 0 100 2 5 200\ngood A\n\
     bidder s 1\nnode sell 0 1 -15 -15\nbidder b 0\nnode buy 0 1 10 20\nend exchange\n";
 
-/// A seller of 997 units of A and one of 991 units of B, and a buyer of all three goods that no one can serve: of
-/// prices at which no one would rather trade, the greatest one is least at one place alone, and there the prices have a
-/// denominator of 100 * 997 * 991 * 983.
+/// A seller of 997 units of A and one of 991 units of B, and a buyer of all three goods that no one
+/// can serve: of prices at which no one would rather trade, the greatest one is least at one place
+/// alone, and there the prices have a denominator of 100 * 997 * 991 * 983.
 pub(crate) const THREE_PRIMES: &str =
     "ice 1 exchange\nsettings 33 0 100 1 5 200\ngood A\ngood B\ngood C\n\
     bidder s 997 0 0\nnode sell 0 997 -1001 -1000\nbidder t 0 991 0\nnode sell 1 991 -1001 -1000\n\

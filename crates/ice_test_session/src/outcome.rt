@@ -11,8 +11,8 @@ use ice_tree::{AllWeights, Assignment};
 use std::alloc::Global;
 use std::test::Fail;
 
-/// What a search answers: the value that it found, the bound where no branch was left, how many steps of its log are
-/// branches and how many are leaves, and how many branches are left.
+/// What a search answers: the value that it found, the bound where no branch was left, how many
+/// steps of its log are branches and how many are leaves, and how many branches are left.
 #[derive(Clone, Copy, Debug, PartialEq, Eq)]
 pub(crate) struct Outcome {
     pub(crate) value: i128,

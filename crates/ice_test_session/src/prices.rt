@@ -52,7 +52,8 @@ fn certificate(alloc: Global, den: u64, leaves: &[(u8, u16)]) -> Result<Certific
     Ok(Certificate { den, rows })
 }
 
-/// The price of the only good over its denominator, the violation, and whether both certificates pass.
+/// The price of the only good over its denominator, the violation, and whether both certificates
+/// pass.
 #[derive(Clone, Copy, Debug, PartialEq, Eq)]
 struct GoodPrice {
     num: i64,
@@ -109,8 +110,8 @@ fn prices_are_reckoned(rt: HostRuntime) -> Result<(), Fail> {
     Ok(())
 }
 
-/// A price of the only good with a violation, a certificate of its accuracy over a denominator that has buying and selling
-/// of the third bidder, and one of its balance that has its buying.
+/// A price of the only good with a violation, a certificate of its accuracy over a denominator that
+/// has buying and selling of the third bidder, and one of its balance that has its buying.
 fn stated(alloc: Global, num: i128, violation: i128, den: u64) -> Result<Pricing, Fail> {
     let prices = Prices::new(1, &[num]).ok_or("prices")?;
     let accuracy = certificate(alloc, den, &[(2, 1), (2, 2)])?;
@@ -130,7 +131,8 @@ fn certificate_passes(alloc: Global, num: i128, violation: i128, den: u64) -> Re
     passes(alloc, &market.exchange, &market.sets, &pricing)
 }
 
-/// Buying is worth 1,000 to the third bidder and selling nothing, so at a price of 5 it gains 500 by either.
+/// Buying is worth 1,000 to the third bidder and selling nothing, so at a price of 5 it gains 500
+/// by either.
 const CERTIFICATES: [(i128, i128, u64, bool); 6] = [
     (5, 500, 2, true),
     (5, 499, 2, false),

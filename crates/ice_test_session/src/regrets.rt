@@ -7,8 +7,8 @@ use ice_trade::Exchange;
 use std::alloc::Global;
 use std::test::Fail;
 
-/// What the best assignment is worth at lower values, its regret, what the rival is worth at perturbed values, and whether
-/// a session of these settings closes there.
+/// What the best assignment is worth at lower values, its regret, what the rival is worth at
+/// perturbed values, and whether a session of these settings closes there.
 #[derive(Clone, Copy, Debug, PartialEq, Eq)]
 struct Settlement {
     value: i128,

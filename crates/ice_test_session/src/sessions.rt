@@ -17,8 +17,8 @@ use ice_vickrey::Marginal;
 use std::alloc::Global;
 use std::test::Fail;
 
-/// A session that closes: the number of its last settlement, what the final sets are worth, their regret, the Vickrey
-/// discounts, the cut, the surplus, and what some bidders pay.
+/// A session that closes: the number of its last settlement, what the final sets are worth, their
+/// regret, the Vickrey discounts, the cut, the surplus, and what some bidders pay.
 #[derive(Clone, Copy)]
 struct Close {
     number: u8,
@@ -200,8 +200,8 @@ const AFTER_BIDS: Close = Close {
     paid: &[(0, (-31, 2)), (1, (31, 2))],
 };
 
-/// A settlement that opens a round: what the final sets are worth, their regret, what the provisional sets are worth, and
-/// the price of the only good.
+/// A settlement that opens a round: what the final sets are worth, their regret, what the
+/// provisional sets are worth, and the price of the only good.
 #[derive(Clone, Copy, Debug, PartialEq, Eq)]
 struct Offer {
     value: i128,
@@ -260,7 +260,8 @@ fn a_round_is_held(rt: HostRuntime) -> Result<(), Fail> {
     Ok(())
 }
 
-/// What was found and the bound above which nothing is left, where the first search spent the branches.
+/// What was found and the bound above which nothing is left, where the first search spent the
+/// branches.
 fn spent_first(halt: &Halt, spent: &Spent) -> Option<(i128, i128)> {
     match &halt.best {
         Some(_) => None,

@@ -9,7 +9,8 @@ use ice_tree::{Assignment, NodeSet};
 use std::alloc::Global;
 use std::test::Fail;
 
-/// The root of a tree of three nodes and one of its leaves, or the empty set where there is no such leaf.
+/// The root of a tree of three nodes and one of its leaves, or the empty set where there is no such
+/// leaf.
 pub(crate) fn with_leaf(leaf: u16) -> NodeSet
     ensures { length result ≡ 3 }
 {

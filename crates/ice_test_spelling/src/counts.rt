@@ -47,7 +47,8 @@ fn lists_have_1_to_32_numbers(rt: HostRuntime) -> Result<(), Fail> {
     has_1_to_32(&rt, "prices 4294967296", NUMERATOR)
 }
 
-/// What a submission says is the number of its lower values, how many it has, and the same of its upper ones.
+/// What a submission says is the number of its lower values, how many it has, and the same of its
+/// upper ones.
 type Counts = (&'static str, usize, &'static str, usize);
 
 const SUBMISSIONS: [Counts; 6] = [
@@ -121,7 +122,8 @@ fn submissions_count_their_values(rt: HostRuntime) -> Result<(), Fail> {
     Ok(())
 }
 
-/// What the record says is the number of its changes, and it has one of each good from the first to the last.
+/// What the record says is the number of its changes, and it has one of each good from the first to
+/// the last.
 type Changes = (&'static str, u8, u8);
 
 const CHANGES: [Changes; 6] = [

@@ -136,7 +136,8 @@ impl Slot<'_> {
         self.refuses(rt, b"")
     }
 
-    /// One character is taken, and so many; none and one more are refused, and so is every other byte.
+    /// One character is taken, and so many; none and one more are refused, and so is every other
+    /// byte.
     fn is_characters<R: Abort + AllocGlobal>(
         &self,
         rt: &R,

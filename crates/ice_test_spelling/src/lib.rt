@@ -1,5 +1,5 @@
-//! Tests of the spellings of records: each record with the least and the greatest that each of its fields may be,
-//! and with what no field may be. What is read is written again as the same text.
+//! Tests of the spellings of records: each record with the least and the greatest that each of its
+//! fields may be, and with what no field may be. What is read is written again as the same text.
 #![tactic(auto)]
 
 #[cfg(test)]

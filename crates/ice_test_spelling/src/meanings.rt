@@ -224,7 +224,8 @@ fn are_meant_changes(changes: &[Change]) -> bool {
     }
 }
 
-/// Is the record the one of its form, among those of prices, rounds and settlements, ends and refusals.
+/// Is the record the one of its form, among those of prices, rounds and settlements, ends and
+/// refusals.
 fn is_meant_of_session(line: &Line) -> bool {
     match line {
         Line::Prices(prices) => prices.den() == 41 && prices.nums() == [42, 43].as_slice(),

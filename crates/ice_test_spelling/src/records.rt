@@ -7,7 +7,8 @@ use std::test::Fail;
 /// Bytes that stand in no line: they are below 32 or above 126.
 const OTHER_BYTES: [u8; 9] = [0, 1, b'\t', b'\n', b'\r', 31, 127, 128, 255];
 
-/// With a byte that stands in no line at any place, and cut before any of its spaces, or with one more.
+/// With a byte that stands in no line at any place, and cut before any of its spaces, or with one
+/// more.
 fn is_not_one_with_faults<R: Abort + AllocGlobal>(rt: &R, text: &[u8]) -> Result<(), Fail> {
     let alloc = rt.alloc();
     for place in 0..text.len() {

@@ -45,8 +45,8 @@ const OTHERWISE: [(usize, &str); 5] = [
     (25, "near 0"),
 ];
 
-/// The lines of a session are records in either version. The least line that is none is at fault, or a last one
-/// without its newline.
+/// The lines of a session are records in either version. The least line that is none is at fault,
+/// or a last one without its newline.
 #[test]
 fn a_session_is_lines_of_records(rt: HostRuntime) -> Result<(), Fail> {
     let alloc = rt.alloc();

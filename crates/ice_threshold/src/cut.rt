@@ -1,7 +1,7 @@
 //! The least cut that the total pays for.
-ghost use Rattle.std.specs.Prelude.{ℕ, ◌≡◌, ◌<◌, ◌≤◌, ◌+◌, ◌*◌, ◌^◌, ◌+ℤ◌, pos, ◌≤ℤ◌, length, All};
-ghost use Rattle.ice_defs.specs.Fraction.{Fraction, IsFraction, AtMost};
-ghost use Rattle.ice_defs.specs.Cut.{IsPayable, IsCut};
+ghost use Rattle.std.specs.Prelude.{◌≡◌, ◌<◌, ◌≤◌, ◌+◌, ◌*◌, ◌^◌, ◌+ℤ◌, pos, ◌≤ℤ◌, length, All};
+ghost use Rattle.ice_defs.specs.Fraction.{IsFraction};
+ghost use Rattle.ice_defs.specs.Cut.{IsCut};
 ghost use Rattle.ice_threshold.specs.Level.{level_part, level_one, level_sum, level_count, asked_cut};
 ghost use Rattle.ice_threshold.specs.Limits.{IsVickreyLimit};
 
@@ -50,7 +50,8 @@ fn at_or_above(vickrey: &[i128], least: i128) -> Level
     level
 }
 
-/// The cut at which the total just pays for what is left of the discounts at or above the one at `at`.
+/// The cut at which the total just pays for what is left of the discounts at or above the one at
+/// `at`.
 fn asked(vickrey: &[i128], at: usize, total: i128) -> Ratio
     requires few { length vickrey.now ≤ 40 }
     requires limited { All IsVickreyLimit vickrey.now }
@@ -67,7 +68,8 @@ fn asked(vickrey: &[i128], at: usize, total: i128) -> Ratio
     }
 }
 
-/// The least cut, no less than 0, at which the total pays for what is left of the Vickrey discounts.
+/// The least cut, no less than 0, at which the total pays for what is left of the Vickrey
+/// discounts.
 pub(crate) fn least_cut(vickrey: &[i128], total: i128) -> Ratio
     requires few { length vickrey.now ≤ 40 }
     requires limited { All IsVickreyLimit vickrey.now }

@@ -1,5 +1,5 @@
 //! The payments of a settlement that closes.
-ghost use Rattle.std.specs.Prelude.{ℕ, ◌≡◌, ◌<◌, ◌≤◌, ◌*◌, ◌^◌, pos, ◌≤ℤ◌, length, All, IfOk, unsigned_abs};
+ghost use Rattle.std.specs.Prelude.{◌≡◌, ◌<◌, ◌≤◌, ◌*◌, ◌^◌, pos, ◌≤ℤ◌, length, All, IfOk, unsigned_abs};
 ghost use Rattle.ice_defs.specs.Sum.{sum_over};
 ghost use Rattle.ice_defs.specs.Fraction.{IsFraction, Equals, whole, less, sum_of};
 ghost use Rattle.ice_defs.specs.Threshold.{IsThreshold, ArePayments, IsSurplus};
@@ -123,11 +123,13 @@ fn payments_at(
     Ok(payments)
 }
 
-/// The Threshold payments for the bidders' values and Vickrey discounts, in one order: the least cut at which the
-/// total pays for what is left of the Vickrey discounts, these discounts, and what they make each bidder pay.
+/// The Threshold payments for the bidders' values and Vickrey discounts, in one order: the least
+/// cut at which the total pays for what is left of the Vickrey discounts, these discounts, and what
+/// they make each bidder pay.
 ///
-/// There are 1 to 40 bidders, each Vickrey discount is from 0 to 10^15, each value is within 10^15 in size, and the
-/// values sum to the total, which is no less than 0. Only want of memory is an error.
+/// There are 1 to 40 bidders, each Vickrey discount is from 0 to 10^15, each value is within 10^15
+/// in size, and the values sum to the total, which is no less than 0. Only want of memory is an
+/// error.
 pub fn threshold(
     alloc: Global,
     values: &[i128],

@@ -11,7 +11,8 @@ use ice_tree::{Bounds, Tree};
 use std::alloc::{AllocError, Global};
 use std::marker::Model;
 
-/// At most 40 bidders, numbered from 0 on, each with its name, its owned amounts, its tree and its opening bounds.
+/// At most 40 bidders, numbered from 0 on, each with its name, its owned amounts, its tree and its
+/// opening bounds.
 #[derive(Drop)]
 pub(crate) struct Bidders {
     names: Names,

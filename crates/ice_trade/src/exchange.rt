@@ -19,8 +19,8 @@ use ice_tree::{AllWeights, Assignment, Bounds, TotalUnits, Tree};
 use std::alloc::{AllocError, Global};
 use std::marker::Model;
 
-/// An exchange: its settings, 1 to 32 goods, and 1 to 40 bidders with their owned amounts, trees and opening bounds. No
-/// bidder's tree may sell more of a good than the bidder owns.
+/// An exchange: its settings, 1 to 32 goods, and 1 to 40 bidders with their owned amounts, trees
+/// and opening bounds. No bidder's tree may sell more of a good than the bidder owns.
 #[derive(Drop)]
 pub struct Exchange {
     made: ExchangeMaker,
@@ -133,8 +133,8 @@ impl Exchange {
         self.made.bidders.bounds()
     }
 
-    /// The weighted values of all nodes at the opening bounds, in hundredths: the settings' weight times the lower value,
-    /// and the rest of 100 times the upper one.
+    /// The weighted values of all nodes at the opening bounds, in hundredths: the settings' weight
+    /// times the lower value, and the rest of 100 times the upper one.
     pub fn weighted_values(&self, alloc: Global) -> Result<AllWeights, AllocError>
         ensures value { IfOk result (λ w. w ≡ weighted_weights self.now.settings.weight
             (opening_bounds self.now)) }
@@ -160,8 +160,9 @@ impl Exchange {
         self.made.find_bidder(name)
     }
 
-    /// Whether the units of these sets balance: at most 0 of each good in sum, and exactly 0 of each exact one. Else it
-    /// names the least good at fault, and the sum of its units. It takes no memory.
+    /// Whether the units of these sets balance: at most 0 of each good in sum, and exactly 0 of
+    /// each exact one. Else it names the least good at fault, and the sum of its units. It takes no
+    /// memory.
     pub fn feasible(&self, sets: &Assignment) -> Result<(), TradeFault>
         requires count { length sets.now ≡ length self.now.bidders }
         requires satisfied { (b : ℕ) → b < length self.now.bidders

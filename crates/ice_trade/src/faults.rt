@@ -19,7 +19,8 @@ pub enum MakeFault {
     /// A name isn't 1 to 32 letters, digits, `_`, `-` and dots.
     #[error("this is not a name")]
     BadName,
-    /// The tree may sell more of a good than the bidder owns: the good's number, and the units that may be sold at most.
+    /// The tree may sell more of a good than the bidder owns: the good's number, and the units that
+    /// may be sold at most.
     #[error("the bidder may sell {amount} units of good {good}, which it does not own")]
     OverSale { good: u8, amount: i64 },
     /// There is no good or no bidder.
@@ -51,7 +52,8 @@ impl MakeFault {
     }
 }
 
-/// The least good whose units don't balance in an assignment, and their sum: units bought less units sold.
+/// The least good whose units don't balance in an assignment, and their sum: units bought less
+/// units sold.
 #[derive(Clone, Copy, Debug, PartialEq, Eq)]
 pub struct TradeFault {
     /// The good's number.

@@ -20,7 +20,8 @@ use ice_tree::{Bounds, Tree};
 use std::alloc::{AllocError, Global};
 use std::marker::Model;
 
-/// An exchange that is being made: first its goods, and then its bidders. All memory is taken when it is made.
+/// An exchange that is being made: first its goods, and then its bidders. All memory is taken when
+/// it is made.
 pub struct ExchangeMaker {
     pub(crate) settings: Settings,
     pub(crate) goods: Goods,
@@ -154,9 +155,9 @@ impl ExchangeMaker {
 
     /// Adds a good of which some may be left over, and answers its number.
     ///
-    /// It refuses, in this order, where a bidder stands (`Late`), where this is no name (`BadName`), where a good has
-    /// the name (`DuplicateGood`), and where 32 goods stand (`TooMany`). A refusal leaves the maker as it was. It takes
-    /// no memory.
+    /// It refuses, in this order, where a bidder stands (`Late`), where this is no name
+    /// (`BadName`), where a good has the name (`DuplicateGood`), and where 32 goods stand
+    /// (`TooMany`). A refusal leaves the maker as it was. It takes no memory.
     pub fn good(&mut self, name: &str) -> Result<u8, MakeFault>
         ensures made { IfOk result (λ number. (number ≡ length self.old.goods)
             × (self.new ≡ with_good self.old (record { name = name.now; exact = false }))) }
@@ -166,7 +167,8 @@ impl ExchangeMaker {
         self.add_good(name, false)
     }
 
-    /// Adds a good of which what is bought must equal what is sold, and answers its number. It refuses as `good` does.
+    /// Adds a good of which what is bought must equal what is sold, and answers its number. It
+    /// refuses as `good` does.
     pub fn exact_good(&mut self, name: &str) -> Result<u8, MakeFault>
         ensures made { IfOk result (λ number. (number ≡ length self.old.goods)
             × (self.new ≡ with_good self.old (record { name = name.now; exact = true }))) }
@@ -199,13 +201,14 @@ impl ExchangeMaker {
         Ok(name)
     }
 
-    /// Adds a bidder with its owned amounts, one per good and each at most 1,000,000, its tree over these goods, and
-    /// its opening bounds, and answers its number.
+    /// Adds a bidder with its owned amounts, one per good and each at most 1,000,000, its tree over
+    /// these goods, and its opening bounds, and answers its number.
     ///
-    /// It refuses, in this order, where this is no name (`BadName`), where a bidder has the name (`DuplicateBidder`),
-    /// where 40 bidders stand or the trees would have more than 2,000 nodes together (`TooMany`), and where the tree may
-    /// sell more of a good than is owned (`OverSale`, which names the least such good and its greatest sale). A refusal
-    /// leaves the maker as it was, and drops the tree and the bounds. It takes no memory.
+    /// It refuses, in this order, where this is no name (`BadName`), where a bidder has the name
+    /// (`DuplicateBidder`), where 40 bidders stand or the trees would have more than 2,000 nodes
+    /// together (`TooMany`), and where the tree may sell more of a good than is owned (`OverSale`,
+    /// which names the least such good and its greatest sale). A refusal leaves the maker as it
+    /// was, and drops the tree and the bounds. It takes no memory.
     pub fn bidder(
         &mut self,
         name: &str,

@@ -8,7 +8,8 @@ use indexmap::IndexSet;
 use std::alloc::{AllocError, Global};
 use std::marker::Model;
 
-/// Names, numbered from 0 on by the order in which they were added. All memory is taken when it is made.
+/// Names, numbered from 0 on by the order in which they were added. All memory is taken when it is
+/// made.
 #[derive(Drop)]
 pub(crate) struct Names {
     names: IndexSet<Name>,

@@ -89,8 +89,9 @@ impl Assignment {
         trees[usize::from(bidder)].value(self.of(bidder), weights.of(bidder))
     }
 
-    /// The sum of the values of the sets at weights, at most 8,000 * 2^90 in size. There are at most 40 trees, one of
-    /// each bidder; each set is of the nodes of its tree, and each node has one weight. It takes no memory.
+    /// The sum of the values of the sets at weights, at most 8,000 * 2^90 in size. There are at
+    /// most 40 trees, one of each bidder; each set is of the nodes of its tree, and each node has
+    /// one weight. It takes no memory.
     pub fn value(&self, trees: &[Tree], weights: &AllWeights) -> i128
         requires few { length trees.now ≤ 40 }
         requires sets { HasSetPerTree trees.now self.now }
@@ -117,8 +118,8 @@ impl Assignment {
         bounds[usize::from(bidder)].lower_value(self.of(bidder))
     }
 
-    /// The sum of the lower values over the sets, at most 8,000,000,000,000 in size. There are at most 40 bounds, one of
-    /// each bidder, with one lower value for each node. It takes no memory.
+    /// The sum of the lower values over the sets, at most 8,000,000,000,000 in size. There are at
+    /// most 40 bounds, one of each bidder, with one lower value for each node. It takes no memory.
     pub fn lower_value(&self, bounds: &[Bounds]) -> i128
         requires few { length bounds.now ≤ 40 }
         requires nodes { AreChosen self.now bounds.now }

@@ -11,7 +11,8 @@ use arrayvec::ArrayVec;
 use ice_set::NodeSet;
 use std::marker::Model;
 
-/// A lower and an upper value for each node of one tree: each at most 1,000,000,000 in size, and the lower one at most the upper one.
+/// A lower and an upper value for each node of one tree: each at most 1,000,000,000 in size, and
+/// the lower one at most the upper one.
 #[derive(Drop)]
 pub struct Bounds {
     lo: ArrayVec<i64, 200>,

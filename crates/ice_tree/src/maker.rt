@@ -152,7 +152,10 @@ impl TreeMaker {
 
     /// Opens a choose node: the nodes until its close are its descendants.
     ///
-    /// Refuses, in this order, where the tree is complete (`Unclosed`), where 200 nodes stand (`TooManyNodes`), where the node's depth would be 17 (`TooDeep`), where a value is outside its limits (`OutOfRange`), and where the lower value is above the upper one (`Crossed`). A refusal leaves the maker as it was.
+    /// Refuses, in this order, where the tree is complete (`Unclosed`), where 200 nodes stand
+    /// (`TooManyNodes`), where the node's depth would be 17 (`TooDeep`), where a value is outside
+    /// its limits (`OutOfRange`), and where the lower value is above the upper one (`Crossed`). A
+    /// refusal leaves the maker as it was.
     pub fn open_choose(&mut self, least: u16, most: u16, lo: i64, hi: i64) -> Result<(), TreeFault>
         ensures made { OnOk result (self.new ≡ record self.old { draft = with_open self.old.draft (NodeKind.Choose least most) lo hi }) }
         ensures refused { RefusedBy result (draft_refusal self.old.goods self.old.draft (NodeKind.Choose least most) lo hi) }
@@ -169,7 +172,8 @@ impl TreeMaker {
         Ok(())
     }
 
-    /// Adds a leaf. It refuses as `open_choose` does, and also where the good or the units are outside their limits (`OutOfRange`).
+    /// Adds a leaf. It refuses as `open_choose` does, and also where the good or the units are
+    /// outside their limits (`OutOfRange`).
     pub fn leaf(&mut self, kind: NodeKind, lo: i64, hi: i64) -> Result<(), TreeFault>
         requires { IsLeaf kind }
         ensures made { OnOk result (self.new ≡ record self.old { draft = with_node self.old.draft kind lo hi }) }
@@ -186,7 +190,8 @@ impl TreeMaker {
 
     /// Closes the innermost open node.
     ///
-    /// Refuses where none is open (`Unclosed`), and where the node has no child or its interval doesn't fit its children (`BadInterval`). A refusal leaves the maker as it was.
+    /// Refuses where none is open (`Unclosed`), and where the node has no child or its interval
+    /// doesn't fit its children (`BadInterval`). A refusal leaves the maker as it was.
     pub fn close(&mut self) -> Result<(), TreeFault>
         ensures made { OnOk result (self.new ≡ record self.old { draft = with_closed self.old.draft }) }
         ensures refused { RefusedBy result (draft_close_refusal self.old.draft) }

@@ -17,7 +17,8 @@ use ice_defs::{Node, NodeKind, SatRule};
 use ice_set::NodeSet;
 use std::marker::Model;
 
-/// A tree, seen as the list of its nodes in preorder. It has 1 to 200 nodes and at most 16 levels, its goods are among 32, and its leaves have 1 to 1,000 units.
+/// A tree, seen as the list of its nodes in preorder. It has 1 to 200 nodes and at most 16 levels,
+/// its goods are among 32, and its leaves have 1 to 1,000 units.
 #[derive(Drop)]
 pub struct Tree {
     nodes: ArrayVec<Node, 200>,
@@ -148,9 +149,11 @@ impl Tree {
         count_fault(self.kind(node), self.children_inside(set, node))
     }
 
-    /// Whether the set is satisfied: each node inside has its parent inside, and each choose node inside has between its least and its most children inside.
+    /// Whether the set is satisfied: each node inside has its parent inside, and each choose node
+    /// inside has between its least and its most children inside.
     ///
-    /// If not, the fault names the least node at fault, and the first of `Parent`, `Few` and `Many` that it breaks.
+    /// If not, the fault names the least node at fault, and the first of `Parent`, `Few` and `Many`
+    /// that it breaks.
     pub fn is_satisfied(&self, set: &NodeSet) -> Result<(), SatFault>
         requires { length set.now ≡ length self.now }
         ensures ok { IsOk result ↔ IsSatisfied self.now set.now }
@@ -197,7 +200,9 @@ impl Tree {
 
     /// New bounds of the tree.
     ///
-    /// Refuses, in this order, where a list has not one value for each node (`WrongCount`), where a value is outside its limits (`OutOfRange`), and where a lower value is above the upper one (`Crossed`).
+    /// Refuses, in this order, where a list has not one value for each node (`WrongCount`), where a
+    /// value is outside its limits (`OutOfRange`), and where a lower value is above the upper one
+    /// (`Crossed`).
     pub fn set_bounds(&self, lo: &[i64], hi: &[i64]) -> Result<Bounds, BoundsFault>
         ensures made { IfOk result (λ b. b ≡ record { lo = lo.now; hi = hi.now }) }
         ensures refused { BoundsRefusedBy result (bounds_refusal (length self.now) lo.now hi.now) }

@@ -1,5 +1,5 @@
 //! What a set buys and sells.
-ghost use Rattle.std.specs.Prelude.{◌≡◌, ℕ, ◌<◌, ◌≤◌, length, ℤ, pos, neg_ℤ, ◌+ℤ◌, ◌≤ℤ◌};
+ghost use Rattle.std.specs.Prelude.{◌≡◌, ℕ, ◌<◌, ◌≤◌, ℤ, pos, neg_ℤ, ◌+ℤ◌, ◌≤ℤ◌};
 ghost use Rattle.ice_defs.specs.Set.{weight_of, leaf_units};
 ghost use Rattle.ice_defs.specs.Lawful.{IsLimitedKind};
 ghost use Rattle.ice_tree.specs.Units.{AreWithin};
@@ -7,7 +7,8 @@ ghost use Rattle.ice_tree.specs.Units.{AreWithin};
 use ice_defs::NodeKind;
 use std::marker::Model;
 
-/// The signed units of a set, one sum for each of 32 goods: bought units are positive, and sold ones negative.
+/// The signed units of a set, one sum for each of 32 goods: bought units are positive, and sold
+/// ones negative.
 #[derive(Drop)]
 pub struct Units {
     sums: [i64; 32],

@@ -1,6 +1,6 @@
 //! One weight for each node.
-ghost use Rattle.std.specs.Prelude.{◌≡◌, ◌<◌, ◌≤◌, ◌≤ℤ◌, ◌*ℤ◌, length, map, replicate, slice_set, pos, neg_ℤ, IfOk, if◌then◌else◌};
-ghost use Rattle.ice_defs.specs.Set.{has, weight_of, IsSmall};
+ghost use Rattle.std.specs.Prelude.{◌≡◌, ◌<◌, ◌≤◌, ◌≤ℤ◌, ◌*ℤ◌, length, map, replicate, slice_set, pos, neg_ℤ, IfOk};
+ghost use Rattle.ice_defs.specs.Set.{weight_of, IsSmall};
 ghost use Rattle.ice_defs.specs.Trade.{weights_of};
 ghost use Rattle.ice_defs.specs.Weighing.{weighted, weighted_list, perturbed_list, lower_weights, weighted_weights, perturbed_weights};
 ghost use Rattle.ice_tree.specs.Alike.{AreAlike, AreChosen};
@@ -94,8 +94,8 @@ impl Weights {
         }
     }
 
-    /// The weights of one bidder that a chosen set of its nodes perturbs: the lower value of each node inside, and the
-    /// upper one of each node outside.
+    /// The weights of one bidder that a chosen set of its nodes perturbs: the lower value of each
+    /// node inside, and the upper one of each node outside.
     pub fn perturbed(bounds: &Bounds, chosen: &NodeSet) -> Weights
         requires { length chosen.now ≡ length bounds.now.lo }
         ensures { result ≡ perturbed_list chosen.now bounds.now.lo bounds.now.hi }
@@ -198,7 +198,8 @@ impl AllWeights {
         }
     }
 
-    /// Sets each weight to `weight` times the lower value and `100 - weight` times the upper one; the weight is 0 to 100. It takes no memory.
+    /// Sets each weight to `weight` times the lower value and `100 - weight` times the upper one;
+    /// the weight is 0 to 100. It takes no memory.
     pub fn fill_weighted(&mut self, bounds: &[Bounds], weight: u8)
         requires weight { weight ≤ 100 }
         requires alike { AreAlike self.old bounds.now }
@@ -210,7 +211,8 @@ impl AllWeights {
         }
     }
 
-    /// Sets each weight to the lower value on the nodes of the chosen sets, and to the upper one elsewhere. It takes no memory.
+    /// Sets each weight to the lower value on the nodes of the chosen sets, and to the upper one
+    /// elsewhere. It takes no memory.
     pub fn fill_perturbed(&mut self, bounds: &[Bounds], chosen: &Assignment)
         requires alike { AreAlike self.old bounds.now }
         requires chosen { AreChosen chosen.now bounds.now }

@@ -30,8 +30,8 @@ fn made_again(alloc: Global, number: u32) -> Result<Generated, AllocError>
     Ok(Generated { exchange, truth })
 }
 
-/// Runs the session of the generated exchange of a number, as it is written in JSON and read again, with the generated true
-/// values.
+/// Runs the session of the generated exchange of a number, as it is written in JSON and read again,
+/// with the generated true values.
 #[tactic(none)]
 pub fn try_generated(alloc: Global, number: u32) -> TrialEnd
     ensures { IsTrialEnd (generated number) (truths number) result }

@@ -1,4 +1,5 @@
-//! Trials: sessions in which each bidder states its true values in the first round, so that they close behind it; and the laws that they rest on.
+//! Trials: sessions in which each bidder states its true values in the first round, so that they
+//! close behind it; and the laws that they rest on.
 #![tactic(auto)]
 
 mod bids;

@@ -13,7 +13,8 @@ pub struct Summary {
     pub opened: i128,
     /// The regret there of the assignment that was found.
     pub opened_regret: i128,
-    /// The number of the settlement that closed the session: 0, or 1 where the bidders stated their true values before.
+    /// The number of the settlement that closed the session: 0, or 1 where the bidders stated their
+    /// true values before.
     pub settled: u8,
     /// The best value at the bounds of that settlement.
     pub total: i128,

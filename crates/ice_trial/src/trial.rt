@@ -42,7 +42,8 @@ pub enum TrialEnd {
     NoMemory,
 }
 
-/// Settles behind the round: with exact values no regret is left, so that the session closes, unless a search ends it.
+/// Settles behind the round: with exact values no regret is left, so that the session closes,
+/// unless a search ends it.
 #[tactic(none)]
 fn close(ready: Ready, first: TruthRound) -> TrialEnd
     requires { IsTold ready first }
@@ -80,7 +81,8 @@ fn hold_round(
     Ok((round.end(), TruthRound { opening, bids }))
 }
 
-/// Settles, and where that opens a round lets the bidders state their true values and settles again.
+/// Settles, and where that opens a round lets the bidders state their true values and settles
+/// again.
 #[tactic(none)]
 fn settle_twice(alloc: Global, ready: Ready, truths: &[Bounds]) -> TrialEnd
     requires running { IsRunning [] ready }
@@ -101,9 +103,10 @@ fn settle_twice(alloc: Global, ready: Ready, truths: &[Bounds]) -> TrialEnd
     }
 }
 
-/// Runs the session of an exchange: settlement 0, and where that doesn't close it a round in which each bidder states its
-/// true values, which lie inside its opening bounds, and settlement 1. Each bid is accepted, so all values are exact then and
-/// no regret is left: the session closes, unless a search or the pricing of settlement 0 ended it before.
+/// Runs the session of an exchange: settlement 0, and where that doesn't close it a round in which
+/// each bidder states its true values, which lie inside its opening bounds, and settlement 1. Each
+/// bid is accepted, so all values are exact then and no regret is left: the session closes, unless
+/// a search or the pricing of settlement 0 ended it before.
 pub fn try_truths(alloc: Global, exchange: Exchange, truths: &[Bounds]) -> TrialEnd
     requires { AreTruths (opening_bounds exchange) truths.now }
     ensures { IsTrialEnd exchange truths.now result }

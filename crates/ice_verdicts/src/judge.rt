@@ -12,8 +12,9 @@ use ice_tree::{Assignment, Bounds};
 use std::alloc::{AllocError, Global};
 use std::marker::Model;
 
-/// What is known of a round: the bidders' bounds, their provisional sets and the prices at its start, and of each bidder
-/// its next bounds and whether one of its submissions was accepted. It keeps no submission.
+/// What is known of a round: the bidders' bounds, their provisional sets and the prices at its
+/// start, and of each bidder its next bounds and whether one of its submissions was accepted. It
+/// keeps no submission.
 ///
 /// It takes memory when it is made, and none later.
 #[derive(Drop)]
@@ -89,7 +90,8 @@ impl Judge {
         })
     }
 
-    /// The round of an exchange at its opening bounds, with empty sets and at prices of 0, before any submission.
+    /// The round of an exchange at its opening bounds, with empty sets and at prices of 0, before
+    /// any submission.
     pub fn new(alloc: Global, exchange: &Exchange) -> Result<Judge, AllocError>
         ensures made { IfOk result (λ j. j ≡ record {
           bounds = opening_bounds exchange.now;

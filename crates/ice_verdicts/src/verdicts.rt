@@ -123,13 +123,14 @@ impl Judge {
         }
     }
 
-    /// The verdict on a submission, which has a name and two lists of values, each at most 1,000,000,000 in size. The
-    /// first that holds: `UnknownBidder` where no bidder has the name; `Repeated` where a submission of the bidder was
-    /// accepted in this round; `WrongCount` where the values do not count the nodes of its tree; and else the verdict on
-    /// new bounds, judged against the bounds, sets and prices at the start of the round.
+    /// The verdict on a submission, which has a name and two lists of values, each at most
+    /// 1,000,000,000 in size. The first that holds: `UnknownBidder` where no bidder has the name;
+    /// `Repeated` where a submission of the bidder was accepted in this round; `WrongCount` where
+    /// the values do not count the nodes of its tree; and else the verdict on new bounds, judged
+    /// against the bounds, sets and prices at the start of the round.
     ///
-    /// An accepted submission gives the bidder its next bounds and a mark, and changes nothing else. Any other one
-    /// changes nothing. It takes no memory.
+    /// An accepted submission gives the bidder its next bounds and a mark, and changes nothing
+    /// else. Any other one changes nothing. It takes no memory.
     pub fn submit(&mut self, exchange: &Exchange, name: &str, lo: &[i64], hi: &[i64]) -> Verdict
         requires round { IsRoundOf exchange.now self.old }
         requires lo_values { IsTrue (list_all is_value lo.now) }

@@ -19,7 +19,8 @@ use ice_tree::{AllWeights, Assignment, Bounds};
 use std::alloc::{AllocError, Global};
 use std::marker::Model;
 
-/// A market at the lower values of bounds, with its best assignment. It holds what each search without a bidder needs.
+/// A market at the lower values of bounds, with its best assignment. It holds what each search
+/// without a bidder needs.
 #[derive(Drop)]
 pub(crate) struct Economy<'a> {
     exchange: &'a Exchange,
@@ -82,7 +83,8 @@ impl<'a> Economy<'a> {
         self.exchange.bidders()
     }
 
-    /// What the market is worth without the bidder. Hints are the final log's multipliers and all assignments that are known, with the bidder's set emptied.
+    /// What the market is worth without the bidder. Hints are the final log's multipliers and all
+    /// assignments that are known, with the bidder's set emptied.
     pub(crate) fn without(
         &self,
         alloc: Global,

@@ -36,12 +36,14 @@ fn marginals(
     Ok(done)
 }
 
-/// The Vickrey discounts at the lower values of bounds, of each bidder in order, where the best assignment there is known:
-/// what it is worth above the best one in which the bidder has the empty set. That one is found by a search from the empty
-/// assignment with the bidder's root left out. The branches fall by the logs' branch steps.
+/// The Vickrey discounts at the lower values of bounds, of each bidder in order, where the best
+/// assignment there is known: what it is worth above the best one in which the bidder has the empty
+/// set. That one is found by a search from the empty assignment with the bidder's root left out.
+/// The branches fall by the logs' branch steps.
 ///
-/// `Spent` comes only where a search used all branches that those before it left: then no branch is left. `NoMemory` may
-/// come at any time, and leaves no more branches than there were. There are at most 50,000 branches.
+/// `Spent` comes only where a search used all branches that those before it left: then no branch is
+/// left. `NoMemory` may come at any time, and leaves no more branches than there were. There are at
+/// most 50,000 branches.
 pub fn discounts(
     alloc: Global,
     exchange: &Exchange,

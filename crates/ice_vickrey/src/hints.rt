@@ -1,4 +1,5 @@
-//! Where a search may begin: multipliers and assignments of searches before. What they say decides nothing.
+//! Where a search may begin: multipliers and assignments of searches before. What they say decides
+//! nothing.
 ghost use Rattle.std.specs.Prelude.{◌≤◌, length};
 ghost use Rattle.ice_defs.specs.Conditions.{AreMultipliersOf};
 

@@ -1,4 +1,5 @@
-//! Marginal economies: what a market is worth without each of its bidders, and the Vickrey discounts that follow.
+//! Marginal economies: what a market is worth without each of its bidders, and the Vickrey
+//! discounts that follow.
 #![tactic(auto)]
 
 mod economy;

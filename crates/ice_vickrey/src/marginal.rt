@@ -14,7 +14,8 @@ pub struct Marginal {
     pub without: i128,
     /// The bidder's Vickrey discount: what the best assignment of all is worth above that.
     pub discount: i128,
-    /// A feasible assignment of that value, one set for each bidder, the empty one for the bidder that is left out.
+    /// A feasible assignment of that value, one set for each bidder, the empty one for the bidder
+    /// that is left out.
     pub witness: Assignment,
     /// It refutes every feasible assignment without the bidder that is worth more.
     pub log: Log,

@@ -1,5 +1,5 @@
 -- What a leaf changes, good by good, and that it may stand in a record.
-use Rattle.std.proofs.Common.{◌≡◌, ◌≢◌, ℕ, suc, ◌+◌, ◌<◌, ◌≤◌, Bool, true, false, ◌&&◌, cond, List, [], ◌∷◌, ◌++◌, length, drop, get_or, map, ℤ, pos, refl, sym, ap, subst, ◌∙◌, arith, add-one, drop-cons, append_assoc}
+use Rattle.std.proofs.Common.{◌≡◌, ◌≢◌, ℕ, suc, ◌+◌, ◌<◌, ◌≤◌, Bool, true, false, ◌&&◌, cond, List, [], ◌∷◌, length, drop, get_or, ℤ, pos, refl, ap, ◌∙◌, arith, add-one, drop-cons}
 use Rattle.std.specs.Prelude.{int_le}
 use Rattle.std.specs.List.{AllByRecursion}
 use Rattle.std.proofs.lemmas.Int.{ints}
@@ -7,7 +7,6 @@ use Rattle.ice_defs.specs.Bound.{Multipliers}
 use Rattle.ice_defs.specs.Steps.{Step, branch, leaf, dead}
 use Rattle.ice_refute.specs.Code.{CountsGoods}
 use Rattle.ice_journal.specs.Records.{version_2, Change}
-use Rattle.ice_journal.specs.Records as line
 use Rattle.ice_journal.specs.Ranges.{IsMultiplier, Ascends, IsChange, IsStepRecord, IsRecord}
 use Rattle.ice_journal.specs.Plain.{changes_from}
 use Rattle.ice_journal_laws.specs.Showing.{step_record}

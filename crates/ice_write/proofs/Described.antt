@@ -8,7 +8,6 @@ use Rattle.ice_defs.specs.Trade.{is_exact}
 use Rattle.ice_defs.specs.Exchange.{Good, Bidder, Exchange, trees_of, exact_of, names_of, opening_bounds}
 use Rattle.ice_defs.specs.Lawful.{IsExchange, good_names}
 use Rattle.ice_trade.proofs.Weighted.{bidder_bounds}
-use Rattle.ice_journal.specs.Records.{Record}
 use Rattle.ice_journal.specs.Records as line
 use Rattle.ice_section.specs.Described.{node_records, bidder_records}
 use Rattle.ice_write.specs.Bidders.{no_bidder, with_tree, bidder_of}

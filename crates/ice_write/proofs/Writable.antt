@@ -1,10 +1,10 @@
 -- What searches give may be written.
-use Rattle.std.proofs.Common.{◌≡◌, ℕ, zero, suc, ◌<◌, ◌≤◌, Bool, List, [], ◌∷◌, length, map, ℤ, pos, Result, Ok, Err, refl, sym, ap, subst, ◌∙◌, arith}
+use Rattle.std.proofs.Common.{◌≡◌, ℕ, zero, suc, ◌<◌, ◌≤◌, Bool, List, [], ◌∷◌, length, map, ℤ, pos, Result, Ok, refl, subst, arith}
 use Rattle.std.specs.List.{AllByRecursion}
 use Rattle.std.proofs.lemmas.List.{length-map}
 use Rattle.ice_defs.specs.Tree.{Tree}
-use Rattle.ice_defs.specs.Set.{NodeSet, Weights}
-use Rattle.ice_defs.specs.Trade.{Assignment, tree_of, set_of, IsFeasible}
+use Rattle.ice_defs.specs.Set.{Weights}
+use Rattle.ice_defs.specs.Trade.{Assignment, tree_of, IsFeasible}
 use Rattle.ice_defs.specs.Steps.{Step, branch, leaf, dead, Side}
 use Rattle.ice_defs.specs.Log.{Fault, Reads, ends, branches, stops, is_fixed, has_sign, is_dead_leaf, closes, is_above, is_dead, is_alive, Passes}
 use Rattle.ice_defs.specs.Exchange.{Good, Bidder, Exchange, trees_of, exact_of}

@@ -1,6 +1,6 @@
 -- The records of one bidder.
-use Rattle.std.specs.Prelude.{ℕ, List, [], length, map, slice_index_or}
-use Rattle.ice_defs.specs.Tree.{Tree, kind_of, children_of}
+use Rattle.std.specs.Prelude.{ℕ, [], slice_index_or}
+use Rattle.ice_defs.specs.Tree.{Tree}
 use Rattle.ice_defs.specs.Bounds.{Bounds, no_bounds}
 use Rattle.ice_defs.specs.Exchange.{Bidder, Exchange}
 

@@ -116,8 +116,8 @@ fn put_bidders<K: Sink>(exchange: &Exchange, out: &mut K) -> Result<(), SinkFaul
     Ok(())
 }
 
-/// Puts the records that describe an exchange: its settings, its goods, and its bidders with their nodes in preorder. It
-/// takes no memory.
+/// Puts the records that describe an exchange: its settings, its goods, and its bidders with their
+/// nodes in preorder. It takes no memory.
 pub fn put_section<K: Sink>(exchange: &Exchange, out: &mut K) -> Result<(), SinkFault>
     ensures { IsPut (bytes_of (section_records exchange.now)) result
         (K.written out.old) (K.written out.new) (K.faults out.old) (K.faults out.new) }

@@ -59,7 +59,8 @@ fn after(step: &Step, multipliers: Multipliers) -> Multipliers
     }
 }
 
-/// Puts the steps of a log over so many goods, at most 32. Of a leaf it puts what it changes of the leaf before it.
+/// Puts the steps of a log over so many goods, at most 32. Of a leaf it puts what it changes of the
+/// leaf before it.
 fn put_steps<K: Sink>(log: &Log, goods: u8, out: &mut K) -> Result<(), SinkFault>
     requires goods { goods ≤ 32 }
     requires counts { AllByRecursion (CountsGoods goods) log.now }
@@ -77,9 +78,9 @@ fn put_steps<K: Sink>(log: &Log, goods: u8, out: &mut K) -> Result<(), SinkFault
 
 /// Puts a group: its head, the set of each bidder, and the steps of its log over so many goods.
 ///
-/// There are at most 40 bidders and 32 goods. The numbers of the head, the sets and the steps are in the ranges of their
-/// records, and each leaf has one multiplier per good. Of a leaf it puts what it changes of the leaf before it. It takes no
-/// memory.
+/// There are at most 40 bidders and 32 goods. The numbers of the head, the sets and the steps are
+/// in the ranges of their records, and each leaf has one multiplier per good. Of a leaf it puts
+/// what it changes of the leaf before it. It takes no memory.
 pub fn put_group<K: Sink>(
     head: &Line,
     sets: &Assignment,

@@ -1,4 +1,5 @@
-//! Journals, written record by record: each line with its newline is one put of a sink. No call takes memory.
+//! Journals, written record by record: each line with its newline is one put of a sink. No call
+//! takes memory.
 #![tactic(auto)]
 
 mod changes;

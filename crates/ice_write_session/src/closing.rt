@@ -12,9 +12,10 @@ use ice_edge::{Sink, SinkFault};
 use ice_journal::EndWord;
 use ice_settled::Closing;
 
-/// Puts the settlement that closes a session, and the end of the journal: its number, the groups of the final sets and of
-/// their rival, the regret, the groups without each bidder, the cut and the surplus, and what each bidder pays. All numbers
-/// are in the ranges of their records. It takes no memory.
+/// Puts the settlement that closes a session, and the end of the journal: its number, the groups of
+/// the final sets and of their rival, the regret, the groups without each bidder, the cut and the
+/// surplus, and what each bidder pays. All numbers are in the ranges of their records. It takes no
+/// memory.
 pub fn put_closing<K: Sink>(closing: &Closing, out: &mut K) -> Result<(), SinkFault>
     requires { IsWritableClosing closing.now }
     ensures { IsPut (bytes_of (closing_records closing.now)) result

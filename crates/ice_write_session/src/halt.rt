@@ -20,8 +20,8 @@ use ice_edge::{Sink, SinkFault};
 use ice_journal::{EndWord, LimitKind, Line, Stage};
 use ice_price::{PoolMember, PriceLimit};
 use ice_regret::Regret;
-use ice_settled::Halt;
 use ice_search::Found;
+use ice_settled::Halt;
 use ice_trade::Exchange;
 use ice_write::put_record;
 
@@ -75,9 +75,9 @@ fn put_found_provisional<K: Sink>(
     }
 }
 
-/// Puts a settlement as far as it came before it was halted: its number, and of the final sets, their rival with the
-/// regret, the first bidders' groups and the provisional sets what was found. All numbers are in the ranges of their
-/// records. It takes no memory.
+/// Puts a settlement as far as it came before it was halted: its number, and of the final sets,
+/// their rival with the regret, the first bidders' groups and the provisional sets what was found.
+/// All numbers are in the ranges of their records. It takes no memory.
 pub fn put_halt<K: Sink>(halt: &Halt, out: &mut K) -> Result<(), SinkFault>
     requires { IsWritableHalt halt.now }
     ensures { IsPut (bytes_of (halt_records halt.now)) result
@@ -153,8 +153,8 @@ fn put_pool<K: Sink>(pool: &[PoolMember], out: &mut K) -> Result<(), SinkFault>
     Ok(())
 }
 
-/// Puts the limit at which a pricing run ended, its pool, and the end. All numbers are in the ranges of their records. It
-/// takes no memory.
+/// Puts the limit at which a pricing run ended, its pool, and the end. All numbers are in the
+/// ranges of their records. It takes no memory.
 pub fn put_limit<K: Sink>(limit: &PriceLimit, out: &mut K) -> Result<(), SinkFault>
     requires { IsWritableLimit limit.now }
     ensures { IsPut (bytes_of (limit_records limit.now)) result

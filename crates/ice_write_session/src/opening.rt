@@ -30,9 +30,10 @@ fn put_offer<K: Sink>(exchange: &Exchange, opening: &Opening, out: &mut K) -> Re
     put_balance(&opening.pricing.balance, out)
 }
 
-/// Puts a settlement that opens a round of this exchange, before its submissions: its number, the groups of the final sets
-/// and of their rival, the regret, the group of the provisional sets, and the prices with their certificates. All numbers
-/// are in the ranges of their records; those of prices always are. It takes no memory.
+/// Puts a settlement that opens a round of this exchange, before its submissions: its number, the
+/// groups of the final sets and of their rival, the regret, the group of the provisional sets, and
+/// the prices with their certificates. All numbers are in the ranges of their records; those of
+/// prices always are. It takes no memory.
 pub fn put_opening<K: Sink>(
     exchange: &Exchange,
     opening: &Opening,

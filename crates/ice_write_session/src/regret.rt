@@ -42,7 +42,8 @@ pub fn put_regret<K: Sink>(
     put_amount(regret, out)
 }
 
-/// Puts the number of a settlement, the group of its final sets, that of their rival, and the regret.
+/// Puts the number of a settlement, the group of its final sets, that of their rival, and the
+/// regret.
 pub(crate) fn put_settlement<K: Sink>(
     exchange: &Exchange,
     number: u8,

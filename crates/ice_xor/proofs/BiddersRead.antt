@@ -1,13 +1,13 @@
 -- Bidders that are read one after another.
-use Rattle.std.proofs.Common.{◌≡◌, ℕ, suc, ◌+◌, ◌<◌, ◌≤◌, true, false, List, [], ◌∷◌, ◌++◌, length, map, drop, get_or, Some, None, Ok, Err, IsTrue, refl, sym, ap, ◌∙◌, subst, arith, add-one, drop-cons}
+use Rattle.std.proofs.Common.{◌≡◌, ℕ, suc, ◌+◌, ◌<◌, false, List, [], ◌∷◌, ◌++◌, length, map, drop, get_or, Some, Ok, Err, sym, ap, ◌∙◌, subst, arith, add-one, drop-cons}
 use Rattle.std.specs.Prelude.{codes}
-use Rattle.std.specs.List.{AllByRecursion, IsDistinct, list_any}
+use Rattle.std.specs.List.{IsDistinct, list_any}
 use Rattle.std.specs.Str.{bytes_eq}
-use Rattle.std.proofs.lemmas.List.{drop_all, length_push, map-append}
+use Rattle.std.proofs.lemmas.List.{length_push, map-append}
 use Rattle.serde_json.specs.Data.{Data}
 use Rattle.serde_json.specs.View.{view, items_view}
 use Rattle.serde_json.specs.declared.value.Value.{Value}
-use Rattle.ice_defs.specs.FileFault.{FileFault, Path, Read, ◌>>=◌}
+use Rattle.ice_defs.specs.FileFault.{FileFault, Path, ◌>>=◌}
 use Rattle.ice_defs.proofs.Lists.{all_push}
 use Rattle.ice_defs.proofs.Naming.{distinct_push}
 use Rattle.ice_read.specs.Values.{at_index, of_member, text_of}

@@ -1,6 +1,5 @@
 -- A tree of packages that is built node by node.
-use Rattle.std.proofs.Common.{ℕ, zero, suc, ◌+◌, ◌<◌, ◌≤◌, ◌≡◌, ◌≢◌, Bool, true, false, cond, ◌&&◌, eqb, leb, ltb, min, List, [], ◌∷◌, ◌++◌, length, map, take, drop, get_or, replicate, Option, Some, None, ℤ, pos, refl, sym, ap, ◌∙◌, subst, arith, add-one, length-append}
-use Rattle.std.specs.List.{AllByRecursion}
+use Rattle.std.proofs.Common.{ℕ, suc, ◌+◌, ◌<◌, ◌≤◌, ◌≡◌, Bool, true, false, cond, ◌&&◌, leb, ltb, min, List, [], ◌∷◌, ◌++◌, length, map, get_or, replicate, Option, Some, None, ℤ, pos, refl, sym, ap, ◌∙◌, arith, length-append}
 use Rattle.std.proofs.lemmas.Bool.{ne_eqb}
 use Rattle.std.proofs.lemmas.Bool.Decides.{nat_tests}
 use Rattle.std.proofs.lemmas.List.{append_assoc, append-nil, length-replicate, replicate-append-replicate, map-append}
@@ -9,18 +8,17 @@ use Rattle.ice_defs.specs.declared.Node.{Node}
 use Rattle.ice_defs.specs.declared.NodeKind.{NodeKind}
 use Rattle.ice_defs.specs.declared.NodeKind.TheVariants.{Choose}
 use Rattle.ice_defs.specs.Tree.{Tree, no_node, kind_of, children_of}
-use Rattle.ice_defs.specs.Bounds.{Bounds}
-use Rattle.ice_defs.specs.Making.{TreeDraft, no_tree, with_node, with_open, innermost, node_refusal, draft_refusal, close_refusal}
+use Rattle.ice_defs.specs.Making.{TreeDraft, with_node, with_open, innermost, node_refusal, draft_refusal, close_refusal}
 use Rattle.ice_defs.proofs.Lists.{all-append}
 use Rattle.ice_tree.specs.Making.{draft_close_refusal, kind_close_refusal, with_closed}
 use Rattle.ice_xor.specs.declared.units.GoodUnits.{GoodUnits}
 use Rattle.ice_xor.specs.FlatBids.{Package, FlatBidder, leaf_kind, package_nodes, packages_nodes, spread_over, flat_tree, flat_bounds}
 use Rattle.ice_xor.specs.Translating.{depth_of, or_later, nodes_refusal, tree_refusal}
 use Rattle.ice_xor.specs.Building.{IsUnderRoot, package_values, package_refusal, with_package}
-use Rattle.ice_xor.proofs.PackageNodes.{leaf, leaves, head, length-leaves, length-packages}
-use Rattle.ice_xor.proofs.Spreading.{AreBefore, before_more, before_leaves, not_at}
+use Rattle.ice_xor.proofs.PackageNodes.{leaf, leaves, length-leaves, length-packages}
+use Rattle.ice_xor.proofs.Spreading.{AreBefore, before_leaves, not_at}
 use Rattle.ice_xor.proofs.Children.{under, children-under, under-append, under-none, under-leaves, under-root}
-use Rattle.ice_xor.proofs.NodesRefused.{nodes_refusal-append, both_none, nodes-few, depth-package, depth-leaf, open-refusal}
+use Rattle.ice_xor.proofs.NodesRefused.{nodes_refusal-append, nodes-few, depth-package, depth-leaf, open-refusal}
 
 abbrev pub zeros : List GoodUnits → List ℤ
 zeros us = replicate (length us) (pos 0)

@@ -1,5 +1,5 @@
 -- How many children a node has, counted over the nodes behind the root.
-use Rattle.std.proofs.Common.{ℕ, zero, suc, ◌+◌, ◌<◌, ◌≡◌, ◌≢◌, Bool, true, false, cond, ◌&&◌, eqb, List, [], ◌∷◌, ◌++◌, length, replicate, get_or, refl, sym, ap, ◌∙◌, arith, length-append}
+use Rattle.std.proofs.Common.{ℕ, suc, ◌+◌, ◌<◌, ◌≡◌, ◌≢◌, Bool, true, false, cond, ◌&&◌, eqb, List, [], ◌∷◌, ◌++◌, length, replicate, get_or, refl, sym, ap, ◌∙◌, arith}
 use Rattle.std.specs.List.{AllByRecursion, filter, count_by}
 use Rattle.std.proofs.lemmas.Bool.{eq-eqb, ne_eqb}
 use Rattle.std.proofs.lemmas.List.{length-replicate, get_or-replicate}
@@ -12,7 +12,7 @@ use Rattle.ice_tree.proofs.Children.{children_of-inside, count_by-children_of}
 use Rattle.ice_xor.specs.declared.units.GoodUnits.{GoodUnits}
 use Rattle.ice_xor.specs.FlatBids.{Package, packages_nodes}
 use Rattle.ice_xor.proofs.Paired.{inside_under, children-counted}
-use Rattle.ice_xor.proofs.PackageNodes.{leaf, leaves, head}
+use Rattle.ice_xor.proofs.PackageNodes.{leaves}
 
 -- ---- nodes with a parent
 

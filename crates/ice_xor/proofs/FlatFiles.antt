@@ -1,9 +1,9 @@
 -- A whole file of flat bids.
-use Rattle.std.proofs.Common.{◌≡◌, ℕ, Bool, true, cond, ◌||◌, eqb, List, [], ◌∷◌, length, Ok, refl, sym, ap, ◌∙◌}
+use Rattle.std.proofs.Common.{◌≡◌, ℕ, Bool, true, cond, ◌||◌, eqb, List, [], ◌∷◌, length, Ok, sym, ap, ◌∙◌}
 use Rattle.std.specs.Prelude.{codes}
 use Rattle.serde_json.specs.Data.{Data}
 use Rattle.ice_defs.specs.Exchange.{Settings, Good, Exchange}
-use Rattle.ice_defs.specs.FileFault.{Read, refuse}
+use Rattle.ice_defs.specs.FileFault.{refuse}
 use Rattle.ice_trade.specs.Parts.{no_exchange}
 use Rattle.ice_read.specs.Values.{has_exactly, of_member}
 use Rattle.ice_read.specs.ExchangeFile.{settings_at, goods_at}

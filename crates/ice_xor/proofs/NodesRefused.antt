@@ -1,12 +1,10 @@
 -- The refusals of nodes, part by part.
-use Rattle.std.proofs.Common.{ℕ, zero, suc, ◌+◌, ◌<◌, ◌≤◌, ◌≡◌, Bool, true, false, cond, ◌&&◌, not, eqb, leb, ltb, List, [], ◌∷◌, ◌++◌, length, Option, Some, None, ℤ, refl, sym, ap, ◌∙◌, arith}
-use Rattle.std.specs.Prelude.{int_lt}
+use Rattle.std.proofs.Common.{ℕ, suc, ◌+◌, ◌<◌, ◌≤◌, ◌≡◌, Bool, true, false, cond, ◌&&◌, not, eqb, leb, ltb, List, [], ◌∷◌, ◌++◌, length, Option, Some, None, ℤ, refl, sym, ap, ◌∙◌, arith}
 use Rattle.std.proofs.lemmas.Bool.{ne_eqb}
 use Rattle.std.proofs.lemmas.Bool.Decides.{nat_tests}
 use Rattle.ice_defs.specs.declared.NodeKind.{NodeKind}
-use Rattle.ice_defs.specs.declared.NodeKind.TheVariants.{Choose}
 use Rattle.ice_defs.specs.Tree.{Tree}
-use Rattle.ice_defs.specs.Making.{TreeDraft, is_complete, node_refusal, draft_refusal, is_lawful_kind, is_value}
+use Rattle.ice_defs.specs.Making.{TreeDraft, node_refusal, draft_refusal}
 use Rattle.ice_xor.specs.Translating.{depth_of, or_later, nodes_refusal}
 
 pub or_later-assoc : (a b c : Option ℕ) → or_later (or_later a b) c ≡ or_later a (or_later b c)

@@ -1,21 +1,18 @@
 -- The nodes of packages, and the sets that take each package whole.
-use Rattle.std.proofs.Common.{ℕ, zero, suc, ◌+◌, ◌<◌, ◌≤◌, ◌≡◌, ◌≢◌, Bool, true, false, cond, ◌&&◌, eqb, List, [], ◌∷◌, ◌++◌, length, map, replicate, ℤ, pos, negsuc, ◌+ℤ◌, refl, sym, ap, ◌∙◌, arith, length-append}
+use Rattle.std.proofs.Common.{ℕ, zero, suc, ◌+◌, ◌≡◌, Bool, true, false, cond, eqb, List, [], ◌∷◌, ◌++◌, length, map, replicate, ℤ, pos, negsuc, ◌+ℤ◌, refl, sym, ap, ◌∙◌, arith, length-append}
 use Rattle.std.specs.Prelude.{slice_index_or, int_lt, unsigned_abs, neg_ℤ}
-use Rattle.std.specs.List.{AllByRecursion}
 use Rattle.std.proofs.lemmas.Int.{ints}
-use Rattle.std.proofs.lemmas.Bool.{eq-eqb}
 use Rattle.std.proofs.lemmas.List.{length-map, length-replicate}
 use Rattle.ice_defs.specs.declared.Node.{Node}
 use Rattle.ice_defs.specs.declared.NodeKind.TheVariants.{Choose, Buy, Sell}
 use Rattle.ice_defs.specs.Sum.{sum_over}
 use Rattle.ice_defs.specs.Tree.{Tree}
-use Rattle.ice_defs.specs.Set.{NodeSet, has, Weights, value, leaf_units, units}
+use Rattle.ice_defs.specs.Set.{NodeSet, has, value, leaf_units, units}
 use Rattle.ice_defs.proofs.Integers.{int_lt-not}
-use Rattle.ice_defs.proofs.Lists.{all-append}
 use Rattle.ice_defs.proofs.Sums.{sum_below-front}
 use Rattle.ice_xor.specs.declared.units.GoodUnits.{GoodUnits}
 use Rattle.ice_xor.specs.FlatBids.{Package, package_units, no_package, taken_units, leaf_kind, package_nodes, packages_nodes, spread_over}
-use Rattle.ice_xor.proofs.Paired.{inside, inside_under, inside_under-append, inside_under-none, value_more, value-append, units_more, units-append}
+use Rattle.ice_xor.proofs.Paired.{value_more, value-append, units_more, units-append}
 
 -- ---- their leaves
 

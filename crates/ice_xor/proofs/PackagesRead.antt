@@ -1,5 +1,5 @@
 -- What is read of packages is lawful.
-use Rattle.std.proofs.Common.{◌≡◌, ℕ, zero, suc, ◌+◌, ◌<◌, ◌≤◌, Bool, true, false, cond, ◌&&◌, eqb, List, [], ◌∷◌, ◌++◌, length, ℤ, pos, negsuc, neg_ℤ, Option, Some, None, refl, sym, ap, ◌∙◌, arith}
+use Rattle.std.proofs.Common.{◌≡◌, ℕ, zero, suc, ◌+◌, ◌<◌, Bool, true, false, cond, ◌&&◌, eqb, List, [], ◌∷◌, length, ℤ, pos, negsuc, neg_ℤ, Option, Some, None, refl, sym, ◌∙◌, arith}
 use Rattle.std.specs.Prelude.{Ok, Err, codes, int_le, nat_lt}
 use Rattle.std.specs.List.{AllByRecursion, position}
 use Rattle.std.specs.Str.{bytes_eq}

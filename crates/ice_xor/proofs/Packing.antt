@@ -1,14 +1,14 @@
 -- How far a package, and a tree of packages, is built: the state of each loop.
-use Rattle.std.proofs.Common.{ℕ, zero, suc, ◌+◌, ◌<◌, ◌≤◌, ◌≡◌, min, List, [], ◌∷◌, ◌++◌, length, take, drop, get_or, Option, Some, None, pos, refl, sym, ap, ◌∙◌, subst, arith, add-one, drop-cons}
+use Rattle.std.proofs.Common.{ℕ, suc, ◌+◌, ◌<◌, ◌≤◌, ◌≡◌, min, List, [], ◌∷◌, ◌++◌, length, take, drop, get_or, Some, None, pos, refl, sym, ap, ◌∙◌, subst, arith, add-one, drop-cons}
 use Rattle.std.proofs.lemmas.List.{take_more, drop_all, take_all, length-take-le}
 use Rattle.ice_defs.specs.declared.NodeKind.TheVariants.{Choose}
 use Rattle.ice_defs.specs.Making.{TreeDraft, with_node, with_open, node_refusal, draft_refusal}
 use Rattle.ice_tree.specs.Making.{draft_close_refusal, with_closed}
 use Rattle.ice_xor.specs.declared.units.GoodUnits.{GoodUnits}
-use Rattle.ice_xor.specs.FlatBids.{Package, FlatBidder, leaf_kind, flat_tree, flat_bounds}
+use Rattle.ice_xor.specs.FlatBids.{Package, FlatBidder, leaf_kind}
 use Rattle.ice_xor.specs.Translating.{depth_of, or_later, tree_refusal}
 use Rattle.ice_xor.specs.Building.{IsUnderRoot, package_refusal, with_package}
-use Rattle.ice_xor.proofs.Built.{packed, left, opened-first, refused-first, packed-more, refused-leaf, closes, packed-whole, few-leaves, built, packages_left, built-more, under_root, refused-root, left-more, length-built, closes-root, few-packages}
+use Rattle.ice_xor.proofs.Built.{packed, left, opened-first, refused-first, packed-more, refused-leaf, closes, packed-whole, few-leaves, built, packages_left, built-more, under_root, refused-root, left-more, length-built, closes-root}
 
 -- ---- a package, leaf by leaf
 

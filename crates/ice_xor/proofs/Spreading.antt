@@ -6,14 +6,14 @@ use Rattle.std.proofs.lemmas.Bool.{cases_lt, eq-eqb, ne_eqb}
 use Rattle.std.proofs.lemmas.List.{append_assoc, get_or_append_left, get_or-append-add}
 use Rattle.std.proofs.Math.Seq.{get_or-append_seam}
 use Rattle.ice_defs.specs.declared.Node.{Node}
-use Rattle.ice_defs.specs.declared.NodeKind.TheVariants.{Choose, Buy, Sell}
+use Rattle.ice_defs.specs.declared.NodeKind.TheVariants.{Buy, Sell}
 use Rattle.ice_defs.specs.Tree.{Tree, no_node, kind_of, parent_of}
-use Rattle.ice_defs.specs.Set.{NodeSet, has, children_inside, IsWithin, IsSatisfied}
+use Rattle.ice_defs.specs.Set.{NodeSet, has, children_inside, IsWithin}
 use Rattle.ice_defs.proofs.Lists.{all-append}
 use Rattle.ice_xor.specs.declared.units.GoodUnits.{GoodUnits}
 use Rattle.ice_xor.specs.FlatBids.{Package, leaf_kind, package_nodes, packages_nodes}
 use Rattle.ice_xor.proofs.Paired.{inside, inside_under, inside_under-append, inside_under-none, children-counted}
-use Rattle.ice_xor.proofs.PackageNodes.{leaf, leaves, head, length-leaves, length-whole, spread_set, length-packages, length-spread_set}
+use Rattle.ice_xor.proofs.PackageNodes.{leaf, leaves, head, length-leaves, length-whole, spread_set, length-spread_set}
 
 -- ---- parents
 

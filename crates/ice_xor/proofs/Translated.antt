@@ -1,5 +1,5 @@
 -- How far an exchange is translated: the state of the loop over the bidders.
-use Rattle.std.proofs.Common.{ℕ, zero, suc, ◌+◌, ◌<◌, ◌≤◌, ◌≡◌, Bool, true, false, cond, ◌||◌, eqb, List, [], ◌∷◌, ◌++◌, length, map, take, drop, get_or, Option, Some, None, refl, sym, ap, ◌∙◌, subst, arith, rules, add-one, drop-cons}
+use Rattle.std.proofs.Common.{ℕ, zero, suc, ◌+◌, ◌<◌, ◌≡◌, Bool, false, cond, ◌||◌, eqb, List, [], ◌∷◌, ◌++◌, length, map, take, drop, get_or, Option, Some, None, refl, sym, ap, ◌∙◌, subst, arith, rules, add-one, drop-cons}
 use Rattle.std.specs.Prelude.{IsSome}
 use Rattle.std.specs.List.{AllByRecursion}
 use Rattle.std.proofs.lemmas.Bool.Decides.{nat_tests}
@@ -8,8 +8,8 @@ use Rattle.ice_defs.specs.Exchange.{Bidder, Exchange}
 use Rattle.ice_defs.specs.Making.{bidder_refusal, exchange_refusal}
 use Rattle.ice_trade.specs.Parts.{with_bidder}
 use Rattle.ice_xor.specs.FlatBids.{FlatBidder, FlatExchange, translated, translated_bidder}
-use Rattle.ice_xor.specs.Lawful.{IsFlatBidder, IsFlatExchange}
-use Rattle.ice_xor.specs.Translating.{Refusal, or_later, tree_refusal, refusal_of, refusal_from, translate_refusal}
+use Rattle.ice_xor.specs.Lawful.{IsFlatExchange}
+use Rattle.ice_xor.specs.Translating.{or_later, tree_refusal, refusal_of, refusal_from, translate_refusal}
 
 -- these bidders so far, and what is left decides
 pub record IsTranslating (flat : FlatExchange) (ex : Exchange) (i : ℕ) : Type 0 where

@@ -1,21 +1,20 @@
 -- The worth of a trade by flat bids is its worth in the tree.
-use Rattle.std.proofs.Common.{ℕ, zero, suc, ◌+◌, ◌<◌, ◌≤◌, ◌≡◌, Bool, true, false, cond, List, [], ◌∷◌, ◌++◌, length, map, IsTrue, ℤ, pos, ◌+ℤ◌, ◌≤ℤ◌, refl, sym, ap, ◌∙◌, subst, arith}
+use Rattle.std.proofs.Common.{ℕ, zero, suc, ◌<◌, ◌≤◌, ◌≡◌, Bool, true, false, cond, List, [], ◌∷◌, length, map, IsTrue, ℤ, pos, ◌≤ℤ◌, refl, sym, ap, ◌∙◌, subst, arith}
 use Rattle.std.specs.List.{AllByRecursion}
 use Rattle.std.proofs.lemmas.Int.{ints}
 use Rattle.std.proofs.lemmas.List.{length-map}
 use Rattle.ice_defs.specs.declared.Node.{Node}
 use Rattle.ice_defs.specs.declared.NodeKind.TheVariants.{Choose}
 use Rattle.ice_defs.specs.Sum.{count_below}
-use Rattle.ice_defs.specs.Tree.{Tree, kind_of}
-use Rattle.ice_defs.specs.Set.{NodeSet, has, children_inside, IsWithin, IsSatisfied, Weights, value, units}
+use Rattle.ice_defs.specs.Tree.{kind_of}
+use Rattle.ice_defs.specs.Set.{NodeSet, has, children_inside, IsWithin, IsSatisfied, value, units}
 use Rattle.ice_defs.specs.Trade.{is_exact, IsCovered}
 use Rattle.ice_defs.specs.Market.{Trade, Serves, IsWorth}
-use Rattle.ice_defs.specs.Bounds.{IsInside}
-use Rattle.ice_xor.specs.FlatBids.{Package, FlatBidder, ServesFlat, IsFlatWorth, flat_tree, packages_nodes, taken_units, spread, spread_over, package_bounds, KeepsWorth}
+use Rattle.ice_xor.specs.FlatBids.{Package, FlatBidder, ServesFlat, IsFlatWorth, flat_tree, packages_nodes, taken_units, spread, spread_over, KeepsWorth}
 use Rattle.ice_xor.proofs.Paired.{inside, inside-counted, children-counted, value_more, units_more}
 use Rattle.ice_xor.proofs.PackageNodes.{spread_set, length-spread_set, value-spread, units-spread}
-use Rattle.ice_xor.proofs.Spreading.{IsSound, sound, under_root}
-use Rattle.ice_xor.proofs.Gathering.{IsGathered, gather}
+use Rattle.ice_xor.proofs.Spreading.{sound, under_root}
+use Rattle.ice_xor.proofs.Gathering.{gather}
 
 abbrev most : FlatBidder → ℕ
 most b = cond b.any (length b.packages) 1

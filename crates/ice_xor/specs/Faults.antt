@@ -1,5 +1,5 @@
 -- Why flat bids are not translated.
-use Rattle.std.specs.Prelude.{ℕ, ◌≡◌, List, [], false, length, slice_index_or, Option, Some, None, IsSome, Result, Ok, Err}
+use Rattle.std.specs.Prelude.{ℕ, ◌≡◌, [], false, length, slice_index_or, Option, Some, None, IsSome, Result, Ok, Err}
 use Rattle.ice_tree.specs.Fault.{tree_fault_number}
 use Rattle.ice_trade.specs.Fault.{make_fault_number, TellsSale}
 use Rattle.ice_xor.specs.declared.faults.MakerFault.{MakerFault}

@@ -20,7 +20,8 @@ use serde_json::Value;
 use std::alloc::Global;
 use std::marker::Model;
 
-/// A bidder: its name, what it owns of each good, and its packages, of which it takes at most one, or any.
+/// A bidder: its name, what it owns of each good, and its packages, of which it takes at most one,
+/// or any.
 #[derive(Drop)]
 pub struct FlatBidder {
     pub(crate) name: Name,

@@ -32,8 +32,8 @@ fn kind_of(units: GoodUnits) -> NodeKind
     }
 }
 
-/// So many, for a choose node. A tree has no node with more than 199 children, so it is refused before the node's close
-/// where there are more.
+/// So many, for a choose node. A tree has no node with more than 199 children, so it is refused
+/// before the node's close where there are more.
 fn choice_of(children: usize) -> u16
     ensures { result ≡ min children 199 }
 {

@@ -18,7 +18,8 @@ pub enum MakerFault {
 }
 
 impl MakerFault {
-    /// The number of this refusal in reports, and None for want of memory, which no maker of flat bids tells.
+    /// The number of this refusal in reports, and None for want of memory, which no maker of flat
+    /// bids tells.
     pub fn number(&self) -> Option<u8>
         ensures { result ≡ maker_fault_number self.now }
     {

@@ -7,8 +7,8 @@ use ice_terms::Settings;
 use ice_trade::ExchangeMaker;
 use std::marker::Model;
 
-/// An exchange of flat bids: its settings, 1 to 32 goods, and 1 to 40 bidders with their owned amounts and packages.
-/// Only `read_flat` makes one.
+/// An exchange of flat bids: its settings, 1 to 32 goods, and 1 to 40 bidders with their owned
+/// amounts and packages. Only `read_flat` makes one.
 #[derive(Drop)]
 pub struct FlatExchange {
     /// The settings and the goods, with no bidder.

@@ -1,4 +1,5 @@
-//! Flat bids: packages with prices, of which a bidder takes one, or any; and the trees that say the same.
+//! Flat bids: packages with prices, of which a bidder takes one, or any; and the trees that say the
+//! same.
 #![tactic(auto)]
 
 mod bidders;

@@ -23,8 +23,9 @@ fn is_taken(bidders: &[FlatBidder], name: &Name) -> bool
     bidders.iter().any(|other| is_named(other, name))
 }
 
-/// The name of a bidder that comes after these. It refuses, in this order, where this is no name (`BadName`), where a
-/// bidder has the name (`DuplicateBidder`), and where 40 bidders stand (`TooMany`).
+/// The name of a bidder that comes after these. It refuses, in this order, where this is no name
+/// (`BadName`), where a bidder has the name (`DuplicateBidder`), and where 40 bidders stand
+/// (`TooMany`).
 pub(crate) fn check_name(bidders: &[FlatBidder], name: &str) -> Result<Name, MakeFault>
     ensures made { IfOk result (λ made. made ≡ name.now) }
     ensures refused { RefusedBy result (flat_refusal bidders.now name.now) }

@@ -80,12 +80,13 @@ fn of_file(fault: ReadFault) -> ReadFault
 
 /// The flat bids of the bytes of a file in JSON, or the first fault with its place.
 ///
-/// The outermost object comes first, then its settings, its goods and its bidders. A bidder is read member by member:
-/// its name, what it owns, its packages; then `Make` comes with `BadName`, `DuplicateBidder`, or `TooMany` past 40
-/// bidders. `NoPackages` comes at an empty array of packages, and `NoUnits` at a package with no units. A package is
-/// read whole before the next one: its form, then `lo`, `hi`, and its units in the order of the names. An amount of 0 is
-/// out of `Range`. The other causes are those of exchange files. Want of memory is told of the whole file: its place is
-/// `-`.
+/// The outermost object comes first, then its settings, its goods and its bidders. A bidder is read
+/// member by member: its name, what it owns, its packages; then `Make` comes with `BadName`,
+/// `DuplicateBidder`, or `TooMany` past 40 bidders. `NoPackages` comes at an empty array of
+/// packages, and `NoUnits` at a package with no units. A package is read whole before the next one:
+/// its form, then `lo`, `hi`, and its units in the order of the names. An amount of 0 is out of
+/// `Range`. The other causes are those of exchange files. Want of memory is told of the whole file:
+/// its place is `-`.
 pub fn read_flat(alloc: Global, bytes: &[u8]) -> Result<FlatExchange, ReadFault>
     ensures flat { IsAnswer result (flat_of bytes.now) }
     ensures lawful { IfOk result IsFlatExchange }

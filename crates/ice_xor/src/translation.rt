@@ -37,13 +37,15 @@ fn add_bidder(exchange: &mut ExchangeMaker, bidder: &FlatBidder) -> Result<(), M
     }
 }
 
-/// The exchange that flat bids say, or the first refusal of a maker, the bidders being made in order.
+/// The exchange that flat bids say, or the first refusal of a maker, the bidders being made in
+/// order.
 ///
-/// Each bidder has a tree whose root chooses at most one of its packages, or any; a package is a choose node with its
-/// bounds that takes all its leaves, one for each good in ascending order. Settings, goods, names and owned amounts are
-/// kept. The tree's maker refuses the first node of a bidder that it does not take, the exchange's maker a bidder with too many
-/// nodes (`TooMany`), or whose packages may sell more of a good than it owns (`OverSale`). Want of memory
-/// (`NoMemory`) is the other error.
+/// Each bidder has a tree whose root chooses at most one of its packages, or any; a package is a
+/// choose node with its bounds that takes all its leaves, one for each good in ascending order.
+/// Settings, goods, names and owned amounts are kept. The tree's maker refuses the first node of a
+/// bidder that it does not take, the exchange's maker a bidder with too many nodes (`TooMany`), or
+/// whose packages may sell more of a good than it owns (`OverSale`). Want of memory (`NoMemory`) is
+/// the other error.
 pub fn translate(alloc: Global, flat: &FlatExchange) -> Result<Exchange, TranslateFault>
     ensures exchange { IfOk result (λ exchange. exchange ≡ translated flat.now) }
     ensures lawful { IfOk result IsExchange }

@@ -14,7 +14,8 @@ use ice_trade::ExchangeMaker;
 use serde_json::Value;
 use std::alloc::{AllocError, Global};
 
-/// Units of one good in a package, by the good's number: bought units are positive, and sold ones negative.
+/// Units of one good in a package, by the good's number: bought units are positive, and sold ones
+/// negative.
 #[derive(Clone, Copy, PartialEq, Eq, Debug)]
 pub struct GoodUnits {
     /// The good's number.

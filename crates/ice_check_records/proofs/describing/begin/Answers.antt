@@ -1,7 +1,7 @@
 use Rattle.std.proofs.Common.{suc, refl, sym, ◌∙◌, ap, subst}
 use Rattle.ice_journal.specs.Lines.{record_of}
 use Rattle.ice_section.specs.Section.{Section}
-use Rattle.ice_journal_laws.specs.Progress.{Progress, other_kind, passing, IsAfter}
+use Rattle.ice_journal_laws.specs.Progress.{Progress, passing, IsAfter}
 use Rattle.ice_check_records.specs.Heads.{version_of_head, kind_of_head}
 use Rattle.ice_journal_laws.specs.Assigning.{describing}
 use Rattle.ice_check_records.proofs.describing.begin.Goals as goal

@@ -1,9 +1,8 @@
-use Rattle.std.proofs.Common.{◌≡◌, suc, refl, sym, subst}
+use Rattle.std.proofs.Common.{suc, refl, sym, subst}
 use Rattle.ice_defs.specs.Exchange.{Exchange}
 use Rattle.ice_journal.specs.Lines.{record_of}
 use Rattle.ice_section.specs.Section.{exchange_in}
 use Rattle.ice_check_records.specs.declared.groups.Groups.{Groups}
-use Rattle.ice_journal_laws.specs.State.{State}
 use Rattle.ice_journal_laws.specs.Next.{go_to}
 use Rattle.ice_journal_laws.specs.Progress.{Progress, passing, IsAfter}
 use Rattle.ice_journal_laws.specs.Assigning.{described}

@@ -1,4 +1,4 @@
-use Rattle.std.proofs.Common.{◌≡◌, ℕ, List, sym, subst}
+use Rattle.std.proofs.Common.{List, sym, subst}
 use Rattle.ice_edge.specs.declared.status.Status.TheVariants.{Done}
 use Rattle.ice_cli.specs.declared.best_set.BestSet.{BestSet}
 use Rattle.ice_cli.specs.Bests.{best_text}

@@ -1,6 +1,5 @@
 use Rattle.std.proofs.Common.{rules}
 use Rattle.ice_cli.specs.Refusals.{NoFault}
-use Rattle.ice_cli.proofs.Parts.{fetched}
 use Rattle.ice_cli.proofs.Refusing.{unread, overlong}
 use Rattle.ice_cli.proofs.files.fetch.Goals as goal
 

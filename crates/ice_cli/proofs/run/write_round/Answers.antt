@@ -1,4 +1,4 @@
-use Rattle.std.proofs.Common.{◌≡◌, ◌+◌, ℕ, refl, sym, subst, rules}
+use Rattle.std.proofs.Common.{◌+◌, ℕ, refl, sym, subst, rules}
 use Rattle.ice_round.specs.SessionAt.{SessionAt}
 use Rattle.ice_cli.specs.Call.{file_limit}
 use Rattle.ice_cli.specs.Files.{IsRoundFault, HoldsBids}

@@ -1,4 +1,4 @@
-use Rattle.std.proofs.Common.{◌≡◌, ◌<◌, [], ◌∷◌, length, sym, refl, rules, arith, get_or}
+use Rattle.std.proofs.Common.{[], ◌∷◌, sym, refl, rules, arith}
 use Rattle.std.proofs.lemmas.Result.{err_from_is_err_and}
 use Rattle.ice_defs.specs.Round.{Judged}
 use Rattle.ice_session_laws.proofs.Verdicts.{verdict_may_be_written}

@@ -1,4 +1,4 @@
-use Rattle.std.proofs.Common.{◌≡◌, ◌∙◌, refl, sym, subst, length}
+use Rattle.std.proofs.Common.{◌∙◌, refl, sym, subst, length}
 use Rattle.ice_edge.specs.Puts.{Takes, FailsIn}
 use Rattle.ice_defs.specs.Exchange.{Exchange, exact_of}
 use Rattle.ice_journal.specs.Journal.{bytes_of}

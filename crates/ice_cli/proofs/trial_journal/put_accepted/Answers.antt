@@ -1,13 +1,9 @@
-use Rattle.std.proofs.Common.{◌<◌, ◌∙◌, List, ℕ, refl, sym, length, map, arith}
+use Rattle.std.proofs.Common.{◌<◌, List, refl, sym, length, map, arith}
 use Rattle.std.specs.List.{flat_map}
-use Rattle.std.proofs.lemmas.List.Folds.{flat_map-map}
 use Rattle.std.proofs.lemmas.Result.{err_from_is_err_and}
-use Rattle.ice_defs.specs.declared.Verdict.TheVariants.{Accepted}
-use Rattle.ice_defs.specs.Round.{Submission, Judged}
-use Rattle.ice_edge.proofs.Puts.{all_left}
 use Rattle.ice_journal.specs.Journal.{bytes_of}
 use Rattle.ice_journal_laws.specs.Written.{judged_records}
-use Rattle.ice_write.proofs.Loops.{fails_as, takes_as, one_more, one_fails, all_put, bytes_flat}
+use Rattle.ice_write.proofs.Loops.{fails_as, takes_as, one_more, one_fails, all_put}
 use Rattle.ice_trial.specs.Rounds.{accepted}
 use Rattle.ice_cli.specs.GenJournal.{accepted_text}
 use Rattle.ice_cli.proofs.Trials.{accepted_bytes}

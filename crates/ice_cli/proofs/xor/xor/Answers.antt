@@ -1,4 +1,4 @@
-use Rattle.std.proofs.Common.{◌≡◌, ℕ, List, sym, subst}
+use Rattle.std.proofs.Common.{ℕ, List, sym, subst}
 use Rattle.ice_edge.specs.declared.status.Status.TheVariants.{Done}
 use Rattle.ice_cli.specs.Call.{file_limit}
 use Rattle.ice_cli.specs.Parts.{AreFetched}

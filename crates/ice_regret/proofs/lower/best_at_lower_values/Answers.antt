@@ -1,8 +1,8 @@
-use Rattle.std.proofs.Common.{◌≡◌, ◌∙◌, ap, sym, subst, List, IfOk, IfErr}
+use Rattle.std.proofs.Common.{◌∙◌, ap, sym, subst, List, IfOk, IfErr}
 use Rattle.std.proofs.lemmas.Result.{IfOk-weaker}
 use Rattle.ice_defs.specs.Steps.{Side}
 use Rattle.ice_defs.specs.Set.{Weights}
-use Rattle.ice_defs.specs.Trade.{Assignment, IsFeasible, MeetsAll, IsBest}
+use Rattle.ice_defs.specs.Trade.{IsFeasible, MeetsAll, IsBest}
 use Rattle.ice_defs.specs.Group.{free_side, empty_sets}
 use Rattle.ice_defs.specs.Weighing.{lower_weights}
 use Rattle.ice_defs.specs.Exchange.{trees_of, exact_of}

@@ -1,7 +1,7 @@
-use Rattle.std.proofs.Common.{◌∷◌, length, ap, subst, arith, length-append}
+use Rattle.std.proofs.Common.{◌∷◌, length, ap, arith, length-append}
 use Rattle.ice_journal.specs.Lines.{record_of}
-use Rattle.ice_check_records.proofs.Reading.{few_read, grammar_fault, unended_fault}
-use Rattle.ice_replay.proofs.Played.{HasPlayed, nothing_played, as_read, one_played, all_played}
+use Rattle.ice_check_records.proofs.Reading.{few_read}
+use Rattle.ice_replay.proofs.Played.{nothing_played, as_read, one_played}
 use Rattle.ice_replay.proofs.reading.read_all.Goals as goal
 
 pub loop-rest-init : goal.loop-rest-init

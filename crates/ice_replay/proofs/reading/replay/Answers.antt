@@ -1,4 +1,3 @@
-use Rattle.ice_replay.specs.Ending.{IsRead}
 use Rattle.ice_replay.proofs.reading.replay.Goals as goal
 
 pub returns-in-Ok-read_all : goal.returns-in-Ok-read_all

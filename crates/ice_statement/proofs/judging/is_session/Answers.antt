@@ -1,4 +1,4 @@
-use Rattle.std.proofs.Common.{◌≡◌, false}
+use Rattle.std.proofs.Common.{◌≡◌}
 use Rattle.ice_journal.specs.Lines.{record_of}
 use Rattle.ice_statement.specs.Judging.{is_session}
 use Rattle.ice_statement.proofs.Judged.{first_read, none_read}

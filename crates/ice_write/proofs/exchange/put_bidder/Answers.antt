@@ -1,6 +1,5 @@
-use Rattle.std.proofs.Common.{◌≡◌, ◌∙◌, ◌∷◌, ap, get_or, arith}
+use Rattle.std.proofs.Common.{◌∙◌, ◌∷◌, ap, get_or}
 use Rattle.std.proofs.lemmas.Result.{err_from_is_err_and}
-use Rattle.ice_trade.proofs.Weighted.{bidder_bounds}
 use Rattle.ice_journal.specs.Records as line
 use Rattle.ice_journal.specs.Spelling.{line_of}
 use Rattle.ice_journal.specs.Journal.{bytes_of}

@@ -1,9 +1,6 @@
-use Rattle.std.proofs.Common.{drop, length}
-use Rattle.std.specs.List.{AllByRecursion, flat_map}
+use Rattle.std.proofs.Common.{drop}
+use Rattle.std.specs.List.{flat_map}
 use Rattle.ice_edge.specs.Puts.{TakesAllBut}
-use Rattle.ice_journal.specs.Records as line
-use Rattle.ice_journal.specs.Spelling.{line_of}
-use Rattle.ice_journal.specs.Journal.{bytes_of}
 use Rattle.ice_write.specs.Pieces.{bidder_text}
 use Rattle.ice_write.proofs.exchange.put_bidders.Given as goal
 

@@ -1,7 +1,6 @@
-use Rattle.std.proofs.Common.{◌≡◌, ◌<◌, ap, subst, length, map, drop, get_or, arith, [], drop-cons, add-one}
-use Rattle.std.specs.List.{AllByRecursion, flat_map}
+use Rattle.std.proofs.Common.{◌<◌, ap, length, map, arith, []}
+use Rattle.std.specs.List.{flat_map}
 use Rattle.std.proofs.lemmas.Result.{err_from_is_err_and}
-use Rattle.ice_defs.specs.Set.{NodeSet}
 use Rattle.ice_defs.specs.Trade.{set_of}
 use Rattle.ice_journal.specs.Records as line
 use Rattle.ice_journal.specs.Journal.{bytes_of}

@@ -1,5 +1,4 @@
 use Rattle.std.proofs.Common.{◌≡◌, ◌+◌, ◌<◌, ◌∙◌, ◌++◌, refl, ap, sym, subst, List, length, get_or, drop, arith, ℕ, ℤ}
-use Rattle.std.specs.List.{AllByRecursion}
 use Rattle.std.proofs.lemmas.Result.{err_from_is_err_and}
 use Rattle.ice_edge.specs.Puts.{TakesAllBut}
 use Rattle.ice_refute.specs.Code.{CountsGoods, step_of}
@@ -10,7 +9,7 @@ use Rattle.ice_journal.specs.Spelling.{line_of}
 use Rattle.ice_journal.specs.Journal.{bytes_of}
 use Rattle.ice_journal.specs.Lines.{record_of}
 use Rattle.ice_journal_laws.specs.Fields.{multipliers_after}
-use Rattle.ice_journal_laws.specs.Showing.{step_record, step_records}
+use Rattle.ice_journal_laws.specs.Showing.{step_records}
 use Rattle.ice_write.proofs.Changing.{step_is_record}
 use Rattle.ice_journal_laws.proofs.Plaining.{length_after}
 use Rattle.ice_write.proofs.Loops.{fails_as, next_all, next_fails, next_taken}

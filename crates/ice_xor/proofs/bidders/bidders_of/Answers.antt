@@ -1,5 +1,5 @@
 use Rattle.std.proofs.Common.{◌≡◌, ◌∙◌, [], Err, decimal, refl, sym, ap}
-use Rattle.serde_json.specs.View.{view, items_view}
+use Rattle.serde_json.specs.View.{items_view}
 use Rattle.ice_defs.specs.FileFault.{◌>>=◌}
 use Rattle.ice_defs.specs.Lawful.{good_names}
 use Rattle.ice_read.specs.declared.fault.ReadFault.{ReadFault}

@@ -1,6 +1,6 @@
 use Rattle.std.proofs.Common.{◌≡◌, ◌∙◌, length, get_or, ap, arith}
 use Rattle.ice_xor.specs.Faults.{maker_fault_number}
-use Rattle.ice_xor.proofs.Translated.{due_at, due_number, translating-refused}
+use Rattle.ice_xor.proofs.Translated.{due_number, translating-refused}
 use Rattle.ice_xor.proofs.translation.translate.Goals as goal
 
 pub returns-in-Err-clause-refused : goal.returns-in-Err-clause-refused

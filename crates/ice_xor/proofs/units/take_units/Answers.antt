@@ -1,4 +1,4 @@
-use Rattle.std.proofs.Common.{refl, arith, append-nil, sym}
+use Rattle.std.proofs.Common.{refl, arith, append-nil}
 use Rattle.serde_json.specs.View.{view}
 use Rattle.ice_defs.specs.FileFault.{Path}
 use Rattle.ice_defs.specs.Lawful.{good_names}

@@ -1,4 +1,4 @@
-use Rattle.std.proofs.Common.{◌≡◌, ◌<◌, ◌∙◌, List, [], length, rules, refl, sym, ap, arith}
+use Rattle.std.proofs.Common.{◌≡◌, ◌<◌, ◌∙◌, List, length, rules, refl, sym, ap}
 use Rattle.serde_json.specs.View.{view, members_view}
 use Rattle.ice_defs.specs.FileFault.{Read, ◌>>=◌}
 use Rattle.ice_defs.specs.Lawful.{good_names}

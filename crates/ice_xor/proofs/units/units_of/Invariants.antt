@@ -1,4 +1,4 @@
-use Rattle.std.proofs.Common.{◌≡◌, length}
+use Rattle.std.proofs.Common.{◌≡◌}
 use Rattle.serde_json.specs.View.{members_view}
 use Rattle.ice_defs.specs.FileFault.{Path}
 use Rattle.ice_defs.specs.Lawful.{good_names}

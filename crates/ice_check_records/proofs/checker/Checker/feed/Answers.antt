@@ -1,5 +1,4 @@
 use Rattle.std.proofs.Common.{ℕ, IsTrue, ◌+◌, suc, refl, sym, ◌∙◌, ap, subst, add-one}
-use Rattle.ice_journal.specs.Lines.{record_of}
 use Rattle.ice_check_records.specs.declared.stage.Stage.{Stage}
 use Rattle.ice_check_records.specs.Checking.{Checking, HasCome}
 use Rattle.ice_check_records.specs.Stages.{IsProgress, is_ready_stage}

@@ -1,4 +1,3 @@
-use Rattle.std.proofs.Common.{◌≡◌}
 use Rattle.ice_check_records.proofs.Ending.{answered, none_yet}
 use Rattle.ice_check_records.proofs.groups.Groups.answer.Goals as goal
 

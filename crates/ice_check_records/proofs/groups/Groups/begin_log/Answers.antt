@@ -1,4 +1,4 @@
-use Rattle.std.proofs.Common.{rules, ◌≡◌, List, [], ◌∷◌, length, replicate, refl, sym, ◌∙◌, ap, subst, arith}
+use Rattle.std.proofs.Common.{rules, ◌≡◌, List, length, replicate, refl, sym, ◌∙◌, ap, subst, arith}
 use Rattle.std.proofs.lemmas.Bool.{true≢false}
 use Rattle.std.proofs.lemmas.List.{length-map}
 use Rattle.std.proofs.lemmas.Int.{to_z-of_z}
@@ -12,9 +12,9 @@ use Rattle.ice_defs.specs.Trade.{total_value}
 use Rattle.ice_defs.specs.Exchange.{trees_of}
 use Rattle.ice_refute.specs.Waiting.{nodes_of}
 use Rattle.ice_refute.proofs.NodeCounts.{nodes_of-free}
-use Rattle.ice_check_records.specs.Logs.{started, CanStart}
+use Rattle.ice_check_records.specs.Logs.{CanStart}
 use Rattle.ice_check_records.specs.Groups.{weights_for}
-use Rattle.ice_check_records.proofs.Walks.{few_trees, can_start, started_is}
+use Rattle.ice_check_records.proofs.Walks.{few_trees, can_start}
 use Rattle.ice_check_records.proofs.groups.Groups.begin_log.Goals as goal
 
 pub returns-then-not-is_same : goal.returns-then-not-is_same

@@ -1,4 +1,4 @@
-use Rattle.std.proofs.Common.{◌≡◌, ◌<◌, ℕ, length, [], sym, ◌∙◌, ap, subst, arith}
+use Rattle.std.proofs.Common.{◌≡◌, ◌<◌, length, [], sym, ◌∙◌, ap, subst, arith}
 use Rattle.ice_defs.specs.declared.Group.TheVariants.{Provisional}
 use Rattle.ice_defs.specs.Set.{IsSatisfied}
 use Rattle.ice_defs.specs.Trade.{Assignment, tree_of, set_of}

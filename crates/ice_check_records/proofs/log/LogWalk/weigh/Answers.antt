@@ -1,7 +1,7 @@
-use Rattle.std.proofs.Common.{◌≡◌, ℕ, List, sym, ◌∙◌, ap, subst, ◌⊎◌, inl, inr}
+use Rattle.std.proofs.Common.{◌≡◌, ℕ, List, sym, ◌∙◌, ap, ◌⊎◌, inl, inr}
 use Rattle.ice_defs.specs.Bounds.{Bounds}
-use Rattle.ice_defs.specs.Weighing.{lower_weights, weighted_weights, perturbed_weights}
-use Rattle.ice_defs.specs.Exchange.{Settings, Exchange, trees_of, exact_of}
+use Rattle.ice_defs.specs.Weighing.{lower_weights, weighted_weights}
+use Rattle.ice_defs.specs.Exchange.{Settings, trees_of, exact_of}
 use Rattle.ice_defs.specs.Group.{group_weights}
 use Rattle.ice_defs.specs.Trade.{Assignment}
 use Rattle.ice_defs.specs.declared.Group.{Group}

@@ -1,4 +1,4 @@
-use Rattle.std.proofs.Common.{◌≡◌, ◌+◌, [], sym, ap, ◌∙◌, subst, Err, rules}
+use Rattle.std.proofs.Common.{◌+◌, [], sym, ap, ◌∙◌, subst, Err, rules}
 use Rattle.std.proofs.Math.Numerals.{add-one}
 use Rattle.std.proofs.lemmas.Bool.{cond-false}
 use Rattle.ice_defs.specs.FileFault.{at_line}
