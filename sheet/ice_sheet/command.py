@@ -1,0 +1,172 @@
+"""The command `sheet`: its words, and the status that it ends with."""
+from __future__ import annotations
+
+import argparse
+import json
+import os
+import sys
+from pathlib import Path
+from typing import Any, NoReturn
+
+from . import files, jsontext
+from .faults import BadFile, BadTable
+from .market import read_market
+from .matching import faults_of_round, notes_of_round
+from .names import slips
+from .reading import rows_of
+from .settings import settings_of
+from .table import Reader, Table, faults_of_market
+
+WRITTEN, BAD_WORDS, REFUSED, UNREAD, UNWRITTEN = 0, 1, 2, 6, 7
+NAME = "sheet"
+UNMATCHED = "the packages have to stand in the order of the market; --market FILE matches them"
+ABOUT = """\
+Bids from a table in CSV as spreadsheets write it.
+
+    examples/sheet.py TABLE.csv --settings FILE                flat bids in JSON, for `ice xor`
+    examples/sheet.py TABLE.csv --settings FILE --trees FILE   an exchange, with bidders with trees
+    examples/sheet.py TABLE.csv --market FILE                  a round file for this market
+    examples/sheet.py TABLE.csv                                the same with packages in its order
+
+The first line has the heads `bidder`, `bid`, `lo`, `hi` and then the names of the goods; `=`
+behind a name says that the good is exact. Each other line is what a bidder owns, where its `bid`
+is `own`, or a package: `xor`, of which the bidder takes at most one, or `or`, of which it takes
+any. Below a good stand the units, those that are sold as numbers below 0. What a bidder wants for
+what it sells is a value below 0 too: who asks 500 to 600 writes lo -600, hi -500. A sale with a
+value above 0, and a purchase with one below 0, is refused unless its `bid` is `xor!` or `or!`."""
+STATUSES = (
+    "status: 0 the file is written, 1 the words are wrong, 2 a file is refused (standard error has "
+    "each line and column), 6 a file could not be read, 7 standard output failed"
+)
+
+
+class Words(argparse.ArgumentParser):
+    """The words of a command; wrong ones end with status 1, since 2 is about the files."""
+
+    def error(self, message: str) -> NoReturn:
+        self.exit(BAD_WORDS, f"{self.format_usage()}{self.prog}: {message}\n")
+
+
+def words() -> Words:
+    """The words that are understood."""
+    parser = Words(
+        prog=NAME,
+        epilog=STATUSES,
+        allow_abbrev=False,
+        description=ABOUT,
+        formatter_class=argparse.RawDescriptionHelpFormatter,
+    )
+    parser.add_argument("table", metavar="TABLE.csv", help="the table")
+    parser.add_argument("text", metavar="SETTINGS", nargs="?", help="the settings as text in JSON")
+    parser.add_argument("--settings", metavar="FILE", help="a file in JSON with the six settings")
+    parser.add_argument("--market", metavar="FILE", help="the market: an exchange, or flat bids")
+    parser.add_argument("--trees", metavar="FILE", help="bidders with trees, in JSON")
+    return parser
+
+
+def tell(line: str) -> None:
+    """A line on standard error."""
+    print(f"{NAME}: {line}", file=sys.stderr)
+
+
+def read_settings(options: argparse.Namespace) -> dict[str, int]:
+    """The settings, from their file or their text."""
+    if options.settings:
+        return settings_of(jsontext.read(options.settings), options.settings)
+    try:
+        value = jsontext.parse(options.text.encode(errors="surrogateescape"))
+        return settings_of(value, "settings")
+    except BadFile as fault:
+        hint = "; a file is given by --settings FILE" if os.path.isfile(options.text) else ""
+        raise BadFile(f"SETTINGS: {fault}{hint}") from None
+
+
+def count(number: int, one: str) -> str:
+    """A count of things, such as `3 goods`."""
+    return f"{number} {one}" + "s" * (number != 1)
+
+
+def tell_summary(table: Table, others: int) -> None:
+    """What the table has, and names that look like slips."""
+    for line in slips([bidder.name for bidder in table.bidders], "bidders"):
+        tell(line)
+    for line in slips([good.name for good in table.goods], "goods"):
+        tell(line)
+    packages = sum(len(bidder.packages) for bidder in table.bidders)
+    parts = [count(len(table.bidders), "bidder"), count(len(table.goods), "good")]
+    behind = f", and {count(others, 'bidder')} with trees" if others else ""
+    tell(", ".join([*parts, count(packages, "package")]) + behind)
+
+
+def made_of(options: argparse.Namespace) -> dict[str, Any]:
+    """The file that is asked for; BadTable or BadFile where something is wrong."""
+    table = Reader(rows_of(Path(options.table).read_bytes())).read()
+    if not (options.settings or options.text):
+        return round_of(options, table)
+    if faults := faults_of_market(table):
+        raise BadTable(faults)
+    settings = read_settings(options)
+    if not options.trees:
+        tell_summary(table, 0)
+        return files.flat(table, settings)
+    others = files.read_others(options.trees, table)
+    tell_summary(table, len(others))
+    return files.exchange(table, settings, others)
+
+
+def round_of(options: argparse.Namespace, table: Table) -> dict[str, Any]:
+    """A round file of the table."""
+    if not options.market:
+        tell_summary(table, 0)
+        tell(UNMATCHED)
+        return files.round_in_order(table)
+    market = read_market(options.market)
+    if faults := faults_of_round(table, market):
+        raise BadTable(faults)
+    tell_summary(table, 0)
+    for line in notes_of_round(table, market):
+        tell(line)
+    return files.round_of(table, market)
+
+
+def write(value: Any) -> None:
+    """Writes a file in JSON to standard output."""
+    try:
+        sys.stdout.write(json.dumps(value) + "\n")
+        sys.stdout.flush()
+    except OSError:
+        # Nothing more is written when the process ends.
+        os.dup2(os.open(os.devnull, os.O_WRONLY), 1)
+        raise
+
+
+def main(arguments: list[str] | None = None) -> int:
+    """Makes a file of a table, and answers the status."""
+    parser = words()
+    options = parser.parse_args(arguments)
+    settings = [word for word in (options.settings, options.text) if word is not None]
+    if len(settings) > 1 or (settings and options.market):
+        parser.error("give one of SETTINGS, --settings FILE and --market FILE")
+    if options.trees and not settings:
+        parser.error("--trees goes with --settings: a round has bids of the table alone")
+    try:
+        made = made_of(options)
+    except BadTable as refused:
+        for line in refused.told():
+            tell(f"{options.table}: {line}")
+        return REFUSED
+    except BadFile as fault:
+        tell(str(fault))
+        return REFUSED
+    except OSError as fault:
+        tell(f"{fault.filename}: {fault.strerror}")
+        return UNREAD
+    except ValueError as fault:
+        tell(str(fault))
+        return BAD_WORDS
+    try:
+        write(made)
+    except OSError as fault:
+        tell(f"standard output: {fault.strerror}")
+        return UNWRITTEN
+    return WRITTEN
