@@ -1,0 +1,65 @@
+"""The command: a file in, a line and an exit status out."""
+from __future__ import annotations
+
+import os
+import sys
+
+from .journals import LIMIT, Answer, check
+
+HELP = ("--help", "-h")
+USAGE = """usage: ice-recheck JOURNAL
+
+Judges a journal as `ice check` does: the same line on standard output, and the same exit status.
+0: yes. 1: the words are no command. 2: the file is refused. 3: no, a test failed. 6: the file
+could not be read. 7: standard output failed. 8: want of memory.
+
+It is a second opinion, written from docs/formats.md and docs/definitions.md alone, and shares no
+line with the program. Nothing of it is proved."""
+NOT_PROVED = "ice-recheck: a second opinion, of which nothing is proved"
+
+
+def answer_to(file: str) -> Answer:
+    """The answer to a file."""
+    try:
+        with open(file, "rb") as source:
+            content = source.read(LIMIT + 1)
+    except OSError:
+        return Answer("unread 1", 6)
+    return check(content)
+
+
+def is_text(word: str) -> bool:
+    """Whether a word is UTF-8."""
+    try:
+        os.fsencode(word).decode("utf-8")
+    except UnicodeDecodeError:
+        return False
+    return True
+
+
+def say(text: str) -> None:
+    """Writes a line on standard error, where there is one."""
+    try:
+        os.write(2, f"{text}\n".encode())
+    except OSError:
+        pass
+
+
+def main(words: list[str]) -> int:
+    """Writes the answer to what the words name; the exit status."""
+    if len(words) == 1 and words[0] in HELP:
+        answer = Answer(USAGE, 0)
+    elif len(words) != 1 or not is_text(words[0]):
+        say(USAGE)
+        answer = Answer("words refused", 1)
+    else:
+        say(NOT_PROVED)
+        try:
+            answer = answer_to(words[0])
+        except MemoryError:
+            return 8
+    try:
+        os.write(1, f"{answer.line}\n".encode())
+    except OSError:
+        return 7
+    return answer.status

@@ -1,0 +1,189 @@
+"""The grammar: which lines are records. The table is that of docs/formats.md."""
+from __future__ import annotations
+
+import re
+from fractions import Fraction
+from math import gcd
+from typing import Any, Callable, NamedTuple
+
+LONGEST_NUMBER = 40  # characters: no range has a longer one
+
+
+class NoRecord(Exception):
+    """A line is no record."""
+
+
+class Record(NamedTuple):
+    """A record: the words that name its form, such as `node buy`, and the values of its fields."""
+
+    form: str
+    fields: list[Any]
+
+
+Reader = Callable[[str], Any]  # of one field; ValueError where it has another spelling
+Form = Callable[[list[str]], list[Any]]  # of all fields of a record; likewise
+
+
+def demand(holds: bool) -> None:
+    """ValueError where it doesn't hold."""
+    if not holds:
+        raise ValueError
+
+
+def numbers_in(words: list[str]) -> list[int]:
+    """Whole numbers in their one spelling: what Python writes of them."""
+    demand(all(len(word) <= LONGEST_NUMBER for word in words))
+    numbers = list(map(int, words))
+    demand(list(map(str, numbers)) == words)
+    return numbers
+
+
+def within(numbers: list[int], low: int, high: int) -> list[int]:
+    """The same numbers, each from low to high."""
+    demand(not numbers or low <= min(numbers) and max(numbers) <= high)
+    return numbers
+
+
+def whole(low: int, high: int) -> Reader:
+    """A whole number from low to high."""
+    return lambda word: within(numbers_in([word]), low, high)[0]
+
+
+def size_up_to(most: int) -> Reader:
+    """A whole number of at most this size."""
+    return whole(-most, most)
+
+
+def one_of(*choices: str) -> Reader:
+    """One of these words."""
+    return lambda word: choices[choices.index(word)]
+
+
+def spelled(most: int) -> Reader:
+    """1 to `most` letters, digits, `_`, `-` and `.`."""
+    pattern = re.compile(f"[A-Za-z0-9_.-]{{1,{most}}}")
+
+    def read(word: str) -> str:
+        demand(pattern.fullmatch(word) is not None)
+        return word
+
+    return read
+
+
+def bits(word: str) -> list[bool]:
+    """1 to 200 characters 0 or 1, one for each node."""
+    demand(1 <= len(word) <= 200 and set(word) <= {"0", "1"})
+    return [bit == "1" for bit in word]
+
+
+def fraction(word: str) -> Fraction:
+    """N/D in lowest terms, D from 1 to 1,000, N at most 10^18 in size."""
+    number, denominator = numbers_in(word.split("/"))
+    demand(abs(number) <= 10**18 and 1 <= denominator <= 1000 and gcd(number, denominator) == 1)
+    return Fraction(number, denominator)
+
+
+def exactly(*readers: Reader) -> Form:
+    """One field for each of these readers."""
+
+    def read(words: list[str]) -> list[Any]:
+        demand(len(words) == len(readers))
+        return [reader(word) for reader, word in zip(readers, words)]
+
+    return read
+
+
+def then_list(*readers: Reader, low: int, high: int) -> Form:
+    """One field for each of these readers, and then a list of 1 to 32 numbers."""
+    front, count = exactly(*readers), len(readers)
+
+    def read(words: list[str]) -> list[Any]:
+        demand(1 <= len(words) - count <= 32)
+        return [*front(words[:count]), within(numbers_in(words[count:]), low, high)]
+
+    return read
+
+
+def changes(words: list[str]) -> list[Any]:
+    """K, and K pairs of a good and a multiplier, the goods strictly ascending."""
+    demand(1 <= len(words) <= 65)
+    count, *pairs = numbers_in(words)
+    goods, multipliers = within(pairs[::2], 0, 31), within(pairs[1::2], -(2**56), 2**56)
+    demand(len(pairs) == 2 * count and all(a < b for a, b in zip(goods, goods[1:])))
+    return [list(zip(goods, multipliers))]
+
+
+def submission(words: list[str]) -> list[Any]:
+    """A name, K and K lower values, L and L upper ones."""
+    demand(len(words) >= 3)
+    name, count = NAME(words[0]), whole(0, 200)(words[1])
+    lower, rest = words[2 : 2 + count], words[2 + count :]
+    demand(len(rest) >= 1 and whole(0, 200)(rest[0]) == len(rest) - 1)
+    values = [within(numbers_in(part), -(10**9), 10**9) for part in (lower, rest[1:])]
+    return [name, *values]
+
+
+NAME = spelled(32)
+BIDDER, GOOD, NODE, FILE = whole(0, 39), whole(0, 31), whole(0, 199), whole(1, 21)
+VALUE, TOTAL = size_up_to(10**9), size_up_to(4 * 10**14)
+VIOLATION, DENOMINATOR = whole(0, 2**100), whole(1, 2**32)
+LEAF = exactly(GOOD, whole(1, 1000), VALUE, VALUE)
+SETTINGS = [whole(0, 100), whole(0, 10**12), whole(1, 10**9), whole(0, 10**9), whole(0, 20)]
+SETTINGS += [whole(0, 50_000)]
+KIND = one_of("assign", "regret", "session", "exchange", "prices")
+END = one_of("assign", "exchange", "prices", "regret", "closed", "open", "spent", "limit")
+STAGE, LIMIT = one_of("accuracy", "balance"), one_of("wide", "pivots", "rows", "den")
+
+FORMS: dict[str, Form] = {
+    "ice 1": exactly(KIND),
+    "ice 2": exactly(one_of("regret", "session")),
+    "settings": exactly(*SETTINGS),
+    "good": exactly(NAME),
+    "exact": exactly(NAME),
+    "bidder": then_list(NAME, low=0, high=10**6),
+    "node choose": exactly(NODE, NODE, NODE, VALUE, VALUE),
+    "node buy": LEAF,
+    "node sell": LEAF,
+    "assign": exactly(),
+    "settle": exactly(whole(0, 20)),
+    "final": exactly(TOTAL),
+    "rival": exactly(TOTAL),
+    "provisional": exactly(TOTAL),
+    "without": exactly(BIDDER, TOTAL),
+    "set": exactly(bits),
+    "branch": exactly(BIDDER, NODE),
+    "leaf": then_list(low=-(2**56), high=2**56),
+    "near": changes,
+    "dead": exactly(BIDDER),
+    "regret": exactly(whole(0, 4 * 10**14)),
+    "prices": then_list(DENOMINATOR, low=0, high=2**62),
+    "accuracy": exactly(VIOLATION, DENOMINATOR),
+    "balance": exactly(DENOMINATOR),
+    "row": exactly(BIDDER, DENOMINATOR, bits),
+    "submit": submission,
+    "verdict accepted": exactly(),
+    "verdict 40": exactly(NODE),
+    "verdict 41": exactly(NODE),
+    **{f"verdict {number}": exactly() for number in range(42, 47)},
+    "threshold": exactly(fraction, fraction),
+    "payment": exactly(NAME, whole(0, 10**15), fraction, fraction),
+    "spent": exactly(TOTAL, whole(-(2**127), 2**127 - 1)),
+    "limit": exactly(STAGE, LIMIT, VIOLATION, DENOMINATOR),
+    "pool": exactly(BIDDER, bits),
+    "end": exactly(END),
+    "refused": exactly(FILE, whole(1, 99), spelled(256)),
+    "unread": exactly(FILE),
+}
+
+
+def read_record(line: bytes) -> Record:
+    """The record that a line without its newline is; NoRecord where it is none."""
+    try:
+        text = line.decode("ascii")
+        demand(text.isprintable())
+        words = text.split(" ")
+        size = 1 if words[0] in FORMS else 2
+        form = " ".join(words[:size])
+        return Record(form, FORMS[form](words[size:]))
+    except (ValueError, KeyError) as fault:
+        raise NoRecord from fault

@@ -1,0 +1,39 @@
+"""The same line and status as the program's: on samples, on rows of the crates, and on mutants."""
+import unittest
+
+import mutants
+from support import JOURNALS, ROOT, answer_of_program, check, needs_program, rows
+
+
+@needs_program
+class Program(unittest.TestCase):
+    """Each answer is the program's."""
+
+    def agree(self, name: str, journal: bytes) -> None:
+        """Whether both answer the same."""
+        with self.subTest(name):
+            self.assertEqual(check(journal), answer_of_program(journal))
+
+    def test_samples(self):
+        self.assertTrue(JOURNALS)
+        for file in JOURNALS:
+            self.agree(file.name, file.read_bytes())
+
+    def test_a_long_journal(self):
+        file = ROOT / "crates" / "ice_cli" / "data" / "long.journal"
+        if not file.exists():
+            self.skipTest("the crates aren't here")
+        journal = file.read_bytes()
+        self.agree("as it is", journal)
+        self.agree("without its last byte but one", journal[:-2] + b"\n")
+
+    def test_rows_of_the_crates(self):
+        for journal in rows():
+            self.agree(journal, journal.encode())
+
+    def test_mutants(self):
+        self.assertEqual(mutants.differences(mutants.COUNT), [])
+
+
+if __name__ == "__main__":
+    unittest.main()
