@@ -24,7 +24,7 @@ use std::alloc::{AllocError, Global};
 fn no_section(alloc: Global) -> Result<Box<Section>, AllocError>
     ensures { IfOk result (λ section. section.value ≡ no_section) }
 {
-    Ok(Box::new(alloc, Section::new(alloc)?)?)
+    Ok(Box::new(alloc, Section::new(alloc))?)
 }
 
 /// The first record is read.

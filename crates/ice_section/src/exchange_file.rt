@@ -131,12 +131,9 @@ pub fn read_exchange_lines(alloc: Global, bytes: &[u8]) -> Result<Exchange, Line
     ensures exchange { IfOk result (λ exchange. IsExchangeOfLines bytes.now (Found exchange)) }
     ensures fault { IfErr result (IsFaultFrom (IsExchangeOfLines bytes.now)) }
 {
-    let Ok(section) = Section::new(alloc) else {
-        return Err(LineFileFault::NoMemory);
-    };
     let mut file = ExchangeFile {
         reached: SoFar::Head,
-        section,
+        section: Section::new(alloc),
     };
     let mut rest = bytes;
     let mut lines: u64 = 0;

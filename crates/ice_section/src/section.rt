@@ -10,7 +10,7 @@ ghost use Rattle.ice_journal.specs.Records as line;
 ghost use Rattle.ice_journal.specs.Ranges.{IsName, IsRecord};
 ghost use Rattle.std.specs.List.{AllByRecursion};
 ghost use Rattle.ice_section.specs.Section.{no_section, may_end, exchange_in, names_no_good, take_settings, take_good, take_bidder, take_node, take_record};
-ghost use Rattle.ice_section.specs.Refusal.{IsRefusal, IsMakerRefusal};
+ghost use Rattle.ice_section.specs.Refusal.{IsRefusal, IsMakerRefusal, HasNumber, HasNumberUnlessSettings};
 
 use crate::draft::Draft;
 use crate::faults::SectionFault;
@@ -113,14 +113,14 @@ fn names_no_good(kind: NodeKind, goods: u8) -> bool
 
 impl Section {
     /// No record yet. It takes its memory with the record of the settings.
-    pub fn new(alloc: Global) -> Result<Section, AllocError>
-        ensures { IfOk result (λ section. section ≡ no_section) }
+    pub fn new(alloc: Global) -> Section
+        ensures { result ≡ no_section }
     {
-        Ok(Section {
+        Section {
             alloc,
             maker: None,
             draft: None,
-        })
+        }
     }
 
     /// Whether the section may end after the records so far: a bidder is there, and no tree is
@@ -164,6 +164,7 @@ impl Section {
             ≡ Found self.new) }
         ensures refused { IfErr result
             (IsRefusal (take_good self.old (record { name = name.now; exact = exact }))) }
+        ensures numbered { IfErr result HasNumber }
     {
         let Some(maker) = &mut self.maker else {
             return Err(SectionFault::Order);
@@ -178,6 +179,7 @@ impl Section {
         requires { IsRecord (line.bidder name.now own.now.items) }
         ensures taken { OnOk result (take_bidder self.old name.now own.now.items ≡ Found self.new) }
         ensures refused { IfErr result (IsRefusal (take_bidder self.old name.now own.now.items)) }
+        ensures numbered { IfErr result HasNumber }
     {
         let goods = self.goods();
         if goods == 0 || self.draft.is_some() {
@@ -200,6 +202,7 @@ impl Section {
         requires { IsRecord (node_record kind children lo hi) }
         ensures taken { OnOk result (take_node self.old kind children lo hi ≡ Found self.new) }
         ensures refused { IfErr result (IsRefusal (take_node self.old kind children lo hi)) }
+        ensures numbered { IfErr result HasNumber }
     {
         let goods = self.goods();
         let Some(draft) = &mut self.draft else {
@@ -232,6 +235,7 @@ impl Section {
         requires { IsRecord (record_of line.now) }
         ensures taken { OnOk result (take_record self.old (record_of line.now) ≡ Found self.new) }
         ensures refused { IfErr result (IsRefusal (take_record self.old (record_of line.now))) }
+        ensures memory { IfErr result (HasNumberUnlessSettings (record_of line.now)) }
     {
         match line {
             Line::Settings(settings) => self.take_settings(settings),

@@ -140,7 +140,7 @@ fn prices(rt: HostRuntime) {
 
 #[test]
 fn a_section(rt: HostRuntime) -> Result<(), Fail> {
-    let mut section = Section::new(rt.alloc())?;
+    let mut section = Section::new(rt.alloc());
     for text in [
         "settings 50 0 100 1 5 200",
         "exact A",

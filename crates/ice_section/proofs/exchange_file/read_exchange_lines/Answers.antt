@@ -16,10 +16,10 @@ returns-in-Err-clause-fault c =
 
 pub loop-rest-preserved : goal.loop-rest-preserved
 loop-rest-preserved c =
-    let (is, are) = c.in-Ok-next_record.ensures.read in
+    let (is, are) = c.in-Ok.ensures.read in
     record {
       read = read_more exchange_of_records c.args.bytes.now (exchange_after c.loop-rest.lines (so_far c.loop-rest.file)) (exchange_after (c.loop-rest.lines + 1) (so_far c.take.new.self))
-          c.loop-rest.rest.now c.in-Ok-next_record.next.1.now c.loop-rest.lines (record_of c.in-Ok-next_record.next.0) c.loop-rest.invariant.read is are (λ later.
+          c.loop-rest.rest.now c.in-Ok.next.1.now c.loop-rest.lines (record_of c.in-Ok.next.0) c.loop-rest.invariant.read is are (λ later.
           c.in-Ok-take.ensures.taken later ∙ ap (λ n. exchange_after n (so_far c.take.new.self) later) (sym (add-one c.loop-rest.lines)));
       numbered = c.in-Ok-take.ensures.numbered;
       begun = subst (λ n. IsBegun n (so_far c.take.new.self) c.take.new.self.section) (sym (add-one c.loop-rest.lines)) c.in-Ok-take.ensures.begun;
