@@ -6,7 +6,7 @@ use Rattle.ice_pricing_laws.specs.Laws.{balance_at}
 use Rattle.ice_pricing.specs.Provisional.{ProvisionalTrade}
 use Rattle.ice_pricing.specs.Priced.{IsLimited, PassesTests, AreBalanced}
 use Rattle.ice_pricing.specs.declared.certificate.Pricing.{Pricing}
-use Rattle.ice_price.specs.Runs.{IsState, IsStageEnd}
+use Rattle.ice_price.specs.Runs.{IsState, IsRunFrom, IsStageEnd}
 use Rattle.ice_price.specs.Stages.{stage_of, limit_of}
 use Rattle.ice_price.specs.declared.ends.PriceLimit.{PriceLimit}
 use Rattle.ice_price.specs.declared.ends.PriceEnd.{PriceEnd}
@@ -41,7 +41,7 @@ module _ (t : ProvisionalTrade) where
     pub accuracy_limited : IsLimited p.accuracy
     pub balance_limited : IsLimited p.balance
 
-  -- the run ends with these prices: no set is to be added to a pool in the accuracy stage, nor to a later one in the balance stage that follows
+  -- the run ends with these prices: no set is to be added to a pool in the accuracy stage, nor to a later one to which the balance stage leads from that pool
   pub record IsRunPriced (p : Pricing) : Type 0 where
     pub pool : List Member
     pub prices : Prices
@@ -50,4 +50,5 @@ module _ (t : ProvisionalTrade) where
     pub accurate : IsStageEnd t first_stage pool prices violation p.accuracy
     pub later : List Member
     pub later_state : IsState t (balance_at violation prices.den) later
+    pub later_from : IsRunFrom t (balance_at violation prices.den) pool later
     pub balanced : IsStageEnd t (balance_at violation prices.den) later p.prices p.delta p.balance

@@ -1,5 +1,5 @@
 -- The states of a pricing run of a provisional trade, and what a turn makes of them.
-use Rattle.std.specs.Prelude.{◌≡◌, ◌≤◌, ◌+◌, ◌^◌, List, length, Some, ℤ}
+use Rattle.std.specs.Prelude.{◌≡◌, ◌≤◌, ◌+◌, ◌^◌, List, [], ◌∷◌, ◌++◌, length, Some, ℤ}
 use Rattle.ice_defs.specs.Fraction.{Fraction}
 use Rattle.ice_defs.specs.Prices.{Prices, ArePrices}
 use Rattle.ice_defs.specs.Program.{AreNonNegative}
@@ -22,6 +22,11 @@ IsEndWith pool ws prices violation (Ends end) = (end.prices ≡ prices) × (end.
 module _ (t : ProvisionalTrade) (at : StageAt) where
   abbrev pub IsState : List Member → Type 0
   IsState pool = IsRunState t.trees t.weights t.sets t.goods t.cap at pool
+
+  -- turns of the stage lead from the first pool to the second: a set at a time that may follow
+  pub data IsRunFrom : List Member → List Member → Type 0 where
+    stays : {pool : List Member} → IsRunFrom pool pool
+    adds : {start pool : List Member} {m : Member} → IsRunFrom start pool → MayFollow t.trees t.weights t.sets t.goods t.cap at pool m → IsRunFrom start (pool ++ m ∷ [])
 
   -- the least point at which the trace of the program over the pool ends, with its duals
   pub record IsSolved (pool : List Member) (point duals : List Fraction) : Type 0 where

@@ -7,7 +7,7 @@ ghost use Rattle.ice_pricing_laws.specs.Weights.{weights_of_duals};
 ghost use Rattle.ice_defs.specs.Rows.{HasCommonDivisor};
 ghost use Rattle.ice_price.specs.Ends.{IsStopped, IsRunStopped};
 ghost use Rattle.ice_price.specs.Large.{AreLarge, IsStoppedBy};
-ghost use Rattle.ice_price.specs.Runs.{IsState, IsTurn, IsEndWith, IsStageEnd};
+ghost use Rattle.ice_price.specs.Runs.{IsState, IsRunFrom, IsTurn, IsEndWith, IsStageEnd};
 ghost use Rattle.ice_price.specs.Works.{IsMoreWork, HasTurns};
 
 use crate::ends::{LimitKind, PoolMember, Stop};
@@ -130,6 +130,7 @@ pub(crate) fn run_stage(
 ) -> Result<StageEnd, Stop>
     requires { IsState trade.now at.now pool.old.items }
     ensures state { IfOk result (λ _. IsState trade.now at.now pool.new.items) }
+    ensures from { IfOk result (λ _. IsRunFrom trade.now at.now pool.old.items pool.new.items) }
     ensures ended { IfOk result (λ end. IsStageEnd trade.now at.now pool.new.items end.prices
         end.violation end.certificate) }
     ensures stopped { IfErr result (IsRunStopped trade.now at.now pool.new.items) }

@@ -5,7 +5,7 @@ use Rattle.std.specs.Prelude.{unsigned_abs}
 use Rattle.std.proofs.lemmas.Int.{ints, to_z-of_z}
 use Rattle.ice_defs.specs.PricingRun.{Member, StageAt, first_stage, starts}
 use Rattle.ice_pricing_laws.specs.Laws.{balance_at}
-use Rattle.ice_price.specs.Runs.{IsState, IsStageEnd}
+use Rattle.ice_price.specs.Runs.{IsState, IsRunFrom, IsStageEnd}
 use Rattle.ice_price.specs.Stages.{IsSizedStage}
 use Rattle.ice_price.proofs.Deltas.{violation-sized}
 use Rattle.ice_price.proofs.Works.{more-trans, two-turns}
@@ -66,6 +66,7 @@ returns-clause-run c =
       accurate = end;
       later = c.run_stage-2.new.pool.items;
       later_state = later;
+      later_from = subst (λ (s : StageAt). IsRunFrom c.args.trade.now s c.run_stage.new.pool.items c.run_stage-2.new.pool.items) at c.in-Ok-run_stage.ensures.from;
       balanced = subst (λ (z : ℤ). IsStageEnd c.args.trade.now (balance_at c.in-Ok.end.violation c.in-Ok.end.prices.den) c.run_stage-2.new.pool.items c.in-Ok-run_stage.end.prices z c.in-Ok-run_stage.end.certificate) (sym w) last;
     }
 
