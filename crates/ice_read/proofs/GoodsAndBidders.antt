@@ -78,10 +78,13 @@ module _ (ex : Exchange) (path : Path) (vs : List Value) (i : ℕ) where
 
 -- ---- a bidder
 
-pub bidder_chain : (ex : Exchange) (path : Path) (d : Data) (name own same : List ℕ) (tree : Tree) (bounds : Bounds) → true ≡ has_exactly (codes "name" ∷ codes "own" ∷ codes "tree" ∷ []) d → of_member path d (codes "name") text_of ≡ Ok name
-    → of_member path d (codes "own") (own_at (good_names ex)) ≡ Ok own → same ≡ own → of_member path d (codes "tree") (tree_at (good_names ex)) ≡ Ok (record { tree = tree; bounds = bounds })
-    → bidder_added ex path d ≡ add_bidder path (length (good_names ex)) ex.bidders (record { name = name; own = same; tree = tree; bounds = bounds })
-bidder_chain ex path d name own same tree bounds exact named owned is grown = rw (← exact, named, owned, grown, is)
+module _ (ex : Exchange) (path : Path) (d : Data) (name own same : List ℕ) (tree : Tree) (bounds : Bounds) (exact : true ≡ has_exactly (codes "name" ∷ codes "own" ∷ codes "tree" ∷ []) d) (named : of_member path d (codes "name") text_of ≡ Ok name)
+    (owned : of_member path d (codes "own") (own_at (good_names ex)) ≡ Ok own) (is : same ≡ own) (grown : of_member path d (codes "tree") (tree_at (good_names ex)) ≡ Ok (record { tree = tree; bounds = bounds })) where
+  pub bidder_is : bidder_at (good_names ex) path d ≡ Ok (record { name = name; own = same; tree = tree; bounds = bounds })
+  bidder_is = rw (← exact, named, owned, grown, is)
+
+  pub bidder_chain : bidder_added ex path d ≡ add_bidder path (length (good_names ex)) ex.bidders (record { name = name; own = same; tree = tree; bounds = bounds })
+  bidder_chain = ap (λ r. r >>= λ b. add_bidder path (length (good_names ex)) ex.bidders b) bidder_is
 
 pub bidder_made : (ex : Exchange) (path : Path) (b : Bidder) → bidder_refusal (length ex.goods) ex.bidders b ≡ None → add_bidder path (length (good_names ex)) ex.bidders b ≡ Ok (ex.bidders ++ b ∷ [])
 bidder_made ex path b due = rw (length-map ex.goods (λ good. good.name), due)

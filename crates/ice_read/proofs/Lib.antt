@@ -30,9 +30,9 @@ pub mod Bytes
 pub mod ArrayElements
 -- what is read of the parts of a round file, step by step
 pub mod RoundParts
--- a fault of a file has a number, and so it is no want of memory
+-- a fault of a file has a number, and so it is no want of memory; nor is it a sale above what is owned, but where a bidder is added
 pub mod FaultNumbers
--- each fault of an exchange file has a number, and so it is no want of memory
+-- so has each fault of an exchange file
 pub mod ExchangeFaultNumbers
 -- what the maker of a tree refuses, and what the definitions refuse
 pub mod Refusals
@@ -56,3 +56,5 @@ pub mod GoodsAndBidders
 pub mod ExchangeFiles
 -- a file in line form is no JSON
 pub mod LineForm
+-- what a refused sale tells of a file
+pub mod SalesTold

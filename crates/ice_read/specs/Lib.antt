@@ -10,3 +10,4 @@ pub mod Laws
 pub mod Reading
 pub mod Parts
 pub mod Owned
+pub mod Sale

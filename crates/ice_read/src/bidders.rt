@@ -9,6 +9,7 @@ ghost use Rattle.ice_read.specs.TreeFile.{tree_at};
 ghost use Rattle.ice_read.specs.Reading.{bidder_added};
 ghost use Rattle.ice_read.specs.Owned.{AreNames, AreAmounts};
 ghost use Rattle.ice_read.specs.Fault.{IsFault};
+ghost use Rattle.ice_read.specs.Sale.{TellsOfSale, IsSaleOf, IsSaleAmong};
 
 use crate::cause::ReadCause;
 use crate::fault::ReadFault;
@@ -75,6 +76,7 @@ fn take_bidder(exchange: &mut ExchangeMaker, value: &Value) -> Result<(), ReadFa
     ensures one { OnOk result (length exchange.new.bidders ≡ length exchange.old.bidders + 1) }
     ensures few { OnOk result (length exchange.new.bidders ≤ 40) }
     ensures short { IfErr result (λ fault. length fault.place ≤ 162) }
+    ensures sale { IfErr result (TellsOfSale (IsSaleOf exchange.old.goods (view value.now))) }
 {
     if !has_exactly(value, &["name", "own", "tree"]) {
         return Err(ReadFault::of(ReadCause::Shape));
@@ -99,6 +101,7 @@ pub(crate) fn take_bidders(exchange: &mut ExchangeMaker, value: &Value) -> Resul
     ensures same { OnOk result (exchange.new
         ≡ record exchange.old { bidders = exchange.new.bidders }) }
     ensures short { IfErr result (λ fault. length fault.place ≤ 168) }
+    ensures sale { IfErr result (TellsOfSale (IsSaleAmong exchange.old.goods (view value.now))) }
 {
     let items = array_of(value)?;
     for (index, item) in items.iter().enumerate() {

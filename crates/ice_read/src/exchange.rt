@@ -7,6 +7,7 @@ ghost use Rattle.ice_read.specs.Values.{of_member};
 ghost use Rattle.ice_read.specs.ExchangeFile.{goods_at, bidders_at, settings_at, exchange_of_value, exchange_of};
 ghost use Rattle.ice_read.specs.Fault.{IsFault, IsReading, IsAnswer};
 ghost use Rattle.ice_read.specs.Owned.{AreNames};
+ghost use Rattle.ice_read.specs.Sale.{TellsOfSale, IsSaleUnder, IsSaleIn, IsSaleOfBytes};
 
 use crate::bidders::take_bidders;
 use crate::cause::ReadCause;
@@ -67,6 +68,8 @@ fn take_bidders_member(
         (λ path. of_member path (view value.now) name.now (bidders_at exchange.old.goods))) }
     ensures same { OnOk result (exchange.new
         ≡ record exchange.old { bidders = exchange.new.bidders }) }
+    ensures sale { IfErr result
+        (TellsOfSale (IsSaleUnder exchange.old.goods name.now (view value.now))) }
 {
     match take_bidders(exchange, member(value, name)?) {
         Ok(()) => Ok(()),
@@ -77,6 +80,7 @@ fn take_bidders_member(
 fn exchange_in(alloc: Global, value: &Value) -> Result<Exchange, ReadFault>
     ensures answer { IsAnswer result (exchange_of_value (view value.now)) }
     ensures memory { IfErr result (λ fault. fault.cause ≡ ReadCause.NoMemory → fault.place ≡ []) }
+    ensures sale { IfErr result (TellsOfSale (IsSaleIn (view value.now))) }
 {
     if !has_exactly(value, &["settings", "goods", "bidders"]) {
         return Err(ReadFault::of(ReadCause::Shape));
@@ -86,6 +90,7 @@ fn exchange_in(alloc: Global, value: &Value) -> Result<Exchange, ReadFault>
         return Err(ReadFault::of(ReadCause::NoMemory));
     };
     take_goods_member(&mut exchange, value, "goods")?;
+    let _named = exchange.goods();
     take_bidders_member(&mut exchange, value, "bidders")?;
     match exchange.finish() {
         Ok(exchange) => Ok(exchange),
@@ -99,12 +104,15 @@ fn exchange_in(alloc: Global, value: &Value) -> Result<Exchange, ReadFault>
 /// its form before the makers may refuse it. `NotJson` comes where the bytes are no JSON, `Shape`
 /// where a value is not of the type that its place asks for or an object has other members,
 /// `NotWhole` and `Range` at numbers, `UnknownGood` at the name of a good that is not there, and
-/// `Tree` and `Make` where a maker refuses a node, a good, a bidder or the whole. Want of memory is
-/// told of the whole file: its place is `-`.
+/// `Tree` and `Make` where a maker refuses a node, a good, a bidder or the whole: a bidder whose
+/// tree may sell more of a good than it owns (`OverSale`) is told with the least such good, by its
+/// number in the file, and its greatest sale. Want of memory is told of the whole file: its place
+/// is `-`.
 pub fn read_exchange(alloc: Global, bytes: &[u8]) -> Result<Exchange, ReadFault>
     ensures exchange { IsAnswer result (exchange_of bytes.now) }
     ensures lawful { IfOk result IsExchange }
     ensures memory { IfErr result (λ fault. fault.cause ≡ ReadCause.NoMemory → fault.place ≡ []) }
+    ensures sale { IfErr result (TellsOfSale (IsSaleOfBytes bytes.now)) }
 {
     let value = value_of(alloc, bytes)?;
     exchange_in(alloc, &value)

@@ -11,7 +11,7 @@ use crate::record::put_line;
 use arrayvec::ArrayVec;
 use ice_edge::{Sink, SinkFault};
 use ice_journal::Line;
-use ice_rules::Verdict;
+use ice_defs::Verdict;
 use ice_terms::Bid;
 
 /// The same values in 32 bits.

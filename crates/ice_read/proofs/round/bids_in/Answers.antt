@@ -5,7 +5,7 @@ use Rattle.ice_read.specs.Values.{array_of, at_member}
 use Rattle.ice_read.specs.declared.fault.ReadFault.{ReadFault}
 use Rattle.ice_read.specs.declared.cause.ReadCause.TheVariants.{Range}
 use Rattle.ice_read.proofs.PlacesOfFaults.{refused, fault_below}
-use Rattle.ice_read.proofs.FaultNumbers.{no_memory, array_numbered}
+use Rattle.ice_read.proofs.FaultNumbers.{numbered, no_memory, array_plain}
 use Rattle.ice_read.proofs.RoundParts.{bids_listed, too_many}
 use Rattle.ice_read.proofs.round.bids_in.Goals as goal
 
@@ -21,4 +21,4 @@ returns-in-Ok-2-clause-reading c =
 
 pub returns-in-Err-clause-place : goal.returns-in-Err-clause-place
 returns-in-Err-clause-place c = λ memory.
-    absurd (no_memory (array_of [] (view c.in_ok-member.field-0.now)) [] c.in-Err.fault (array_numbered [] (view c.in_ok-member.field-0.now)) (c.in-Err.ensures.reading []) (sym (ap (λ (fault : ReadFault). fault.cause) c.under-in-Err.ensures) ∙ memory))
+    absurd (no_memory (array_of [] (view c.in_ok-member.field-0.now)) [] c.in-Err.fault (numbered _ (array_plain [] (view c.in_ok-member.field-0.now))) (c.in-Err.ensures.reading []) (sym (ap (λ (fault : ReadFault). fault.cause) c.under-in-Err.ensures) ∙ memory))

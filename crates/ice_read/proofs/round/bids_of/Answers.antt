@@ -6,7 +6,7 @@ use Rattle.ice_read.specs.declared.fault.ReadFault.{ReadFault}
 use Rattle.ice_read.specs.Values.{at_member, at_index}
 use Rattle.ice_read.specs.RoundFile.{bid_at, bids_of_value}
 use Rattle.ice_read.proofs.ArrayElements.{next}
-use Rattle.ice_read.proofs.FaultNumbers.{no_memory, bid_numbered}
+use Rattle.ice_read.proofs.FaultNumbers.{numbered, no_memory, bid_plain}
 use Rattle.ice_read.proofs.RoundParts.{place_length, bid_fault}
 use Rattle.ice_read.proofs.round.bids_of.Goals as goal
 
@@ -24,7 +24,7 @@ returns-in-Err-clause-answer c = λ other.
 pub returns-in-Err-clause-memory : goal.returns-in-Err-clause-memory
 returns-in-Err-clause-memory c = λ memory.
     let same = sym (ap (λ (fault : ReadFault). fault.cause) c.at.ensures.fault) ∙ sym (ap (λ (fault : ReadFault). fault.cause) c.under.ensures) ∙ memory in
-    absurd (no_memory (bid_at [] (view c.item-item.result)) [] c.in-Err.fault (bid_numbered [] (view c.item-item.result)) (c.in-Err.ensures.reading []) same)
+    absurd (no_memory (bid_at [] (view c.item-item.result)) [] c.in-Err.fault (numbered _ (bid_plain [] (view c.item-item.result))) (c.in-Err.ensures.reading []) same)
 
 pub loop-index-preserved : goal.loop-index-preserved
 loop-index-preserved c =
