@@ -9,9 +9,9 @@ ghost use Rattle.ice_journal_laws.specs.Written.{judged_records};
 
 use crate::record::put_line;
 use arrayvec::ArrayVec;
+use ice_defs::Verdict;
 use ice_edge::{Sink, SinkFault};
 use ice_journal::Line;
-use ice_defs::Verdict;
 use ice_terms::Bid;
 
 /// The same values in 32 bits.
