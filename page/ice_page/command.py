@@ -56,6 +56,12 @@ def words() -> Words:
         "--unit", metavar="U", default="", help='the unit of the values, such as "k€"'
     )
     parser.add_argument("--bidder", metavar="NAME", help="a page for this bidder alone")
+    parser.add_argument(
+        "--round",
+        metavar="N",
+        type=int,
+        help="with --bidder: its sets in this round, if not in the one that is awaited",
+    )
     return parser
 
 
@@ -73,10 +79,10 @@ def read(options: argparse.Namespace) -> tuple[Journal, Answer]:
     """The journal, and what the checker says of the same bytes where it is asked."""
     with open(0 if options.journal == "-" else options.journal, "rb", buffering=0) as stream:
         if not options.check:
-            return read_journal(Lines(stream)), Answer((options.checked or "").strip())
+            return read_journal(Lines(stream), options.bidder), Answer((options.checked or "").strip())
         checker = Checker(options.program or PROGRAM)
         try:
-            journal = read_journal(Lines(stream, checker.feed))
+            journal = read_journal(Lines(stream, checker.feed), options.bidder)
         except BaseException:
             checker.stop()
             raise
@@ -116,6 +122,8 @@ def main(arguments: list[str] | None = None) -> int:
         parser.error("--check asks the checker, and --checked tells its answer: give one of them")
     if options.program and not options.check:
         parser.error("--program goes with --check")
+    if options.round is not None and options.bidder is None:
+        parser.error("--round goes with --bidder")
     if options.page and is_same(options.journal, options.page):
         parser.error("the page would overwrite the journal")
     source = "standard input" if options.journal == "-" else os.path.basename(options.journal)
@@ -129,7 +137,11 @@ def main(arguments: list[str] | None = None) -> int:
         print(f"ice-page: {fault.filename or options.journal}: {fault.strerror}", file=sys.stderr)
         return UNREAD
     title = options.title or source
-    page = whole_page(View(journal, answer, title, source, options.unit, bidder))
+    try:
+        page = whole_page(View(journal, answer, title, source, options.unit, bidder, options.round))
+    except BadJournal as fault:
+        print(f"ice-page: {options.journal}: {fault}", file=sys.stderr)
+        return NO_JOURNAL
     try:
         write(page, options.page)
     except OSError as fault:

@@ -13,6 +13,7 @@ KINDS = ("1 assign", "1 regret", "1 session", "2 regret", "2 session")
 MOST_GOODS, MOST_BIDDERS, MOST_NODES = 32, 40, 2000
 MOST_TREE, MOST_DEPTH = 200, 16
 MOST_UNKNOWN = 20
+MOST_KEPT = 400
 
 Bounds = tuple[list[int], list[int]]
 
@@ -93,9 +94,21 @@ class Judged(NamedTuple):
     node: int | None = None
 
 
+class Bid(NamedTuple):
+    """A bid with its numbers: the lower and upper values, the verdict, and the node at fault."""
+
+    low: list[int]
+    high: list[int]
+    verdict: str
+    node: int | None = None
+
+
 @dataclass
 class Settlement:
-    """A settlement: bounds of each bidder, searches, prices, and the bids that followed."""
+    """A settlement: bounds of each bidder, searches, prices, and the bids that followed.
+
+    Of the bidder whose bids are kept, `kept` has them in their order: at most 400.
+    """
 
     number: int
     bounds: list[Bounds]
@@ -104,6 +117,7 @@ class Settlement:
     prices: list[Fraction] | None = None
     rows: tuple[int, int] = (0, 0)
     bids: Counter[Judged] = field(default_factory=Counter)
+    kept: list[Bid] = field(default_factory=list)
 
     def group(self, seeks: str) -> Group | None:
         """The search of this kind that was done to its end."""
@@ -174,10 +188,10 @@ class Journal:
 
 
 class Reader:
-    """Reads a journal from its lines."""
+    """Reads a journal from its lines; of one bidder it keeps the bids with their numbers."""
 
-    def __init__(self, lines: Lines) -> None:
-        self.lines = lines
+    def __init__(self, lines: Lines, kept: str | None = None) -> None:
+        self.lines, self.kept = lines, kept
         head, (kind,) = lines.take("ice")
         spelled = f"{head[4:]} {kind}"
         lines.require(
@@ -393,16 +407,19 @@ class Reader:
                 name = name if name in unknown else "others"
             number = verdict.head.partition(" ")[2]
             settlement.bids[Judged(bidder, number, name, *verdict.fields)] += 1
+            if name == self.kept and bidder is not None and len(settlement.kept) < MOST_KEPT:
+                settlement.kept.append(Bid(low, high, number, *verdict.fields))
         return bounds
 
 
-def read_journal(lines: Lines) -> Journal:
-    """The journal that the lines are; BadJournal where they are none."""
-    return Reader(lines).read()
+def read_journal(lines: Lines, kept: str | None = None) -> Journal:
+    """The journal that the lines are, with the bids of one bidder; BadJournal where it is none."""
+    return Reader(lines, kept).read()
 
 
 __all__ = [
     "BadJournal",
+    "Bid",
     "Bidder",
     "Bounds",
     "Good",

@@ -41,6 +41,13 @@ def exact(number: Fraction | int) -> str:
     )
 
 
+def amounts(number: Fraction | int) -> str:
+    """A number as a decimal, and its exact value below it where that is a fraction."""
+    fraction = numbers.ratio(number)
+    below = tag("div", fraction, class_="exact") if fraction else ""
+    return numbers.decimal(number) + below
+
+
 def key(*parts: str) -> str:
     """A legend: the parts that aren't empty, side by side."""
     return tag("p", " ".join(tag("span", part) for part in parts if part), class_="key")

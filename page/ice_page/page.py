@@ -8,6 +8,7 @@ from .answer import answer_section
 from .certificates import certificates_section
 from .course import course_section
 from .markup import key, tag, text
+from .own import bids_section, nets_section
 from .trees import trees_section
 from .view import View
 
@@ -46,6 +47,8 @@ def whole_page(view: View) -> str:
     )
     sections = (
         answer_section(view),
+        nets_section(view),
+        bids_section(view),
         course_section(view),
         trees_section(view),
         certificates_section(view),

@@ -23,6 +23,7 @@ class View:
     source: str
     unit: str = ""
     bidder: int | None = None
+    round: int | None = None
 
     @property
     def alone(self) -> bool:
