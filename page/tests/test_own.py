@@ -235,6 +235,14 @@ class AsText(unittest.TestCase):
         said = " ".join(words.split())
         self.assertIn("By the new intervals that has to be at most ~10.833 (65/6)", said)
 
+    def test_the_block_of_the_document(self):
+        document = (ROOT / "docs/bidding.md").read_text()
+        block = [line[4:] for line in document.splitlines() if line.startswith("    ")][1:]
+        shown = [line for line in block if line]
+        self.assertEqual(len(shown), 6)
+        written = told(STOPPED, "choir")[1].splitlines()
+        self.assertEqual(shown, [line for line in written[:8] if line])
+
     def test_the_same_sentences_as_the_page(self):
         bid = ("choir 5 0 62 0 0 20 5 0 80 0 0 30", "42")
         for journal, options in ((STOPPED, ()), (with_bids(HALL, bid), ("--round", "1"))):
