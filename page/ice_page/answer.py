@@ -4,10 +4,10 @@ from __future__ import annotations
 from fractions import Fraction
 from typing import NamedTuple
 
-from . import numbers
+from . import numbers, words
 from .checker import due
 from .markup import box, drawing, exact, tag, text
-from .matrix import Matrix
+from .trades import trades_part
 from .view import View
 
 LIMITS = {
@@ -30,18 +30,16 @@ class Fact(NamedTuple):
 def outcome(view: View) -> tuple[str, str]:
     """The state in a word or two, and why, both as markup."""
     journal = view.journal
-    word, file = journal.end.word, f"the file of round {journal.last.number + 1}"
+    word, awaited = journal.end.word, words.awaited(journal)
+    if awaited:
+        return "Open", awaited + fault_words(view)
     if word == "closed":
         return "Closed", closed_words(view)
     if word == "spent":
         return "Search spent", spent_words(view)
     if word == "limit":
         return "Pricing limit", limit_words(view)
-    if word == "refused":
-        return "Open", f"{file} was refused{fault_words(view)}"
     return {
-        "unread": ("Open", f"{file} could not be read"),
-        "open": ("Open", f"{file} was not given"),
         "assign": ("One trade", "an assignment by itself, with no proof that it is best"),
         "regret": ("One trade", "with its regret, without rounds or payments"),
     }[word]
@@ -68,11 +66,15 @@ def limit_words(view: View) -> str:
 
 
 def fault_words(view: View) -> str:
-    """The fault of a round file, which may be anybody's."""
-    if view.alone:
+    """What is wrong with the file of the round that is awaited; a bidder isn't told whose bid it is."""
+    stop = view.journal.end
+    if view.alone or stop.word == "open":
         return ""
-    _, number, place = view.journal.end.fields
-    return f", with fault {number}" + ("" if place == "-" else f" at {text(place)}")
+    if stop.word == "unread":
+        return "; the file that was given could not be read"
+    _, number, place = stop.fields
+    where = "" if place == "-" else f" at {text(place)}"
+    return f"; the file that was given was refused, with fault {number}{where}"
 
 
 def spent_words(view: View) -> str:
@@ -96,12 +98,9 @@ def checked(view: View) -> Fact:
     answer, expected, name = view.answer, due(view.journal), "checker’s answer"
     said, wanted = f"“{text(answer.text)}”", f"“{expected}”"
     if not answer.text and not answer.asked:
-        return Fact(
-            name,
-            "not checked",
-            "the page only retells the journal; let <code>ice check</code> judge it",
-            "warn",
-        )
+        how = "<code>ice check</code> judges it"
+        how = "whoever has the journal can have it checked" if view.alone else how
+        return Fact(name, "not checked", f"this page retells the journal; {how}", "soft")
     if not answer.is_verdict():
         said = said if answer.text else f"the checker ended with status {answer.status}"
         return Fact(name, "no verdict", f"{said}: nothing is known of this journal", "warn")
@@ -113,20 +112,22 @@ def checked(view: View) -> Fact:
         )
         return Fact(name, "no", f"{why}: don’t rely on this page", "bad")
     by = f"asked of {text(answer.asked)} for this page" if answer.asked else "as told to this page"
-    by = by if view.alone else f"{said}, {by}"
+    by = by if view.alone or expected.startswith("no ") else f"{said}, {by}"
     if expected.startswith("yes "):
         return Fact(name, "yes", f"{by}: every test passed", "good")
-    line = view.journal.end.line
-    value = "good so far" if view.alone else f"good to line {numbers.whole(line - 1)}"
-    return Fact(name, value, f"{by}: every test passed up to the stop", "good")
+    where = "where bids are awaited" if words.awaited(view.journal) else "where it stopped"
+    up_to = "" if view.alone else f"line {numbers.whole(view.journal.end.line - 1)}, "
+    return Fact(name, "right so far", f"{by}: every test passed up to {up_to}{where}", "good")
 
 
 def facts(view: View) -> list[Fact]:
     """The numbers at a glance."""
     journal, regret, unit = view.journal, view.journal.last.regret, view.with_unit
-    at = (
-        f"settlement {journal.last.number}" if journal.kind == "session" else f"kind {journal.kind}"
-    )
+    at = f"kind {journal.kind}"
+    if journal.kind == "session":
+        held = journal.last.number
+        after = f'after {numbers.plural(held, "round")}' if held else "before the first round"
+        at = after if view.alone else f"settlement {held}"
     found = [Fact("state", outcome(view)[0], at)]
     if view.bidder is None:
         proven = ", proven best" if view.is_proven else ""
@@ -157,22 +158,24 @@ def facts(view: View) -> list[Fact]:
 
 
 def own_facts(view: View, bidder: int) -> list[Fact]:
-    """The numbers of one bidder."""
+    """The numbers of one bidder; while bids are awaited nothing is settled."""
+    if words.awaited(view.journal):
+        return []
     proven = ", in a trade proven best" if view.is_proven else ""
     found = [
         Fact(
-            "its trade is worth, at least",
+            "your trade is worth, at least",
             numbers.whole(view.worths[bidder]) + view.with_unit,
-            f"at its lower values{proven}",
+            f"at your lower values{proven}",
         )
     ]
     if view.journal.payments:
         payment = view.journal.payments[bidder].payment
         found.append(
             Fact(
-                "it receives" if payment < 0 else "it pays",
+                "you receive" if payment < 0 else "you pay",
                 exact(abs(payment)) + view.with_unit,
-                "value less discount",
+                "that value less what you keep",
             )
         )
     return found
@@ -181,26 +184,27 @@ def own_facts(view: View, bidder: int) -> list[Fact]:
 def lead(view: View) -> str:
     """The answer in a sentence or two."""
     journal, (state, why) = view.journal, outcome(view)
-    words = f"{state}: {why}."
-    if not view.alone:
+    says = f"{state}: {why}."
+    if view.bidder is None:
         trading = [units for units in view.units if any(units)]
         bought = [
             sum(max(units[good], 0) for units in view.units) for good in range(len(journal.goods))
         ]
-        words += (
+        says += (
             f' {len(trading)} of {numbers.plural(len(journal.bidders), "bidder")} trade '
             f'{numbers.plural(sum(bought), "unit")} of {sum(map(bool, bought))} of '
             f'{numbers.plural(len(journal.goods), "good")}.'
             if trading
             else " Nobody trades."
         )
+    elif journal.payments:
+        says += f" You get: {text(words.trade(view.units[view.bidder], journal.goods))}."
     if journal.kind == "session" and not journal.payments:
-        words += " Nothing is settled: this is the best trade found so far."
+        best = "" if view.alone else ": this is the best trade found so far"
+        says += f" Nothing is settled{best}."
     if checked(view).value == "no":
-        words = (
-            tag("strong", "The checker doesn’t accept this journal.", class_="bad") + " " + words
-        )
-    return tag("p", words, class_="lead")
+        says = tag("strong", "The checker doesn’t accept this journal.", class_="bad") + " " + says
+    return tag("p", says, class_="lead")
 
 
 def share_bar(view: View) -> str:
@@ -231,10 +235,12 @@ def answer_section(view: View) -> str:
     title = text(view.title)
     if view.alone:
         title += tag("span", text(view.whom), class_="soft")
+    made = tag("p", text(view.made), class_="soft") if view.made else ""
     return (
         tag("h1", title)
+        + made
         + lead(view)
         + tag("dl", entries, class_="facts")
         + share_bar(view)
-        + Matrix(view).whole()
+        + trades_part(view)
     )

@@ -31,7 +31,7 @@ def search_row(name: str, log: Log, scale: Fraction) -> str:
     return row(
         row_head(text(name), "name"),
         *(cell(numbers.unless_zero(n), "right") for n in counts),
-        cell(drawing(BAR + 4, 10, bar, f"{numbers.whole(log.size)} bytes")),
+        cell(drawing(BAR + 4, 10, bar, f"{numbers.whole(log.size)} bytes"), "wider"),
     )
 
 
@@ -46,7 +46,7 @@ def certificates_section(view: View) -> str:
     head = row(
         column_head("search", "name"),
         *(column_head(name, "right") for name in ("branches", "leaves", "dead", "bytes")),
-        column_head(""),
+        column_head("", "wider"),
     )
     columns = 3 if len(rows) > MANY else 2 if len(rows) > FEW else 1
     height = -(-len(rows) // columns)

@@ -56,6 +56,18 @@ def words() -> Words:
         "--unit", metavar="U", default="", help='the unit of the values, such as "k€"'
     )
     parser.add_argument("--bidder", metavar="NAME", help="a page for this bidder alone")
+    parser.add_argument("--date", metavar="D", default="", help="the date of the page, as you like")
+    parser.add_argument(
+        "--made-by",
+        metavar="P",
+        default="",
+        help='which program ran the session, such as "$(./ice --version)"',
+    )
+    parser.add_argument(
+        "--digest",
+        action="store_true",
+        help="with --bidder: show the SHA-256 of the journal, where it is published",
+    )
     parser.add_argument(
         "--round",
         metavar="N",
@@ -122,8 +134,8 @@ def main(arguments: list[str] | None = None) -> int:
         parser.error("--check asks the checker, and --checked tells its answer: give one of them")
     if options.program and not options.check:
         parser.error("--program goes with --check")
-    if options.round is not None and options.bidder is None:
-        parser.error("--round goes with --bidder")
+    if options.bidder is None and (options.round is not None or options.digest):
+        parser.error("--round and --digest go with --bidder")
     if options.page and is_same(options.journal, options.page):
         parser.error("the page would overwrite the journal")
     source = "standard input" if options.journal == "-" else os.path.basename(options.journal)
@@ -136,9 +148,20 @@ def main(arguments: list[str] | None = None) -> int:
     except OSError as fault:
         print(f"ice-page: {fault.filename or options.journal}: {fault.strerror}", file=sys.stderr)
         return UNREAD
-    title = options.title or source
+    view = View(
+        journal,
+        answer,
+        title=options.title or source,
+        source=source,
+        unit=options.unit,
+        bidder=bidder,
+        round=options.round,
+        date=options.date,
+        program=options.made_by,
+        shows_digest=options.digest,
+    )
     try:
-        page = whole_page(View(journal, answer, title, source, options.unit, bidder, options.round))
+        page = whole_page(view)
     except BadJournal as fault:
         print(f"ice-page: {options.journal}: {fault}", file=sys.stderr)
         return NO_JOURNAL

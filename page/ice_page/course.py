@@ -7,12 +7,12 @@ from fractions import Fraction
 from . import numbers
 from .journal import MOST_BIDDERS, Judged, Settlement
 from .markup import (
+    amounts,
     box,
     cell,
     column_head,
     dot,
     drawing,
-    exact,
     key,
     label,
     line,
@@ -45,12 +45,14 @@ REASONS = {
 WIDE = 440
 MANY_REFUSALS = 60
 FEW_SETTLEMENTS = 10
+MANY_GOODS, FEW_PRICES, SHOWN_NARROW = 12, 6, 2
 
 
 def course_section(view: View) -> str:
     """The section, or nothing where there is nothing to tell."""
-    parts = regret_table(view) + price_charts(view)
-    if len(view.journal.settlements) > 1:
+    both = [tag("div", part) for part in (regret_table(view), price_tables(view)) if part]
+    parts = tag("div", "".join(both), class_="pair") if both else ""
+    if len(view.journal.settlements) > 1 and not view.alone:
         parts += Rounds(view).whole()
     return tag("h2", "How it went") + parts if parts else ""
 
@@ -77,7 +79,7 @@ def regret_table(view: View) -> str:
     caption = "What could be missed" if view.alone else "What was sure, and what could be missed"
     return (
         tag("h3", caption)
-        + table(caption, head, rows, class_="steps")
+        + table(caption, head, rows, class_="steps drawn")
         + key(
             "" if view.alone else "■ the best trade was sure of this",
             '<b class="miss">■</b> another could be worth so much more',
@@ -112,50 +114,62 @@ def regret_row(view: View, settlement: Settlement, scale: Fraction) -> str:
 # Prices
 
 
-def price_charts(view: View) -> str:
-    """The prices of each good over the settlements, as small drawings on one scale."""
-    priced = [each.prices for each in view.journal.settlements if each.prices]
-    if not priced:
+def priced(view: View) -> list[Settlement]:
+    """The settlements that have prices."""
+    return [each for each in view.journal.settlements if each.prices]
+
+
+def price_tables(view: View) -> str:
+    """The prices of each good at each settlement, with changes marked."""
+    settlements = priced(view)
+    if not settlements:
         return ""
-    top = max(price for prices in priced for price in prices) or Fraction(1)
-    charts = "".join(
-        price_chart(good.name, [prices[number] for prices in priced], top)
-        for number, good in enumerate(view.journal.goods)
-    )
-    when = f"settlements 0 to {len(priced) - 1}" if len(priced) > 1 else "of settlement 0"
+    caption, count = "Prices of one unit", len(settlements)
+    heads = [
+        column_head(f"round {each.number + 1}", f"right{older(place, count)}")
+        for place, each in enumerate(settlements)
+    ]
+    head = row(column_head("", "name"), *heads)
+    rows = [price_row(view, number) for number in range(len(view.journal.goods))]
+    columns = 2 if len(rows) > MANY_GOODS and count <= FEW_PRICES else 1
+    height = -(-len(rows) // columns)
+    parts = [rows[start : start + height] for start in range(0, len(rows), height)]
+    captions = [caption, "Prices of more goods"]
+    tables = "".join(table(name, head, part, class_="steps") for name, part in zip(captions, parts))
     unit = f"in{view.with_unit}" if view.unit else ""
     return (
-        tag("h3", "Prices of one unit")
-        + tag("div", charts, class_="goods")
+        tag("h3", caption)
+        + tables
         + key(
-            when,
-            f"all on one scale from 0 to {numbers.decimal(top)}",
-            "the number is the last price",
+            "the prices with which a round begins",
+            "▲ ▼ other than in the round before" if count > 1 else "",
+            tag("span", "earlier prices stand on a wider screen", class_="narrow")
+            if count > SHOWN_NARROW
+            else "",
             unit,
         )
     )
 
 
-def price_chart(name: str, prices: list[Fraction], top: Fraction) -> str:
-    """The prices of one good."""
-    step = Fraction(100, max(1, len(prices) - 1))
-    points = [(4 + step * place, 34 - 28 * price / top) for place, price in enumerate(prices)]
-    if len(points) == 1:
-        points = [(Fraction(4), points[0][1]), (Fraction(104), points[0][1])]
-    path = " ".join(f"{float(x):.1f},{float(y):.1f}" for x, y in points)
-    body = line(4, 34, 104, 34) + tag("polyline", points=path, class_="low") + dot(*points[-1])
-    title = f"price of {name}: " + ", ".join(numbers.decimal(price) for price in prices)
-    began = ""
-    if prices[0] != prices[-1]:
-        few = min(1, numbers.places(prices[:1]))
-        began = tag("span", f" from {numbers.decimal(prices[0], few)}", class_="soft")
-    return tag(
-        "figure",
-        tag("figcaption", text(name))
-        + drawing(110, 38, body, title)
-        + tag("b", exact(prices[-1]))
-        + began,
-    )
+def older(place: int, count: int) -> str:
+    """The class of a settlement that narrow screens leave out, behind a space."""
+    return " wider" if place < count - SHOWN_NARROW else ""
+
+
+def price_row(view: View, good: int) -> str:
+    """The prices of a good; that of the last round has its exact value too."""
+    cells, settlements = [], priced(view)
+    before: Fraction | None = None
+    for place, each in enumerate(settlements):
+        price = each.prices[good] if each.prices else Fraction(0)
+        is_new = before is not None and price != before
+        sign = ("▲ " if price > (before or 0) else "▼ ") if is_new else ""
+        is_last = place == len(settlements) - 1
+        body = sign + (amounts(price) if is_last else numbers.decimal(price))
+        look = " strong" if is_new else " soft" if before is not None and not is_last else ""
+        cells.append(cell(body, f"right{look}{older(place, len(settlements))}"))
+        before = price
+    return row(row_head(text(view.journal.goods[good].name), "name"), *cells)
 
 
 # Bids
@@ -177,16 +191,10 @@ class Rounds:
         self.loose = [
             [sum(high) - sum(low) for low, high in each.bounds] for each in self.journal.settlements
         ]
-        self.bids = [self.seen(each.bids) for each in self.journal.settlements]
+        self.bids = [each.bids for each in self.journal.settlements]
         self.all_bids: Counter[Judged] = sum(self.bids, Counter())
         self.accepted = sum(n for bid, n in self.all_bids.items() if bid.verdict == "accepted")
         self.refused = self.all_bids.total() - self.accepted
-
-    def seen(self, bids: Counter[Judged]) -> Counter[Judged]:
-        """The bids that this page shows."""
-        if not self.view.alone:
-            return bids
-        return Counter({bid: n for bid, n in bids.items() if bid.bidder == self.view.bidder})
 
     def whole(self) -> str:
         """The heading, the table and the reasons."""
@@ -199,7 +207,7 @@ class Rounds:
         head = row(
             column_head("", "name"),
             column_head("opening", "right"),
-            column_head(axis),
+            column_head(axis, "wider"),
             column_head("now", "right"),
             column_head("left", "right"),
         )
@@ -209,8 +217,7 @@ class Rounds:
             f"●&nbsp;{numbers.whole(self.accepted)} accepted",
             f'<b class="bad">×</b>&nbsp;{numbers.whole(self.refused)} refused',
         )
-        foot = "" if self.view.alone else self.sums()
-        bars = tag("div", table(caption, head, rows, foot) + legend)
+        bars = tag("div", table(caption, head, rows, self.sums()) + legend)
         why = tag("dl", self.reasons(), class_="why") if self.refused else ""
         return tag("h3", caption) + tag("div", bars + why, class_="pair")
 
@@ -233,7 +240,7 @@ class Rounds:
         return row(
             row_head(text(self.journal.bidders[number].name), "name"),
             cell(numbers.whole(first), "right"),
-            cell(drawing(self.width, 22, body, title)),
+            cell(drawing(self.width, 22, body, title), "wider"),
             cell(numbers.whole(now), "right"),
             cell(text(numbers.percent(now, first)), "right soft"),
         )
@@ -257,7 +264,7 @@ class Rounds:
         return row(
             row_head("all", "name"),
             cell(numbers.whole(first), "right"),
-            cell(""),
+            cell("", "wider"),
             cell(numbers.whole(now), "right"),
             cell(text(numbers.percent(now, first)), "right soft"),
         )

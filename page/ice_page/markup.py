@@ -42,15 +42,16 @@ def exact(number: Fraction | int) -> str:
 
 
 def amounts(number: Fraction | int) -> str:
-    """A number as a decimal, and its exact value below it where that is a fraction."""
-    fraction = numbers.ratio(number)
-    below = tag("div", fraction, class_="exact") if fraction else ""
-    return numbers.decimal(number) + below
+    """A number as a decimal, and its exact value below it where that is rounded."""
+    decimal = numbers.decimal(number)
+    is_rounded = decimal.startswith(numbers.ABOUT)
+    return decimal + (tag("div", numbers.ratio(number), class_="exact") if is_rounded else "")
 
 
 def key(*parts: str) -> str:
     """A legend: the parts that aren't empty, side by side."""
-    return tag("p", " ".join(tag("span", part) for part in parts if part), class_="key")
+    spans = " ".join(tag("span", part) for part in parts if part)
+    return tag("p", spans, class_="key") if spans else ""
 
 
 # Tables
@@ -79,16 +80,24 @@ def row(*cells: str, class_: str | None = None) -> str:
 
 
 def table(
-    caption: str, head: str, rows: Iterable[str], foot: str = "", class_: str | None = None
+    caption: str,
+    head: str,
+    rows: Iterable[str],
+    foot: str = "",
+    class_: str | None = None,
+    shown: str = "",
 ) -> str:
-    """A table in a frame that scrolls by itself; its caption is for readers of screens."""
+    """A table in a frame that scrolls by itself; its caption is for readers of screens.
+
+    `shown` is `narrow` or `wider` where only such screens show it.
+    """
     parts = [
         tag("caption", text(caption), class_="unseen"),
         tag("thead", head),
         tag("tbody", "".join(rows)),
         tag("tfoot", foot) if foot else "",
     ]
-    return frame(tag("table", "".join(parts), class_=class_), "wide", caption)
+    return frame(tag("table", "".join(parts), class_=class_), f"wide {shown}".strip(), caption)
 
 
 # Drawings

@@ -4,6 +4,7 @@ from __future__ import annotations
 from fractions import Fraction
 
 MOST_PLACES = 3
+ABOUT = "≈"
 
 
 def whole(number: int) -> str:
@@ -43,7 +44,7 @@ def decimal(number: Fraction | int, count: int | None = None) -> str:
     count = places([number]) if count is None else count
     scaled = number * 10**count
     before, after = divmod(abs(round(scaled)), 10**count)
-    about = "≈" if scaled % 1 else ""
+    about = ABOUT if scaled % 1 else ""
     sign = "−" if round(scaled) < 0 else ""
     return f"{about}{sign}{before:,}" + (f".{after:0{count}}" if count else "")
 

@@ -105,7 +105,7 @@ def bids_section(view: View) -> str:
     head = row(column_head("round"), column_head("values by node"), column_head("verdict"))
     return (
         tag("h2", "Your bids")
-        + table("Your bids", head, rows, class_="told")
+        + table("Your bids", head, rows, class_="told bids")
         + key(
             "the values of each node, as you stated them; a node that isn’t named has 0",
             "<b>bold</b>: other than before",

@@ -13,6 +13,7 @@ from .trees import trees_section
 from .view import View
 
 STYLES = Path(__file__).with_name("page.css")
+UPRIGHT = "@page { size: A4 portrait }\n"
 
 
 def footer(view: View) -> str:
@@ -29,13 +30,15 @@ def footer(view: View) -> str:
         ]
     )
     kind = f"kind {journal.kind}, version {journal.version}"
+    digest = f"SHA-256 of the journal: {tag('code', journal.digest)}"
     if view.alone:
-        return tag("footer", key(kind, rules, "of the other bidders nothing is shown"))
+        shown = digest if view.shows_digest else ""
+        return tag("footer", key(kind, shown, rules, "of the other bidders nothing is shown"))
     answer, said = view.answer, ""
     if answer.asked and answer.text:
         said = f"{text(answer.asked)} read these bytes and said “{text(answer.text)}”"
     source = f"{text(view.source)}, {kind}, {numbers.plural(journal.lines, 'line')}"
-    return tag("footer", key(source, f"SHA-256 {tag('code', journal.digest)}", said, rules))
+    return tag("footer", key(source, digest, said, rules))
 
 
 def whole_page(view: View) -> str:
@@ -43,7 +46,7 @@ def whole_page(view: View) -> str:
     head = (
         '<meta charset="utf-8"><meta name="viewport" content="width=device-width, initial-scale=1">'
         + tag("title", text(view.title + view.whom))
-        + tag("style", STYLES.read_text(encoding="utf-8"))
+        + tag("style", STYLES.read_text(encoding="utf-8") + (UPRIGHT if view.alone else ""))
     )
     sections = (
         answer_section(view),
@@ -54,5 +57,6 @@ def whole_page(view: View) -> str:
         certificates_section(view),
     )
     body = tag("main", "".join(tag("section", section) for section in sections if section))
-    document = tag("html", tag("head", head) + tag("body", body + footer(view)), lang="en")
+    body = tag("body", body + footer(view), class_="alone" if view.alone else None)
+    document = tag("html", tag("head", head) + body, lang="en")
     return f"<!DOCTYPE html>\n{document}\n"

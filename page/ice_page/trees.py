@@ -6,7 +6,7 @@ from fractions import Fraction
 from itertools import accumulate
 from typing import NamedTuple
 
-from . import numbers
+from . import numbers, words
 from .journal import Node
 from .markup import box, dot, exact, frame, key, label, line, slice_of, tag, text
 from .view import View
@@ -17,6 +17,7 @@ LETTER = 7.0
 INTERVAL = 150
 LEAST_LEFT = 170
 BROAD = 600
+STEP = 10
 WRAP = 44
 
 
@@ -53,7 +54,7 @@ class TreeDrawing:
         values = zip(self.low0, self.high0, self.low, self.high)
         self.idle = [not any(each) for each in values]
         self.lines = self.all_lines()
-        self.spans = list(map(self.span, self.low, self.high))
+        self.spans = list(map(words.interval, self.low, self.high))
         self.left = max([LEAST_LEFT, *map(self.extent, self.lines)])
         self.width = self.left + INTERVAL + 14 + LETTER * max(map(len, self.spans))
         lowest = min(0, *self.low0)
@@ -63,11 +64,6 @@ class TreeDrawing:
             accumulate((ROW + LINE * len(item.words) for item in self.lines), initial=0)
         )
         self.places = {item.node.number: place for place, item in enumerate(self.lines)}
-
-    @staticmethod
-    def span(low: int, high: int) -> str:
-        """An interval in words."""
-        return numbers.whole(low) if low == high else f"{numbers.whole(low)}..{numbers.whole(high)}"
 
     def extent(self, item: Line) -> float:
         """How far the words of a row reach."""
@@ -201,75 +197,97 @@ class TreeDrawing:
         )
 
 
-def trades(view: View, units: list[int]) -> str:
-    """What is bought and sold, as markup: the units bought of each good, less those sold."""
-    said = []
-    for word, sign in (("buys", 1), ("sells", -1)):
-        goods = [
-            (f"{numbers.whole(count * sign)} " if count * sign > 1 else "") + text(good.name)
-            for count, good in zip(units, view.journal.goods)
-            if count * sign > 0
-        ]
-        said += [tag("span", f'{word} {", ".join(goods)}', class_=word[:-1])] if goods else []
-    return " and ".join(said) or "no trade"
-
-
 def reason(view: View, number: int) -> str:
     """Why a bidder pays what it pays."""
-    payment = view.journal.payments[number]
-    words = f"Its set is worth {numbers.whole(view.worths[number])}. "
-    if view.alone:
-        words += f"Its Vickrey discount is {numbers.whole(payment.vickrey)}"
-    else:
-        words += (
-            f"Without it {numbers.whole(view.total - payment.vickrey)} of "
-            f"{numbers.whole(view.total)} can be reached: a Vickrey discount of "
-            f"{numbers.whole(payment.vickrey)}"
-        )
-    if payment.vickrey:
-        left = exact(payment.discount) if payment.discount else "nothing"
-        words += f", of which the cut leaves {left}"
-    return tag("p", f"{words}.", class_="soft")
+    payment, cut = view.journal.payments[number], view.journal.cut
+    added, total = numbers.whole(payment.vickrey), numbers.whole(view.total)
+    whose, whom, ending = ("Your", "You", "") if view.alone else ("Its", "It", "s")
+    says = f"{whose} set is worth {numbers.whole(view.worths[number])} at lower values. "
+    if not payment.vickrey:
+        says += f"{whom} add{ending} nothing to the total, so {whom.lower()} keep{ending} nothing"
+        return tag("p", f"{says}.", class_="soft")
+    without = numbers.whole(view.total - payment.vickrey)
+    how = "" if view.alone else f" (without it {without} of {total} can be reached)"
+    says += (
+        f"{whom} add{ending} {added} to the total{how}; the cut is {exact(cut)}, so "
+        f"{whom.lower()} keep{ending} {exact(payment.discount)}"
+    )
+    return tag("p", f"{says}.", class_="soft")
 
 
 def provisional(view: View, number: int) -> str:
     """The set that a bidder would get, where the session waits for bids."""
     group = view.journal.last.group("provisional")
-    if group is None:
+    if group is None or view.alone:
         return ""
     bits = group.sets[number]
     units = view.journal.bidders[number].units(bits, len(view.journal.goods))
-    nodes = [str(node) for node, bit in enumerate(bits) if bit == "1"]
-    where = f" (node{'s' * (len(nodes) > 1)} {', '.join(nodes)})" if nodes else ""
-    says = f"Its provisional set, by which bids are judged: {trades(view, units)}{where}."
+    trade = text(words.trade(units, view.journal.goods))
+    says = f"Its provisional set, by which bids are judged: {trade} ({words.places(bits)})."
     return tag("p", says, class_="soft")
+
+
+def says(view: View, number: int) -> str:
+    """What a bidder gets and pays, in a line."""
+    trade = text(words.trade(view.units[number], view.journal.goods))
+    if not view.journal.payments:
+        where = "By lower values alone, which decide at the close, you would now get: "
+        return (where if view.alone else "") + trade
+    payment = view.journal.payments[number].payment
+    verb = "receive" if payment < 0 else "pay"
+    verb = f"you {verb}" if view.alone else f"{verb}s"
+    return f"{trade}; {verb} <b>{exact(abs(payment))}</b>"
+
+
+def outline(drawing: TreeDrawing) -> str:
+    """The tree as lines of words, for narrow screens."""
+    rows = []
+    for place, item in enumerate(drawing.lines):
+        number, taken = item.node.number, bool(drawing.look(place))
+        opening = words.interval(drawing.low0[number], drawing.high0[number])
+        now = drawing.spans[number]
+        value = "" if drawing.idle[number] else f": {now}"
+        was = f" (opening: {opening})" if value and opening != now else ""
+        node = f'{"●" if taken else "○"} {number} {" ".join(item.words)}{item.note}{value}'
+        body = text(node) + (tag("span", was, class_="soft") if was else "")
+        style = f"padding-left:{6 + STEP * item.node.depth}px"
+        rows.append(tag("div", body, class_="strong" if taken else "soft", style=style))
+    return tag("div", "".join(rows), class_="outline narrow")
 
 
 def card(view: View, number: int) -> str:
     """One bidder: its trade, its payment and its tree."""
-    bidder, says = view.journal.bidders[number], trades(view, view.units[number])
-    why = provisional(view, number)
-    if view.journal.payments:
-        payment = view.journal.payments[number].payment
-        says += f', {"receives" if payment < 0 else "pays"} <b>{exact(abs(payment))}</b>'
-        why = reason(view, number) if "1" in view.journal.shown.sets[number] else ""
-    tree = TreeDrawing(view, number)
-    parts = tag("h3", text(bidder.name)) + tag("div", says) + why + tree.whole()
-    return tag("article", parts, class_="broad" if tree.width > BROAD else None)
+    bidder, why = view.journal.bidders[number], provisional(view, number)
+    if view.journal.payments and "1" in view.journal.shown.sets[number]:
+        why = reason(view, number)
+    drawing = TreeDrawing(view, number)
+    parts = [
+        tag("h3", text(bidder.name)),
+        tag("div", says(view, number)),
+        why,
+        tag("div", drawing.whole(), class_="wider"),
+        outline(drawing),
+    ]
+    return tag("article", "".join(parts), class_="broad" if drawing.width > BROAD else None)
 
 
 def trees_section(view: View) -> str:
     """The cards of all bidders that are shown."""
     cards = "".join(card(view, number) for number in view.bidders)
     return (
-        tag("h2", "Its tree" if view.alone else "Each bidder")
+        tag("h2", "Your tree" if view.alone else "Each bidder")
         + key(
-            "a node has its number in the journal, and is filled where it trades",
+            "a node has its number, and is filled where it trades",
             "a bundle takes one row, its leaves’ numbers in brackets",
-            "thin line: opening interval of the value",
-            "bar: what is left of it",
-            "upright line: 0",
             "sales have negative values",
+            *(
+                tag("span", part, class_="wider")
+                for part in (
+                    "thin line: opening interval of the value",
+                    "bar: what is left of it",
+                    "upright line: 0",
+                )
+            ),
         )
-        + tag("div", cards, class_="cards")
+        + tag("div", cards, class_="cards single" if view.alone else "cards")
     )

@@ -24,11 +24,19 @@ class View:
     unit: str = ""
     bidder: int | None = None
     round: int | None = None
+    date: str = ""
+    program: str = ""
+    shows_digest: bool = False
 
     @property
     def alone(self) -> bool:
         """Whether the page is for one bidder."""
         return self.bidder is not None
+
+    @property
+    def made(self) -> str:
+        """Of which date the page is, and by which program the session was run, as somebody told."""
+        return " · ".join(part for part in (self.date, self.program) if part)
 
     @property
     def whom(self) -> str:

@@ -51,12 +51,12 @@ class Element:
         return found
 
     def seen(self) -> str:
-        """The words that are seen: all but titles of drawings, captions and styles."""
+        """The words that a wide screen shows: all but titles of drawings, captions and styles."""
         hidden = ("title", "style", "caption")
         return "".join(
             part if isinstance(part, str) else part.seen()
             for part in self.parts
-            if isinstance(part, str) or part.name not in hidden
+            if isinstance(part, str) or part.name not in hidden and "narrow" not in part.classes
         )
 
 

@@ -49,10 +49,11 @@ class OneBidder(unittest.TestCase):
         page = page_of(AIRPORT, "--bidder", "Meridian", "--checked", "yes 32 0/1")
         facts = page.facts()
         self.assertEqual(
-            facts["its trade is worth, at least"],
-            ("792", "at its lower values, in a trade proven best"),
+            facts["your trade is worth, at least"],
+            ("792", "at your lower values, in a trade proven best"),
         )
-        self.assertEqual(facts["it pays"][0], "716.75 (2867/4)")
+        self.assertEqual(facts["you pay"][0], "716.75 (2867/4)")
+        self.assertEqual(facts["state"], ("Closed", "after 3 rounds"))
         self.assertEqual(facts["could be missed, at most"], ("32", "the regret"))
         self.assertEqual(facts["surplus of the payments"][0], "0")
         self.assertEqual(
@@ -60,41 +61,54 @@ class OneBidder(unittest.TestCase):
         )
         titles = [page.root.all("head")[0].all("title")[0].text, page.root.all("h1")[0].text]
         self.assertEqual(titles, ["some.journal · for Meridian alone"] * 2)
-        rows = page.table("Who trades what")
-        self.assertEqual([row[0] for row in rows], ["", "Meridian"])
-        self.assertEqual(rows[1][-1], "270")
+        for caption in ("Who trades what", "What each pays", "Each bidder", "Bids, and how"):
+            self.assertEqual(page.table(caption), [])
         self.assertEqual(
             [row[:2] for row in page.table("What could be missed")[1:]],
             [["0", "705"], ["1", "114"], ["2", "89"], ["3", "32"]],
         )
-        self.assertEqual(len(page.root.all("figure")), 9)
+        self.assertEqual(len(page.table("Prices of one unit")), 10)
         self.assertEqual(len(page.root.all("article")), 1)
         words = page.root.seen()
         for part in (
-            "●\xa03 accepted",
-            "×\xa03 refused",
-            "round 1: Meridian at node 1",
-            "Its Vickrey discount is 270, of which the cut leaves 75.25 (301/4).",
+            "You get: buy dep-0630 + dep-0700 + dep-0730.",
+            "Your set is worth 792 at lower values. You add 270 to the total; the cut is 194.75 "
+            "(779/4), so you keep 75.25 (301/4).",
+            "Your tree",
         ):
             self.assertIn(part, words)
 
     def test_who_receives(self):
         facts = page_of(sample("two-settlements.session"), "--bidder", "s").facts()
-        self.assertEqual(facts["it receives"][0], "15.5 (31/2)")
-        self.assertNotIn("it pays", facts)
+        self.assertEqual(facts["you receive"][0], "15.5 (31/2)")
+        self.assertNotIn("you pay", facts)
+
+    def test_who_keeps_nothing(self):
+        # It adds 3 and the cut is 194.75; Polar-Cargo trades nothing.
+        words = page_of(AIRPORT, "--bidder", "Charter-Sud").root.seen()
+        self.assertIn("You add 3 to the total; the cut is 194.75 (779/4), so you keep 0.", words)
+        self.assertIn("You get: no trade.", page_of(AIRPORT, "--bidder", "Polar-Cargo").root.seen())
+        # Without the incumbent the same total is reached.
+        journal = sample("two-settlements.session").replace("payment b 1 1/2 31/2", "payment b 0 0/1 16/1")
+        words = page_of(journal, "--bidder", "b").root.seen()
+        self.assertIn("You add nothing to the total, so you keep nothing.", words)
 
     def test_its_provisional_set(self):
         lines = AIRPORT.splitlines()
         begun = next(number for number, line in enumerate(lines) if line.startswith("submit "))
         journal = "".join(f"{line}\n" for line in lines[:begun] + ["end open"])
-        for name, says in (
-            ("Meridian", "buys dep-0630, dep-0700, arr-2215 (nodes 0, 1, 2, 4)."),
-            ("Polar-Cargo", "no trade."),
+        for name, set_, now in (
+            ("Meridian", "“buy dep-0630 + dep-0700 + arr-2215” (nodes 0–2, 4)", "buy dep-0630"),
+            ("Polar-Cargo", "“no trade” (no nodes)", "no trade"),
         ):
-            cards = page_of(journal, "--bidder", name).root.all("article")
-            self.assertIn(f"Its provisional set, by which bids are judged: {says}", cards[0].text)
-            self.assertNotIn("Its provisional set", page_of(AIRPORT, "--bidder", name).root.text)
-        self.assertEqual(page_of(journal).root.text.count("Its provisional set"), len(NAMES))
+            words = page_of(journal, "--bidder", name).root.seen()
+            self.assertIn(f"Your provisional set is {set_}: your part of the best trade", words)
+            self.assertIn(f"which decide at the close, you would now get: {now}", words)
+            self.assertNotIn("provisional set is", page_of(AIRPORT, "--bidder", name).root.text)
+        page = page_of(journal)
+        self.assertEqual(page.root.text.count("Its provisional set"), len(NAMES))
+        says = "Its provisional set, by which bids are judged: buy dep-0630 + dep-0700 + arr-2215"
+        self.assertIn(f"{says} (nodes 0–2, 4).", page.root.seen())
 
     def test_nothing_of_the_others(self):
         for name in NAMES:
@@ -172,9 +186,11 @@ class OneBidder(unittest.TestCase):
             )
             page = page_of(journal, "--bidder", bidder, "--checked", f"no {line} closed")
             self.assertEqual(page.facts()["state"][0], state)
-            self.assertEqual(page.facts()["checker’s answer"][0], "good so far")
+            self.assertEqual(page.facts()["checker’s answer"][0], "right so far")
             lead = page.root.all("p", "lead")[0].text
-            self.assertNotRegex(lead, "it found|possible|bids")
+            self.assertNotRegex(lead, "it found|possible|bids[.]|file")
+            awaited = state == "Open"
+            self.assertEqual("Open: round 1: bids are awaited. Nothing is settled." == lead, awaited)
             self.assertNotIn(f"{line} closed", page.root.text)
 
     def test_a_no_is_shown_without_its_line(self):

@@ -50,11 +50,12 @@ class Limits(unittest.TestCase):
         self.assertEqual(len(page.root.all("article")), BIDDERS)
         rows = page.table("Who trades what")
         self.assertEqual(
-            [cell[:32] for cell in rows[0][1:]], [name("good", number) for number in range(GOODS)]
+            [cell[:32] for cell in rows[0][1:-1]], [name("good", number) for number in range(GOODS)]
         )
-        self.assertEqual(len(page.table("What each pays")), BIDDERS + 2)
+        self.assertEqual(len(page.table("What each pays")), BIDDERS + 4)
         self.assertEqual(len(page.table("What was sure")), ROUNDS + 2)
-        self.assertEqual(len(page.root.all("figure")), GOODS)
+        prices = page.table("Prices of one unit") + page.table("Prices of more")
+        self.assertEqual([len(row) for row in prices], [ROUNDS + 1] * (GOODS + 1))
         self.assertIn("●\xa0800 accepted", page.root.seen())
         self.assertIn("×\xa07,200 refused", page.root.seen())
         searches = page.table("Searches and") + page.table("More") + page.table("The last")

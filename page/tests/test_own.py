@@ -1,4 +1,6 @@
 """What one bidder needs to bid, on its page and from `ice-nets`; the hall is its tutorial's."""
+import contextlib
+import io
 import re
 import subprocess
 import tempfile
@@ -6,6 +8,8 @@ import unittest
 from pathlib import Path
 
 from support import HERE, ROOT, SAMPLES, page_of, run, sample
+
+from ice_page import nets_command
 
 HALL = (ROOT / "examples/hall-session.journal").read_text()
 PROGRAM = HERE.parent / "ice-nets"
@@ -21,14 +25,17 @@ def with_bids(journal: str, *bids: tuple[str, str]) -> str:
 
 
 def told(journal: str, *words: str) -> tuple[int, str, str]:
-    """Runs `ice-nets` on a journal: the status, and what it writes."""
+    """Runs what `ice-nets` runs, on a journal: the status, and what it writes."""
+    output, errors = io.TextIOWrapper(io.BytesIO(), "utf-8"), io.StringIO()
     with tempfile.TemporaryDirectory() as folder:
         file = Path(folder, "some.journal")
         file.write_text(journal)
-        ran = subprocess.run(
-            [str(PROGRAM), str(file), *words], capture_output=True, text=True, check=False
-        )
-        return ran.returncode, ran.stdout, ran.stderr
+        with contextlib.redirect_stdout(output), contextlib.redirect_stderr(errors):
+            try:
+                status = nets_command.main([str(file), *words])
+            except SystemExit as end:
+                status = end.code
+    return status, output.buffer.getvalue().decode(), errors.getvalue()
 
 
 class OnItsPage(unittest.TestCase):
@@ -125,7 +132,7 @@ class OnItsPage(unittest.TestCase):
             status, _, errors = run(HALL, "--bidder", "choir", "--round", number)
             self.assertEqual((status, f"it has no round {number}" in errors), (2, True))
         status, _, errors = run(HALL, "--round", "1")
-        self.assertEqual((status, "--round goes with --bidder" in errors), (1, True))
+        self.assertEqual((status, "--round and --digest go with --bidder" in errors), (1, True))
 
     def test_its_bids(self):
         journal = with_bids(

@@ -114,31 +114,47 @@ class Samples(unittest.TestCase):
     def test_payments(self):
         for name, told, page, _ in self.pages:
             with self.subTest(name):
-                rows = page.table("Who trades what, and what each pays")
-                payments = told.rest("payment")
+                rows = page.table("What each pays")
+                payments = {who: numbers for who, *numbers in told.rest("payment")}
                 self.assertEqual(bool(rows), bool(payments))
-                for (_, vickrey, *fractions), cells in zip(payments, rows[1:]):
-                    for fraction, decimal, exact in zip(fractions, cells[-5:-1:2], cells[-4:-1:2]):
-                        number = Fraction(fraction)
-                        shown = value_of(decimal.strip("≈") or "0")
-                        self.assertLessEqual(
-                            abs(shown - number), Fraction(1, 2000) if "≈" in decimal else 0
-                        )
-                        self.assertEqual(
-                            exact,
-                            "" if number.denominator == 1 else fraction.replace("-", "\u2212"),
-                        )
-                    self.assertEqual(cells[-1], minus(int(vickrey)) if vickrey != "0" else "")
-                if payments:
-                    cut, surplus = told.rest("threshold")[0]
-                    number = Fraction(cut)
-                    self.assertIn(
-                        f"({cut})" if number.denominator > 1 else f"cut at {minus(int(number))}",
-                        rows[0][-1],
-                    )
-                    self.assertEqual(
-                        page.facts()["surplus of the payments"][0], str(Fraction(surplus))
-                    )
+                if not payments:
+                    continue
+                listed = rows[1 : len(payments) + 1]
+                self.assertEqual(sorted(row[0] for row in listed), sorted(payments))
+                paid = [Fraction(payments[row[0]][2]) for row in listed]
+                self.assertEqual(paid, sorted(paid, reverse=True))
+                for who, worth, adds, keeps, pays, bar in listed:
+                    vickrey, discount, payment = payments[who]
+                    self.assertEqual(worth, minus(told.worth(who)))
+                    self.assertEqual([adds, bar], [minus(int(vickrey)) if vickrey != "0" else ""] * 2)
+                    self.amount(keeps or "0", Fraction(discount))
+                    self.amount(pays, Fraction(payment))
+                cut, surplus = map(Fraction, told.rest("threshold")[0])
+                self.assertIn(
+                    f"({cut})" if cut.denominator > 1 else f"cut at {minus(int(cut))}", rows[0][-1]
+                )
+                sums = rows[len(payments) + 1 :]
+                self.assertEqual([row[0] for row in sums], ["all: the surplus", "paid", "received"])
+                self.assertEqual(sums[0][1], minus(sum(map(told.worth, told.bidders))))
+                self.amount(sums[0][4], surplus)
+                self.amount(sums[1][4], sum(each for each in paid if each > 0))
+                self.amount(sums[2][4], -sum(each for each in paid if each < 0))
+                self.assertEqual(
+                    page.facts()["surplus of the payments"][0], str(Fraction(surplus))
+                )
+
+    def amount(self, shown: str, number: Fraction) -> None:
+        """Tests a cell: a decimal that is exact, or one that is rounded with the fraction below."""
+        about, _, rest = shown.rpartition("≈")
+        self.assertEqual(about, "")
+        if "≈" not in shown:
+            self.assertEqual(value_of(rest), number)
+            return
+        exact = str(number).replace("-", "\u2212")
+        self.assertTrue(rest.endswith(exact), shown)
+        self.assertLessEqual(
+            abs(value_of(rest.removesuffix(exact)) - number), Fraction(1, 2000)
+        )
 
     def test_facts(self):
         for name, told, page, journal in self.pages:
@@ -170,15 +186,30 @@ class Samples(unittest.TestCase):
                     )
                 else:
                     self.assertEqual(rows, [])
-                prices = told.rest("prices")
-                figures = page.root.all("figure")
-                self.assertEqual(len(figures), len(told.goods) if prices else 0)
-                for good, figure in enumerate(figures):
-                    last = Fraction(int(prices[-1][good + 1]), int(prices[-1][0]))
-                    words = figure.all("b")[0].text
-                    exact = f"({last})" if last.denominator > 1 else str(last.numerator)
-                    self.assertIn(exact, words.replace(",", ""))
-                    self.assertEqual(figure.all("figcaption")[0].text, told.goods[good])
+                self.prices(told, page)
+
+    def prices(self, told: Told, page: Page) -> None:
+        """Tests the tables of prices: each with its change against the round before."""
+        stated = [
+            [Fraction(int(number), int(den)) for number in numbers]
+            for den, *numbers in told.rest("prices")
+        ]
+        tables = page.table("Prices of one unit") + page.table("Prices of more")
+        heads = ["", *(f"round {number + 1}" for number in range(len(stated)))]
+        rows = [row for row in tables if row != heads]
+        self.assertEqual([row[0] for row in rows], told.goods if stated else [])
+        for good, row in enumerate(rows):
+            column = [prices[good] for prices in stated]
+            for place, shown in enumerate(row[1:]):
+                before = column[place - 1] if place else column[place]
+                sign = "▲ " if column[place] > before else "▼ " if column[place] < before else ""
+                self.assertTrue(shown.startswith(sign))
+                shown = shown.removeprefix(sign)
+                if place < len(column) - 1 and "≈" in shown:
+                    gap = abs(value_of(shown.strip("≈")) - column[place])
+                    self.assertTrue(0 < gap <= Fraction(1, 2000))
+                else:
+                    self.amount(shown, column[place])
 
     def test_bids(self):
         for name, told, page, _ in self.pages:
@@ -268,11 +299,33 @@ class ByHand(unittest.TestCase):
 
     def test_matrix(self):
         rows = self.page().table("Who trades what")
+        self.assertEqual(rows[1:], [["s", "−1", "−15"], ["b", "+1", "16"], ["traded", "1", "1"]])
+
+    def test_payments(self):
+        page = self.page()
         self.assertEqual(
-            rows[1], ["s", "\u22121", "\u221215", "0.5", "1/2", "\u221215.5", "\u221231/2", "1"]
+            page.table("What each pays"),
+            [
+                ["", "worth", "adds", "− keeps", "= pays", "cut at 0.5 (1/2)"],
+                ["b", "16", "1", "0.5", "15.5", "1"],
+                ["s", "−15", "1", "0.5", "−15.5", "1"],
+                ["all: the surplus", "1", "", "1", "0", ""],
+                ["paid", "", "", "", "15.5", ""],
+                ["received", "", "", "", "15.5", ""],
+            ],
         )
-        self.assertEqual(rows[2], ["b", "+1", "16", "0.5", "1/2", "15.5", "31/2", "1"])
-        self.assertEqual(rows[3], ["traded", "1", "1", "1.0", "", "0.0", "", "the surplus"])
+        small = [part.text for part in page.root.all("div", "narrow")][:2]
+        self.assertEqual(
+            small,
+            [
+                "buy A; worth 16, adds 1, keeps 0.5 (1/2)",
+                "sell A; worth −15, adds 1, keeps 0.5 (1/2)",
+            ],
+        )
+        self.assertNotIn("keep nothing", page.root.seen())
+        # Of the airport's seven that trade the cut of 194.75 is above what three add.
+        words = page_of(sample("airport-slots.session")).root.seen()
+        self.assertIn("3 of the 7 that trade keep nothing: they pay the whole lower value", words)
 
     def test_course(self):
         page = self.page()
@@ -290,9 +343,8 @@ class ByHand(unittest.TestCase):
         for part in (
             "receives 15.5 (31/2)",
             "pays 15.5 (31/2)",
-            "Its set is worth 16.",
-            "Without it 0 of 1",
-            "the cut leaves 0.5 (1/2)",
+            "Its set is worth 16 at lower values. It adds 1 to the total (without it 0 of 1 can be "
+            "reached); the cut is 0.5 (1/2), so it keeps 0.5 (1/2).",
             "round 1: b at node 0",
             "round 1: zz",
             "must fall by 2 or vanish",

@@ -56,7 +56,10 @@ class Stops(unittest.TestCase):
         """Tests what every stopped journal's page has, made with the checker's answer."""
         facts = page.facts()
         self.assertEqual(facts["state"][0], state)
-        self.assertEqual(facts["checker’s answer"][0], f"good to line {line - 1:,}")
+        self.assertEqual(facts["checker’s answer"][0], "right so far")
+        where = "where bids are awaited" if state == "Open" else "where it stopped"
+        up_to = f"every test passed up to line {line - 1:,}, {where}"
+        self.assertEqual(facts["checker’s answer"][1], f"as told to this page: {up_to}")
         self.assertNotIn("surplus of the payments", facts)
         self.assertNotIn("proven best", page.root.seen())
         self.assertNotIn("don’t add up", page.root.seen())
@@ -132,17 +135,20 @@ class Stops(unittest.TestCase):
         for settlement, number in places.rounds:
             file = settlement + 2
             for record, words in (
-                (f"refused {file} 3 bids.0.lo.0", "was refused, with fault 3 at bids.0.lo.0"),
-                (f"refused {file} 61 -", "was refused, with fault 61."),
-                (f"unread {file}", "could not be read"),
-                ("end open", "was not given"),
+                (
+                    f"refused {file} 3 bids.0.lo.0",
+                    "; the file that was given was refused, with fault 3 at bids.0.lo.0.",
+                ),
+                (f"refused {file} 61 -", "; the file that was given was refused, with fault 61."),
+                (f"unread {file}", "; the file that was given could not be read."),
+                ("end open", "."),
             ):
                 page = page_of(
                     places.stopped(number, record), "--checked", f"no {number + 1} closed"
                 )
                 self.check(page, "Open", number + 1)
                 lead = page.root.all("p", "lead")[0].text
-                self.assertIn(f"the file of round {settlement + 1} {words}", lead)
+                self.assertIn(f"Open: round {settlement + 1}: bids are awaited{words}", lead)
                 self.assertIn("Nothing is settled", lead)
 
 

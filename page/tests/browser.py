@@ -1,0 +1,97 @@
+"""A real Chromium, where one is installed: what it shows outside the screen, and on how many sheets.
+
+Pages have no script. They are put into frames of a page that has one, and that measures them; what
+it found comes back as the text of that page.
+"""
+from __future__ import annotations
+
+import html
+import json
+import re
+import shutil
+import subprocess
+import tempfile
+import unittest
+from pathlib import Path
+from typing import Any
+
+NAMES = ("chromium", "chromium-browser", "google-chrome", "chrome")
+CHROMIUM = next(filter(None, map(shutil.which, NAMES)), None)
+NEEDS = unittest.skipUnless(CHROMIUM, "no Chromium is installed: apt-get install chromium")
+FLAGS = ["--headless", "--no-sandbox", "--disable-gpu", "--hide-scrollbars", "--no-first-run"]
+DARK = ["--blink-settings=preferredColorScheme=0"]
+SCRIPT = """
+const visible = part => {
+  const box = part.getBoundingClientRect();
+  return box.width > 0 && box.height > 0 && part.ownerDocument.defaultView.getComputedStyle(part).clipPath === 'none';
+};
+const name = part => part.tagName + '.' + (part.getAttribute('class') || '') + ': ' + part.textContent.slice(0, 40);
+const colour = words => {
+  const found = words.match(/[0-9.]+/g).map(Number);
+  return words.startsWith('color(') ? found.map((one, at) => at < 3 ? 255 * one : one) : found;
+};
+const behind = part => {
+  for (let at = part; at; at = at.parentElement) {
+    const found = colour(at.ownerDocument.defaultView.getComputedStyle(at).backgroundColor);
+    if (found.length < 4 || found[3] > 0) return found;
+  }
+  return null;
+};
+const measure = frame => {
+  const page = frame.contentDocument, view = frame.contentWindow, width = page.documentElement.clientWidth;
+  const parts = [...page.body.querySelectorAll('*')].filter(visible);
+  const words = parts.filter(part => [...part.childNodes].some(one => one.nodeType === 3 && one.data.trim()));
+  return {
+    width,
+    outside: parts.filter(part => part.getBoundingClientRect().right > width + 0.5).map(name),
+    scrolls: parts.filter(part => part.scrollWidth > part.clientWidth + 1 && view.getComputedStyle(part).overflowX === 'auto').map(name),
+    words: words.filter(part => !part.closest('svg')).map(part => part.textContent),
+    colours: [...new Set(words.filter(part => !part.closest('svg')).map(part =>
+      JSON.stringify([colour(view.getComputedStyle(part).color), behind(part)])))].map(JSON.parse),
+    drawings: parts.filter(part => part.tagName === 'svg').length,
+    height: page.documentElement.scrollHeight,
+  };
+};
+window.onload = () => {
+  document.body.textContent = JSON.stringify([...document.querySelectorAll('iframe')].map(measure));
+};
+"""
+
+
+def run(*words: str) -> str:
+    """Runs Chromium, in a folder of its own; what it prints."""
+    with tempfile.TemporaryDirectory() as room:
+        ran = subprocess.run(
+            [str(CHROMIUM), *FLAGS, f"--user-data-dir={room}", *words],
+            capture_output=True,
+            text=True,
+            timeout=60,
+            check=True,
+        )
+        return ran.stdout
+
+
+def measured(pages: list[str], width: int, dark: bool = False) -> list[dict[str, Any]]:
+    """What a window of this width shows of each page."""
+    frames = "".join(
+        f'<iframe style="border:0;width:{width}px;height:900px" srcdoc="{html.escape(page)}">'
+        "</iframe>"
+        for page in pages
+    )
+    whole = f'<!DOCTYPE html><meta charset="utf-8"><script>{SCRIPT}</script><body>{frames}</body>'
+    with tempfile.TemporaryDirectory() as folder:
+        file = Path(folder, "frames.html")
+        file.write_text(whole, encoding="utf-8")
+        dom = run(*(DARK if dark else []), "--dump-dom", f"file://{file}")
+    body = re.search("<body>(.*)</body>", dom, re.S)
+    assert body, dom[:200]
+    return json.loads(html.unescape(body[1]))
+
+
+def sheets(page: str) -> int:
+    """On how many sheets of paper a page is printed."""
+    with tempfile.TemporaryDirectory() as folder:
+        source, printed = Path(folder, "page.html"), Path(folder, "page.pdf")
+        source.write_text(page, encoding="utf-8")
+        run("--no-pdf-header-footer", f"--print-to-pdf={printed}", f"file://{source}")
+        return len(re.findall(rb"/Type\s*/Page\b", printed.read_bytes()))
