@@ -30,7 +30,6 @@ use std::marker::Model;
 /// bidder's fixing and has the greatest net.
 ///
 /// Only `new` takes memory.
-#[derive(Drop)]
 pub struct Kept<'a> {
     trees: &'a [Tree],
     weights: &'a AllWeights,
@@ -38,6 +37,20 @@ pub struct Kept<'a> {
     marks: Fixings,
     m: Multipliers,
     found: Found,
+}
+
+// By hand, so that each exit that drops one has one call to prove, and not all its parts.
+impl Drop for Kept<'_> {
+    fn drop(self) {
+        let Kept {
+            trees: _,
+            weights: _,
+            leaves: _,
+            marks: _,
+            m: _,
+            found: _,
+        } = self;
+    }
 }
 
 impl<'a> Model for Kept<'a> {

@@ -65,7 +65,6 @@ impl Certificate {
 }
 
 /// Prices with their violation and what shows that they are accurate and balanced.
-#[derive(Drop)]
 pub struct Pricing {
     /// The prices.
     pub prices: Prices,
@@ -75,4 +74,16 @@ pub struct Pricing {
     pub accuracy: Certificate,
     /// What shows that no prices of this violation have a smaller greatest price.
     pub balance: Certificate,
+}
+
+// By hand, so that each exit that drops one has one call to prove, and not all its parts.
+impl Drop for Pricing {
+    fn drop(self) {
+        let Pricing {
+            prices: _,
+            delta: _,
+            accuracy: _,
+            balance: _,
+        } = self;
+    }
 }

@@ -3,7 +3,6 @@ use ice_refute::Log;
 use ice_tree::Assignment;
 
 /// The regret of an assignment, with the rival that attains it.
-#[derive(Drop)]
 pub struct Regret {
     /// The greatest lead over the assignment of any feasible assignment, under any true values
     /// inside the bounds.
@@ -15,4 +14,16 @@ pub struct Regret {
     pub rival: Assignment,
     /// It refutes every feasible assignment that is worth more than the rival at perturbed values.
     pub log: Log,
+}
+
+// By hand, so that each exit that drops one has one call to prove, and not all its parts.
+impl Drop for Regret {
+    fn drop(self) {
+        let Regret {
+            amount: _,
+            value: _,
+            rival: _,
+            log: _,
+        } = self;
+    }
 }

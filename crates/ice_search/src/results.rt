@@ -5,7 +5,6 @@ use ice_tree::Assignment;
 use std::alloc::AllocError;
 
 /// The best feasible assignment that meets the start.
-#[derive(Drop)]
 pub struct Found {
     /// One set for each bidder.
     pub best: Assignment,
@@ -15,8 +14,18 @@ pub struct Found {
     pub log: Log,
 }
 
+// By hand, so that each exit that drops one has one call to prove, and not all its parts.
+impl Drop for Found {
+    fn drop(self) {
+        let Found {
+            best: _,
+            value: _,
+            log: _,
+        } = self;
+    }
+}
+
 /// What is known where the branches were spent.
-#[derive(Drop)]
 pub struct Spent {
     /// A feasible assignment that meets the start: one set for each bidder.
     pub found: Assignment,
@@ -27,6 +36,18 @@ pub struct Spent {
     pub bound: i128,
     /// It refutes every feasible assignment that meets the start and is worth more than the bound.
     pub log: Log,
+}
+
+// By hand, so that each exit that drops one has one call to prove, and not all its parts.
+impl Drop for Spent {
+    fn drop(self) {
+        let Spent {
+            found: _,
+            value: _,
+            bound: _,
+            log: _,
+        } = self;
+    }
 }
 
 /// Why a search doesn't find the best assignment.

@@ -18,7 +18,6 @@ use std::marker::Model;
 /// The workspace of a search. It is seen as what is asked and the side that is looked at. Only
 /// `new` takes memory. What is large stands in boxes, since a search is handed on several times as
 /// it begins.
-#[derive(Drop)]
 pub(crate) struct Workspace<'a> {
     pub(crate) problem: Problem<'a>,
     pub(crate) kept: Kept<'a>,
@@ -26,6 +25,19 @@ pub(crate) struct Workspace<'a> {
     pub(crate) relaxation: Box<Relaxation>,
     /// What the last trial at this side showed of the children of the node that it chose.
     pub(crate) trial: Box<Trial>,
+}
+
+// By hand, so that each exit that drops one has one call to prove, and not all its parts.
+impl Drop for Workspace<'_> {
+    fn drop(self) {
+        let Workspace {
+            problem: _,
+            kept: _,
+            desk: _,
+            relaxation: _,
+            trial: _,
+        } = self;
+    }
 }
 
 impl<'a> Model for Workspace<'a> {

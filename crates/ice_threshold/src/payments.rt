@@ -14,7 +14,6 @@ use ice_frac::Frac;
 use std::alloc::{AllocError, Global};
 
 /// What the bidders of a settlement pay, as exact fractions in the order of the bidders.
-#[derive(Drop)]
 pub struct Payments {
     /// The cut off each Vickrey discount.
     pub cut: Frac,
@@ -24,6 +23,18 @@ pub struct Payments {
     pub payments: Vec<Frac>,
     /// What the discounts leave of the total.
     pub surplus: Frac,
+}
+
+// By hand, so that each exit that drops one has one call to prove, and not all its parts.
+impl Drop for Payments {
+    fn drop(self) {
+        let Payments {
+            cut: _,
+            discounts: _,
+            payments: _,
+            surplus: _,
+        } = self;
+    }
 }
 
 /// What the cut `num / den` leaves of a Vickrey discount, over `den`.

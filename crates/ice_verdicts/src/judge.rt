@@ -17,13 +17,25 @@ use std::marker::Model;
 /// keeps no submission.
 ///
 /// It takes memory when it is made, and none later.
-#[derive(Drop)]
 pub struct Judge {
     bounds: Vec<Bounds>,
     sets: Assignment,
     prices: Prices,
     next: Vec<Bounds>,
     marks: Vec<bool>,
+}
+
+// By hand, so that each exit that drops one has one call to prove, and not all its parts.
+impl Drop for Judge {
+    fn drop(self) {
+        let Judge {
+            bounds: _,
+            sets: _,
+            prices: _,
+            next: _,
+            marks: _,
+        } = self;
+    }
 }
 
 impl Model for Judge {
@@ -119,7 +131,14 @@ impl Judge {
     pub fn into_bounds(self) -> Vec<Bounds>
         ensures { result.items ≡ self.bounds }
     {
-        self.bounds
+        let Judge {
+            bounds,
+            sets: _,
+            prices: _,
+            next: _,
+            marks: _,
+        } = self;
+        bounds
     }
 
     /// The bounds that the round leaves, as far as its submissions have come.

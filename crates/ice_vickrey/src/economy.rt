@@ -21,7 +21,6 @@ use std::marker::Model;
 
 /// A market at the lower values of bounds, with its best assignment. It holds what each search
 /// without a bidder needs.
-#[derive(Drop)]
 pub(crate) struct Economy<'a> {
     exchange: &'a Exchange,
     bounds: &'a [Bounds],
@@ -30,6 +29,21 @@ pub(crate) struct Economy<'a> {
     weights: AllWeights,
     empty: Assignment,
     from: Multipliers,
+}
+
+// By hand, so that each exit that drops one has one call to prove, and not all its parts.
+impl Drop for Economy<'_> {
+    fn drop(self) {
+        let Economy {
+            exchange: _,
+            bounds: _,
+            best: _,
+            total: _,
+            weights: _,
+            empty: _,
+            from: _,
+        } = self;
+    }
 }
 
 impl<'a> Model for Economy<'a> {
@@ -114,12 +128,17 @@ impl<'a> Economy<'a> {
             branches,
         )?;
         let without = found.best.lower_value(self.bounds);
+        let Found {
+            best,
+            value: _,
+            log,
+        } = found;
         Ok(Marginal {
             bidder,
             without,
             discount: self.total - without,
-            witness: found.best,
-            log: found.log,
+            witness: best,
+            log,
         })
     }
 }

@@ -6,7 +6,6 @@ use ice_tree::Assignment;
 use std::alloc::{AllocError, AllocFailed};
 
 /// What a market is worth without one of its bidders, at lower values, and what shows it.
-#[derive(Drop)]
 pub struct Marginal {
     /// The bidder that is left out.
     pub bidder: u8,
@@ -19,6 +18,19 @@ pub struct Marginal {
     pub witness: Assignment,
     /// It refutes every feasible assignment without the bidder that is worth more.
     pub log: Log,
+}
+
+// By hand, so that each exit that drops one has one call to prove, and not all its parts.
+impl Drop for Marginal {
+    fn drop(self) {
+        let Marginal {
+            bidder: _,
+            without: _,
+            discount: _,
+            witness: _,
+            log: _,
+        } = self;
+    }
 }
 
 /// Why not all discounts are known.
