@@ -9,7 +9,6 @@ use ice_tree::Bounds;
 use ice_vickrey::Marginal;
 
 /// The last settlement of a session.
-#[derive(Drop)]
 pub struct Closing {
     /// The exchange.
     pub exchange: Exchange,
@@ -27,8 +26,22 @@ pub struct Closing {
     pub payments: Payments,
 }
 
+// By hand, so that each exit that drops one has one call to prove, and not all its parts.
+impl Drop for Closing {
+    fn drop(self) {
+        let Closing {
+            exchange: _,
+            bounds: _,
+            number: _,
+            best: _,
+            regret: _,
+            marginals: _,
+            payments: _,
+        } = self;
+    }
+}
+
 /// A settlement that opens a round.
-#[derive(Drop)]
 pub struct Opening {
     /// The settlement's number, from 0.
     pub number: u8,
@@ -42,8 +55,20 @@ pub struct Opening {
     pub pricing: Pricing,
 }
 
+// By hand, so that each exit that drops one has one call to prove, and not all its parts.
+impl Drop for Opening {
+    fn drop(self) {
+        let Opening {
+            number: _,
+            best: _,
+            regret: _,
+            provisional: _,
+            pricing: _,
+        } = self;
+    }
+}
+
 /// What a settlement had before it was halted.
-#[derive(Drop)]
 pub struct Halt {
     /// The exchange.
     pub exchange: Exchange,
@@ -59,4 +84,19 @@ pub struct Halt {
     pub provisional: Option<Found>,
     /// What the market is worth without the first bidders, as far as it was found.
     pub marginals: Vec<Marginal>,
+}
+
+// By hand, so that each exit that drops one has one call to prove, and not all its parts.
+impl Drop for Halt {
+    fn drop(self) {
+        let Halt {
+            exchange: _,
+            bounds: _,
+            number: _,
+            best: _,
+            regret: _,
+            provisional: _,
+            marginals: _,
+        } = self;
+    }
 }
