@@ -31,7 +31,6 @@ use ice_tree::{Assignment, NodeSet};
 use std::alloc::{AllocError, Global};
 
 /// A journal whose exchange is complete: what comes next in it, and what the tests look back at.
-#[derive(Drop)]
 pub(crate) struct Groups {
     pub(crate) head: Head,
     pub(crate) next: Next,
@@ -55,6 +54,27 @@ pub(crate) struct Groups {
     /// The cut and the surplus, once they are stated.
     pub(crate) charge: Charge,
     pub(crate) log: LogWalk,
+}
+
+// By hand, so that each exit that drops one has one call to prove, and not all its parts.
+impl Drop for Groups {
+    fn drop(self) {
+        let Groups {
+            head: _,
+            next: _,
+            stated: _,
+            value: _,
+            number: _,
+            final_sets: _,
+            final_value: _,
+            rival: _,
+            regret: _,
+            offer: _,
+            withouts: _,
+            charge: _,
+            log: _,
+        } = self;
+    }
 }
 
 /// Whether a total is this value.

@@ -27,13 +27,25 @@ use std::alloc::{AllocError, Global};
 
 /// What a log is walked with: the weights of its group, the side that it begins with, where the
 /// walk has come, and the multipliers of the leaf before.
-#[derive(Drop)]
 pub(crate) struct LogWalk {
     pub(crate) weights: AllWeights,
     start: Fixings,
     walk: Walk,
     desk: Desk,
     before: Multipliers,
+}
+
+// By hand, so that each exit that drops one has one call to prove, and not all its parts.
+impl Drop for LogWalk {
+    fn drop(self) {
+        let LogWalk {
+            weights: _,
+            start: _,
+            walk: _,
+            desk: _,
+            before: _,
+        } = self;
+    }
 }
 
 /// The rule of a step's fault.

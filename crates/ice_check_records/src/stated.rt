@@ -15,11 +15,21 @@ use std::marker::Model;
 use std::mem;
 
 /// An exchange, and the sets that are stated for its first bidders.
-#[derive(Drop)]
 pub(crate) struct Stated {
     exchange: Exchange,
     sets: Assignment,
     taken: u8,
+}
+
+// By hand, so that each exit that drops one has one call to prove, and not all its parts.
+impl Drop for Stated {
+    fn drop(self) {
+        let Stated {
+            exchange: _,
+            sets: _,
+            taken: _,
+        } = self;
+    }
 }
 
 impl Model for Stated {
