@@ -9,11 +9,20 @@ use std::marker::Model;
 
 /// An exchange of flat bids: its settings, 1 to 32 goods, and 1 to 40 bidders with their owned
 /// amounts and packages. Only `read_flat` makes one.
-#[derive(Drop)]
 pub struct FlatExchange {
     /// The settings and the goods, with no bidder.
     pub(crate) goods: ExchangeMaker,
     pub(crate) bidders: Vec<FlatBidder>,
+}
+
+// By hand, so that each exit that drops one has one call to prove, and not all its parts.
+impl Drop for FlatExchange {
+    fn drop(self) {
+        let FlatExchange {
+            goods: _,
+            bidders: _,
+        } = self;
+    }
 }
 
 impl Model for FlatExchange {
