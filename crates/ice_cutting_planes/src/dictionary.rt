@@ -68,6 +68,25 @@ fn first_equation(
     })
 }
 
+/// The equations of all columns: of so many goods, and of the last one, in which each good has `last` with its sign turned.
+fn first_equations(alloc: Global, goods: u8, last: i128) -> Result<Vec<Equation>, AllocError> {
+    let mut left = Vec::new(alloc);
+    for column in 0..goods {
+        left.push(first_equation(alloc, column, goods, 0)?)?;
+    }
+    left.push(first_equation(alloc, goods, goods, last.wrapping_neg())?)?;
+    Ok(left)
+}
+
+/// The variables on the right at the beginning, one for each good.
+fn good_variables(alloc: Global, goods: u8) -> Result<Vec<Variable>, AllocError> {
+    let mut right = Vec::new(alloc);
+    for good in 0..goods {
+        right.push(Variable::Good(good))?;
+    }
+    Ok(right)
+}
+
 impl Dictionary {
     /// A dictionary of so many goods, each of which has a row that asks for `last` times the last
     /// column less the good's price to be at least `least`.
@@ -78,15 +97,8 @@ impl Dictionary {
         last: i128,
         least: i128,
     ) -> Result<Dictionary, GivenUp> {
-        let mut left = Vec::new(alloc);
-        for column in 0..goods {
-            left.push(first_equation(alloc, column, goods, 0)?)?;
-        }
-        left.push(first_equation(alloc, goods, goods, last.wrapping_neg())?)?;
-        let mut right = Vec::new(alloc);
-        for good in 0..goods {
-            right.push(Variable::Good(good))?;
-        }
+        let left = first_equations(alloc, goods, last)?;
+        let right = good_variables(alloc, goods)?;
         let objective = Equation {
             variable: Variable::Objective,
             den: 1,
@@ -183,19 +195,29 @@ impl Dictionary {
         Ok(column)
     }
 
+    /// What the objective has of a new cut's multiplier.
+    fn gain(&self, cut: &Cut, terms: &[Term]) -> Result<i128, GivenUp> {
+        let least = product(cut.least(&self.asked)?, self.objective.den)?;
+        with_terms(&self.objective, terms, least)
+    }
+
+    /// Adds a cut with its multiplier on the right.
+    fn add_variable(&mut self, gain: i128, cut: Cut) -> Result<(), AllocError> {
+        self.objective.coeffs.push(gain)?;
+        self.right.push(Variable::Cut(self.cuts.len()))?;
+        self.cuts.push(cut)
+    }
+
     /// Adds the row of a cut as a column, where the point doesn't meet it. Whether it was added.
     pub(crate) fn add(&mut self, alloc: Global, cut: Cut) -> Result<bool, GivenUp> {
         let terms = self.terms(alloc, &cut)?;
-        let least = product(cut.least(&self.asked)?, self.objective.den)?;
-        let gain = with_terms(&self.objective, &terms, least)?;
+        let gain = self.gain(&cut, &terms)?;
         if gain <= 0 {
             return Ok(false);
         }
         let column = self.new_coeffs(alloc, &cut, &terms)?;
         add_column(&mut self.left, &column)?;
-        self.objective.coeffs.push(gain)?;
-        self.right.push(Variable::Cut(self.cuts.len()))?;
-        self.cuts.push(cut)?;
+        self.add_variable(gain, cut)?;
         Ok(true)
     }
 }
