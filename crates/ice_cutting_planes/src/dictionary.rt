@@ -10,7 +10,6 @@ use std::alloc::{AllocError, Global};
 ///
 /// Each price has an infinitesimal cost of its own, a perturbation: of equal points the one with
 /// the least sum of prices is sought, and almost no pivot gains nothing.
-#[derive(Drop)]
 pub(crate) struct Dictionary {
     goods: u8,
     pub(crate) asked: Asked,
@@ -18,6 +17,20 @@ pub(crate) struct Dictionary {
     pub(crate) right: Vec<Variable>,
     pub(crate) objective: Equation,
     pub(crate) cuts: Vec<Cut>,
+}
+
+// By hand, so that each exit that drops one has one call to prove, and not all its parts.
+impl Drop for Dictionary {
+    fn drop(self) {
+        let Dictionary {
+            goods: _,
+            asked: _,
+            left: _,
+            right: _,
+            objective: _,
+            cuts: _,
+        } = self;
+    }
 }
 
 /// The numbers of the columns over one denominator, in lowest terms.

@@ -1,13 +1,14 @@
 //! Prices by cutting planes.
 ghost use Rattle.ice_cutting_planes.specs.Works.{IsMoreWork};
 
+use crate::cut::Asked;
 use crate::dictionary::{Dictionary, Point};
 use crate::equation::Variable;
 use crate::numbers::{divisor, divisor_of, product, quotient};
 use crate::rounding::Rounding;
 use crate::stage::CutSearch;
 use crate::work::{GivenUp, Work};
-use ice_pricing::{Pricing, Provisional};
+use ice_pricing::{Certificate, Pricing, Provisional};
 use ice_terms::Prices;
 use std::alloc::Global;
 
@@ -83,6 +84,35 @@ fn whole_prices(alloc: Global, found: &Rounding) -> Result<Prices, GivenUp> {
     Prices::new(den, &nums).ok_or(GivenUp::Long)
 }
 
+/// Runs a stage, and makes the certificate of its end.
+fn run_whole_stage(
+    search: &mut CutSearch<'_>,
+    dictionary: &mut Dictionary,
+    work: &mut Work,
+) -> Result<(Point, Certificate), GivenUp>
+    ensures { IsMoreWork work.old work.new }
+{
+    let point = search.run_stage(dictionary, work)?;
+    let certificate = dictionary.certificate(search.alloc)?;
+    Ok((point, certificate))
+}
+
+/// The prices of the point at which the balance stage ended, rounded where their denominator is too
+/// long.
+fn prices_at(
+    mut point: Point,
+    search: &mut CutSearch<'_>,
+    asked: &Asked,
+    work: &mut Work,
+) -> Result<Prices, GivenUp>
+    ensures { IsMoreWork work.old work.new }
+{
+    point.nums.truncate(usize::from(search.trade.goods()));
+    let mut found = Rounding::of(point.den, point.nums, asked)?;
+    round_to_fit(&mut found, search, work)?;
+    whole_prices(search.alloc, &found)
+}
+
 /// Looks for prices of a provisional trade that are accurate and then balanced, with their
 /// violation and certificates.
 ///
@@ -102,15 +132,11 @@ pub fn cut_prices(
     let goods = trade.goods();
     let mut search = CutSearch::new(alloc, trade);
     let mut first = Dictionary::accuracy(alloc, goods, trade.cap())?;
-    let violation = Violation::of(&search.run_stage(&mut first, work)?);
-    let accuracy = first.certificate(alloc)?;
+    let (point, accuracy) = run_whole_stage(&mut search, &mut first, work)?;
+    let violation = Violation::of(&point);
     let mut second = second_dictionary(alloc, goods, &violation, &first)?;
-    let mut point = search.run_stage(&mut second, work)?;
-    let balance = second.certificate(alloc)?;
-    point.nums.truncate(usize::from(goods));
-    let mut found = Rounding::of(point.den, point.nums, &second.asked)?;
-    round_to_fit(&mut found, &mut search, work)?;
-    let prices = whole_prices(alloc, &found)?;
+    let (point, balance) = run_whole_stage(&mut search, &mut second, work)?;
+    let prices = prices_at(point, &mut search, &second.asked, work)?;
     let delta = violation.over(i128::from(prices.den()))?;
     Ok(Pricing {
         prices,
