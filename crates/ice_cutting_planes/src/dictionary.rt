@@ -218,7 +218,8 @@ impl Dictionary {
     fn add_variable(&mut self, gain: i128, cut: Cut) -> Result<(), AllocError> {
         self.objective.coeffs.push(gain)?;
         self.right.push(Variable::Cut(self.cuts.len()))?;
-        self.cuts.push(cut)
+        self.cuts.push(cut)?;
+        Ok(())
     }
 
     /// Adds the row of a cut as a column, where the point doesn't meet it. Whether it was added.

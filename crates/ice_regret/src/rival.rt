@@ -9,7 +9,7 @@ ghost use Rattle.ice_regret.specs.Regretted.{IsRegretOf, rival_search};
 
 use crate::lead::Regret;
 use ice_best::Fixings;
-use ice_search::{Found, SearchEnd, search};
+use ice_search::{SearchEnd, search};
 use ice_trade::Exchange;
 use ice_tree::{AllWeights, Assignment, Bounds};
 use std::alloc::Global;
@@ -42,15 +42,10 @@ pub fn regret(
     let found = search(alloc, exchange, &weights, &start, chosen, branches)?;
     let value = found.best.value(trees, &weights);
     let amount = value - chosen.lower_value(bounds);
-    let Found {
-        best,
-        value: _,
-        log,
-    } = found;
     Ok(Regret {
         amount,
         value,
-        rival: best,
-        log,
+        rival: found.best,
+        log: found.log,
     })
 }

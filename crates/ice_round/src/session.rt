@@ -6,23 +6,11 @@ use std::alloc::Global;
 
 /// An exchange, what is known of its round, the number of the settlement that comes next or that
 /// opened the round, and the branches that are left.
+#[derive(Drop)]
 pub(crate) struct Session {
     pub(crate) alloc: Global,
     pub(crate) exchange: Exchange,
     pub(crate) judge: Judge,
     pub(crate) number: u8,
     pub(crate) branches: u32,
-}
-
-// By hand, so that each exit that drops one has one call to prove, and not all its parts.
-impl Drop for Session {
-    fn drop(self) {
-        let Session {
-            alloc: _,
-            exchange: _,
-            judge: _,
-            number: _,
-            branches: _,
-        } = self;
-    }
 }

@@ -88,17 +88,10 @@ impl Session {
         ensures provisional { result.provisional ≡ provisional }
         ensures marginals { result.marginals ≡ marginals }
     {
-        let Session {
-            alloc: _,
-            exchange,
-            judge,
-            number,
-            branches: _,
-        } = self;
         Halt {
-            exchange,
-            bounds: judge.into_bounds(),
-            number,
+            exchange: self.exchange,
+            bounds: self.judge.into_bounds(),
+            number: self.number,
             best,
             regret,
             provisional,
@@ -149,24 +142,15 @@ impl Session {
             &best,
             &marginals,
         ) {
-            Ok(payments) => {
-                let Session {
-                    alloc: _,
-                    exchange,
-                    judge,
-                    number,
-                    branches: _,
-                } = self;
-                Settled::Closed(Closing {
-                    exchange,
-                    bounds: judge.into_bounds(),
-                    number,
-                    best,
-                    regret,
-                    marginals,
-                    payments,
-                })
-            }
+            Ok(payments) => Settled::Closed(Closing {
+                exchange: self.exchange,
+                bounds: self.judge.into_bounds(),
+                number: self.number,
+                best,
+                regret,
+                marginals,
+                payments,
+            }),
             Err(_) => Settled::NoMemory,
         }
     }

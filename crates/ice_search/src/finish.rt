@@ -24,16 +24,9 @@ impl<'a> Progress<'a> {
     {
         let mut log = Log::new(alloc);
         write_log(alloc, &self.parts, Some(self.incumbent.value), &mut log)?;
-        let Progress {
-            space: _,
-            incumbent,
-            parts: _,
-            hints: _,
-            open_parts: _,
-        } = self;
         Ok(Found {
-            best: incumbent.sets,
-            value: incumbent.value,
+            best: self.incumbent.sets,
+            value: self.incumbent.value,
             log,
         })
     }
@@ -55,16 +48,9 @@ impl<'a> Progress<'a> {
         let bound = key_of(&self.parts[number as usize]);
         let mut log = Log::new(alloc);
         write_log(alloc, &self.parts, None, &mut log)?;
-        let Progress {
-            space: _,
-            incumbent,
-            parts: _,
-            hints: _,
-            open_parts: _,
-        } = self;
         Ok(Spent {
-            found: incumbent.sets,
-            value: incumbent.value,
+            found: self.incumbent.sets,
+            value: self.incumbent.value,
             bound,
             log,
         })

@@ -22,25 +22,13 @@ use std::marker::Model;
 
 /// A search as it goes on: its parts with a hint for each, the best assignment so far, and the open
 /// parts.
+#[derive(Drop)]
 pub(crate) struct Progress<'a> {
     pub(crate) space: Workspace<'a>,
     pub(crate) incumbent: Incumbent,
     pub(crate) parts: Vec<Part>,
     pub(crate) hints: Vec<Hint>,
     pub(crate) open_parts: Vec<u32>,
-}
-
-// By hand, so that each exit that drops one has one call to prove, and not all its parts.
-impl Drop for Progress<'_> {
-    fn drop(self) {
-        let Progress {
-            space: _,
-            incumbent: _,
-            parts: _,
-            hints: _,
-            open_parts: _,
-        } = self;
-    }
 }
 
 impl<'a> Model for Progress<'a> {

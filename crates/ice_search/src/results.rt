@@ -5,6 +5,7 @@ use ice_tree::Assignment;
 use std::alloc::AllocError;
 
 /// The best feasible assignment that meets the start.
+#[derive(Drop)]
 pub struct Found {
     /// One set for each bidder.
     pub best: Assignment,
@@ -12,17 +13,6 @@ pub struct Found {
     pub value: i128,
     /// It refutes every feasible assignment that meets the start and is worth more.
     pub log: Log,
-}
-
-// By hand, so that each exit that drops one has one call to prove, and not all its parts.
-impl Drop for Found {
-    fn drop(self) {
-        let Found {
-            best: _,
-            value: _,
-            log: _,
-        } = self;
-    }
 }
 
 /// What is known where the branches were spent.

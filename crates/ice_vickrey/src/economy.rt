@@ -128,17 +128,12 @@ impl<'a> Economy<'a> {
             branches,
         )?;
         let without = found.best.lower_value(self.bounds);
-        let Found {
-            best,
-            value: _,
-            log,
-        } = found;
         Ok(Marginal {
             bidder,
             without,
             discount: self.total - without,
-            witness: best,
-            log,
+            witness: found.best,
+            log: found.log,
         })
     }
 }
