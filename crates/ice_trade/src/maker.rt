@@ -1,15 +1,14 @@
 //! The maker of an exchange.
-ghost use Rattle.std.specs.Prelude.{◌≡◌, ◌≤◌, ◌<◌, [], length, IfOk, OnErr, IfErr, IsTrue, pos, false, true};
-ghost use Rattle.std.specs.List.{position, AllByRecursion};
+ghost use Rattle.std.specs.Prelude.{◌≡◌, ◌≤◌, ◌<◌, [], length, IfOk, OnErr, IfErr, pos, false, true};
+ghost use Rattle.std.specs.List.{position};
 ghost use Rattle.std.specs.Str.{bytes_eq};
 ghost use Rattle.ice_defs.specs.Exchange.{names_of, market_of};
 ghost use Rattle.ice_defs.specs.Market.{owned_amount};
 ghost use Rattle.ice_defs.specs.Lawful.{IsBidder, IsExchange, good_names};
 ghost use Rattle.ice_defs.specs.Making.{good_refusal, bidder_refusal, exchange_refusal};
 ghost use Rattle.ice_defs.specs.Bounds.{no_bounds};
-ghost use Rattle.ice_defs.specs.Name.{is_name};
 ghost use Rattle.ice_trade.specs.Fault.{RefusedBy, TellsSale};
-ghost use Rattle.ice_trade.specs.Parts.{no_exchange, with_good, with_bidder};
+ghost use Rattle.ice_trade.specs.Parts.{IsUnfinished, no_exchange, with_good, with_bidder};
 
 use crate::bidders::Bidders;
 use crate::exchange::Exchange;
@@ -86,7 +85,7 @@ impl ExchangeMaker {
     pub fn goods(&self) -> u8
         ensures value { result ≡ length self.now.goods }
         ensures fits { result ≤ 32 }
-        ensures named { AllByRecursion (λ name. IsTrue (is_name name)) (good_names self.now) }
+        ensures lawful { IsUnfinished self.now }
     {
         self.goods.len()
     }

@@ -59,8 +59,9 @@ fn flat_in(alloc: Global, value: &Value) -> Result<FlatExchange, ReadFault>
         return Err(ReadFault::of(ReadCause::NoMemory));
     };
     take_goods_member(&mut goods, value, "goods")?;
+    let count = goods.goods();
     let bidders = bidders_member(alloc, &goods, value, "bidders")?;
-    if is_empty(goods.goods(), bidders.len()) {
+    if is_empty(count, bidders.len()) {
         return Err(ReadFault::of(ReadCause::Make(MakeFault::Empty)));
     }
     Ok(FlatExchange { goods, bidders })

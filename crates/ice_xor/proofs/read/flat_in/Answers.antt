@@ -30,7 +30,7 @@ returns-then-is_empty c = λ other.
     let goods = c.take_goods_member.new.exchange.goods in
     let bidders = c.in_ok-bidders.bidders.items in
     flat_chain (view c.args.value.now) settings goods bidders c.if-not-has_exactly.ensures (c.in_ok-settings.ensures []) (c.in_ok-take_goods_member.ensures.taken []) (c.in_ok-bidders.ensures.reading [])
-    ∙ made-where settings goods bidders c.goods-2.result c.len.result c.is_empty.result c.goods-2.ensures.value (omega (arith, c.len.ensures)) c.is_empty.ensures
+    ∙ made-where settings goods bidders c.goods-count.result c.len.result c.is_empty.result c.goods-count.ensures.value (omega (arith, c.len.ensures)) c.is_empty.ensures
     ∙ ap (λ b. cond b (refuse 16 []) (Ok (record { settings = settings; goods = goods; bidders = bidders }))) c.if-is_empty.true
     ∙ refused 16 (Make Empty) c.of-then-is_empty.result c.of-then-is_empty.ensures refl []
 
@@ -40,6 +40,6 @@ returns c =
     let goods = c.take_goods_member.new.exchange.goods in
     let bidders = c.in_ok-bidders.bidders.items in
     flat_chain (view c.args.value.now) settings goods bidders c.if-not-has_exactly.ensures (c.in_ok-settings.ensures []) (c.in_ok-take_goods_member.ensures.taken []) (c.in_ok-bidders.ensures.reading [])
-    ∙ made-where settings goods bidders c.goods-2.result c.len.result c.is_empty.result c.goods-2.ensures.value (omega (arith, c.len.ensures)) c.is_empty.ensures
+    ∙ made-where settings goods bidders c.goods-count.result c.len.result c.is_empty.result c.goods-count.ensures.value (omega (arith, c.len.ensures)) c.is_empty.ensures
     ∙ ap (λ b. cond b (refuse 16 []) (Ok (record { settings = settings; goods = goods; bidders = bidders }))) c.if-is_empty.false
     ∙ ap (λ (flat : FlatExchange). Ok flat) (kept-settings settings c.in-Ok.goods c.take_goods_member.new.exchange bidders c.in-Ok.ensures c.in_ok-take_goods_member.ensures.same)
