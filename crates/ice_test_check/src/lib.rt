@@ -1,11 +1,7 @@
-//! Tests of the checker: whole journals, and each with one of its lines changed. They stand apart
-//! so that the checker is not proved again with them.
+//! Tests of the checker whose bytes come in pieces, however they are cut. What it answers to whole
+//! journals, and to each with one of its lines changed, is shown by the built program (tests/).
 #![tactic(auto)]
 
-#[cfg(test)]
-mod found;
-#[cfg(test)]
-mod journals;
 #[cfg(test)]
 mod pieces;
 #[cfg(test)]

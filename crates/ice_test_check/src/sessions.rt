@@ -1,6 +1,4 @@
-//! Sessions, and changes of them.
-use crate::found::{Change, Found};
-use ice_check::Rule;
+//! Sessions.
 
 /// A session of a seller of a unit at 10 and a buyer of it at 20 to 30, which closes at its first
 /// settlement.
@@ -36,46 +34,6 @@ pub const SESSION: [&str; 29] = [
     "end closed",
 ];
 
-pub const SESSION_CHANGES: [Change; 29] = [
-    (0, "", Found::Closed(0, 0, 1)),
-    (17, "regret 1\n", Found::No(17, Rule::Regret)),
-    (13, "rival 11\n", Found::No(15, Rule::Value)),
-    (12, "leaf 576\n", Found::No(12, Rule::Above)),
-    (12, "leaf -1\n", Found::No(12, Rule::Sign)),
-    (12, "", Found::No(12, Rule::Order)),
-    (12, "branch 0 0\nleaf 640\n", Found::No(14, Rule::Order)),
-    (
-        12,
-        "branch 0 0\nleaf 640\ndead 0\n",
-        Found::No(14, Rule::Alive),
-    ),
-    (
-        12,
-        "branch 0 0\nleaf 640\nleaf 1280\n",
-        Found::Closed(0, 0, 1),
-    ),
-    (27, "payment s 10 6/1 -16/1\n", Found::No(27, Rule::Payment)),
-    (5, "node sell 0 2 -10 -10\n", Found::No(5, Rule::Exchange)),
-    (8, "settle 1\n", Found::No(8, Rule::Order)),
-    (8, "spent 10 20\n", Found::No(8, Rule::Order)),
-    (9, "spent 10 20\n", Found::No(9, Rule::Closed)),
-    (18, "spent 0 20\n", Found::No(18, Rule::Closed)),
-    (18, "without 1 0\n", Found::No(18, Rule::Order)),
-    (18, "provisional 0\n", Found::No(18, Rule::Order)),
-    (19, "set 1\n", Found::No(19, Rule::Fixing)),
-    (21, "leaf 640\n", Found::No(21, Rule::Above)),
-    (22, "threshold 5/1 0/1\n", Found::No(22, Rule::Order)),
-    (26, "threshold 4/1 0/1\n", Found::No(26, Rule::Threshold)),
-    (26, "threshold 6/1 2/1\n", Found::No(26, Rule::Threshold)),
-    (26, "threshold 11/1 10/1\n", Found::No(26, Rule::Threshold)),
-    (26, "threshold 5/1 1/1\n", Found::No(26, Rule::Threshold)),
-    (27, "payment b 10 5/1 15/1\n", Found::No(27, Rule::Order)),
-    (27, "payment s 9 5/1 -15/1\n", Found::No(27, Rule::Payment)),
-    (28, "payment b 10 5/1 25/1\n", Found::No(28, Rule::Payment)),
-    (29, "end open\n", Found::No(29, Rule::Order)),
-    (29, "end closed\nend closed\n", Found::No(30, Rule::Order)),
-];
-
 /// The same in version 2.
 pub const NEAR_SESSION: [&str; 29] = [
     "ice 2 session",
@@ -107,12 +65,6 @@ pub const NEAR_SESSION: [&str; 29] = [
     "payment s 10 5/1 -15/1",
     "payment b 10 5/1 15/1",
     "end closed",
-];
-
-pub const NEAR_SESSION_CHANGES: [Change; 3] = [
-    (0, "", Found::Closed(0, 0, 1)),
-    (25, "near 1 0 0\n", Found::No(25, Rule::Near)),
-    (12, "leaf 640\n", Found::No(12, Rule::Order)),
 ];
 
 /// A session whose core is empty: each of three bidders owns a unit, which two of them may trade at
@@ -187,12 +139,6 @@ pub const CORE: [&str; 67] = [
     "end closed",
 ];
 
-pub const CORE_CHANGES: [Change; 3] = [
-    (0, "", Found::Closed(0, 10, 1)),
-    (63, "threshold 0/1 0/1\n", Found::No(63, Rule::Threshold)),
-    (64, "payment x 0 0/1 0/1\n", Found::No(64, Rule::Payment)),
-];
-
 /// A session that closes with a regret: a seller at 8 to 15 and a buyer at 10 to 12 don't trade.
 pub const REGRETTED: [&str; 29] = [
     "ice 1 session",
@@ -226,11 +172,6 @@ pub const REGRETTED: [&str; 29] = [
     "end closed",
 ];
 
-pub const REGRETTED_CHANGES: [Change; 2] = [
-    (0, "", Found::Closed(4, 0, 1)),
-    (2, "settings 50 3 100 1 5 200\n", Found::No(18, Rule::Order)),
-];
-
 /// The same where no regret closes: prices are offered, and the session stays open.
 pub const OPEN: [&str; 26] = [
     "ice 1 session",
@@ -259,31 +200,6 @@ pub const OPEN: [&str; 26] = [
     "balance 1",
     "row 1 1 1",
     "end open",
-];
-
-pub const OPEN_CHANGES: [Change; 18] = [
-    (0, "", Found::No(26, Rule::Closed)),
-    (26, "refused 2 2 bids\n", Found::No(26, Rule::Closed)),
-    (26, "unread 2\n", Found::No(26, Rule::Closed)),
-    (26, "unread 3\n", Found::No(26, Rule::Order)),
-    (22, "limit accuracy wide 0 1\n", Found::No(22, Rule::Closed)),
-    (18, "spent 0 20\n", Found::No(18, Rule::Closed)),
-    (18, "without 0 0\n", Found::No(18, Rule::Order)),
-    (22, "prices 2 22\n", Found::No(22, Rule::Prices)),
-    (22, "prices 1 11 11\n", Found::No(22, Rule::Order)),
-    (23, "accuracy 1 1\n", Found::No(23, Rule::Violation)),
-    (
-        23,
-        "accuracy 0 1\nrow 1 1 1\n",
-        Found::No(24, Rule::Accuracy),
-    ),
-    (24, "balance 2\n", Found::No(25, Rule::Balance)),
-    (25, "row 1 1 0\n", Found::No(25, Rule::Balance)),
-    (25, "", Found::No(24, Rule::Balance)),
-    (25, "row 2 1 1\n", Found::No(25, Rule::Count)),
-    (25, "row 1 1 10\n", Found::No(25, Rule::Count)),
-    (26, "settle 2\n", Found::No(26, Rule::Order)),
-    (26, "settle 1\nend open\n", Found::No(27, Rule::Order)),
 ];
 
 /// A session of two settlements, with the bids of a round between them.
@@ -351,26 +267,4 @@ pub const ROUNDS: [&str; 63] = [
     "payment s 1 1/2 -31/2",
     "payment b 1 1/2 31/2",
     "end closed",
-];
-
-pub const ROUNDS_CHANGES: [Change; 11] = [
-    (0, "", Found::Closed(0, 0, 1)),
-    (22, "prices 1 13\n", Found::No(23, Rule::Violation)),
-    (22, "prices 1 15\n", Found::No(25, Rule::Balance)),
-    (22, "prices 1 101\n", Found::No(22, Rule::Prices)),
-    (37, "verdict accepted\n", Found::No(37, Rule::Verdict)),
-    (
-        25,
-        "row 1 1 1\nsubmit s 1 -15 1 -15\nverdict accepted\n",
-        Found::Closed(0, 0, 1),
-    ),
-    (
-        41,
-        "verdict 44\nsubmit s 1 -15 1 -15\nverdict accepted\n",
-        Found::Closed(0, 0, 1),
-    ),
-    (42, "settle 2\n", Found::No(42, Rule::Order)),
-    (55, "leaf 960\n", Found::No(55, Rule::Above)),
-    (60, "threshold 1/1 1/1\n", Found::No(60, Rule::Threshold)),
-    (62, "payment b 1 1/2 19/2\n", Found::No(62, Rule::Payment)),
 ];

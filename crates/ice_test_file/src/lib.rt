@@ -1,19 +1,13 @@
-//! Tests of exchange, prices and round files and of flat bids: what is read of files in line form
-//! and in JSON, the first fault of each, and what is written; and of the printed texts of faults,
-//! each written by hand. They stand apart so that the readers are not proved again with them.
+//! Tests of what no command prints: the section of an exchange taken record by record, what trades
+//! are worth in the trees of flat bids, and the printed texts of faults, each written by hand. What
+//! files are read as, and the first fault of each, is shown by the built program (tests/).
 #![tactic(auto)]
 
 #[cfg(test)]
-mod exchanges;
-#[cfg(test)]
 mod file_texts;
-#[cfg(test)]
-mod lines;
 #[cfg(test)]
 mod packages;
 #[cfg(test)]
-mod rounds;
+mod section;
 #[cfg(test)]
 mod texts;
-#[cfg(test)]
-mod written;

@@ -1,7 +1,6 @@
-//! Flat bids: what trades are worth in their trees, by all sets of the trees' nodes, and how many
-//! packages a tree takes.
+//! Flat bids: what trades are worth in their trees, by all sets of the trees' nodes.
 use ice_tree::{Bounds, NodeSet, Tree, Units};
-use ice_xor::{TranslateFault, read_flat, translate};
+use ice_xor::{read_flat, translate};
 use std::alloc::Global;
 use std::test::Fail;
 
@@ -19,14 +18,6 @@ const WORTHS: [(&str, [i64; 2], Option<i64>); 8] = [
     ("or", [2, 1], Some(25)),
     ("or", [1, 0], Some(10)),
     ("or", [-1, 5], None),
-];
-
-/// How many packages, their member, and the number of the refusal, where there is one: 99 packages
-/// of one good have 199 nodes.
-const MANY: [(u16, &str, Option<u8>); 3] = [
-    (99, "or", None),
-    (200, "or", Some(23)),
-    (200, "xor", Some(23)),
 ];
 
 /// A file of one bidder that has these packages.
@@ -70,29 +61,6 @@ fn worths(rt: HostRuntime) -> Result<(), Fail> {
             best = best.max(value_of(tree, bounds, bits, trade));
         }
         assert_eq!(rt; best, expected, "{word}");
-    }
-    Ok(())
-}
-
-#[test]
-fn many_packages(rt: HostRuntime) -> Result<(), Fail> {
-    for (count, word, expected) in MANY {
-        let mut packages = String::new(rt.alloc());
-        for number in 0..count {
-            let comma = if number == 0 { "" } else { "," };
-            let package = format!(in rt.alloc();
-                "{comma}{{\"lo\":0,\"hi\":{number},\"units\":{{\"B\":1}}}}"
-            )?;
-            packages.push_str(package.as_str())?;
-        }
-        let text = file(rt.alloc(), word, packages.as_str())?;
-        let flat = read_flat(rt.alloc(), text.as_bytes())?;
-        let refused = match translate(rt.alloc(), &flat) {
-            Ok(_) => None,
-            Err(TranslateFault::Refused { cause, .. }) => cause.number(),
-            Err(TranslateFault::NoMemory) => return Err(Fail::from("memory")),
-        };
-        assert_eq!(rt; refused, expected, "{count}");
     }
     Ok(())
 }

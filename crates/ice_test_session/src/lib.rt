@@ -1,5 +1,5 @@
-//! Tests of searches, regrets, prices and sessions of worked exchanges. They stand apart so that
-//! the crates they try are not proved again with them.
+//! Tests of searches and regrets of worked exchanges, of certificates of prices, and of both ways to
+//! prices. What a session prints is shown by the built program (tests/).
 #![tactic(auto)]
 
 #[cfg(test)]
@@ -12,8 +12,6 @@ mod prices;
 mod regrets;
 #[cfg(test)]
 mod searches;
-#[cfg(test)]
-mod sessions;
 #[cfg(test)]
 mod taken;
 #[cfg(test)]

@@ -19,15 +19,6 @@ pub(crate) const PAIRS: &str = "ice 1 exchange\nsettings 50 0 100 1 5 200\ngood 
     bidder f 1 1 1\nnode choose 0 3 3 0 0\nnode sell 0 1 0 0\nnode sell 1 1 0 0\nnode sell 2 1 0 0\n\
     end exchange\n";
 
-/// The same without a branch.
-pub(crate) const PAIRS_UNSEARCHED: &str =
-    "ice 1 exchange\nsettings 50 0 100 1 5 0\ngood A\ngood B\ngood C\n\
-    bidder p 0 0 0\nnode choose 2 2 2 10 10\nnode buy 0 1 0 0\nnode buy 1 1 0 0\n\
-    bidder q 0 0 0\nnode choose 2 2 2 10 10\nnode buy 1 1 0 0\nnode buy 2 1 0 0\n\
-    bidder r 0 0 0\nnode choose 2 2 2 10 10\nnode buy 2 1 0 0\nnode buy 0 1 0 0\n\
-    bidder f 1 1 1\nnode choose 0 3 3 0 0\nnode sell 0 1 0 0\nnode sell 1 1 0 0\nnode sell 2 1 0 0\n\
-    end exchange\n";
-
 /// Twelve buyers of a unit of one good each, which nobody sells.
 pub(crate) const BUYERS: &str = "ice 1 exchange\nsettings 50 0 100 1 5 200\n\
     good G0\ngood G1\ngood G2\ngood G3\ngood G4\ngood G5\ngood G6\ngood G7\ngood G8\ngood G9\ngood G10\ngood G11\n\
@@ -56,29 +47,11 @@ pub(crate) const SHARED_NODE: &str = "ice 1 exchange\nsettings 50 0 100 1 5 200\
     bidder b 0 0\nnode choose 1 1 2 50 90\nnode buy 0 1 0 0\nnode buy 1 1 3 5\n\
     bidder s 1 1\nnode choose 0 2 2 0 0\nnode sell 0 1 -1 -1\nnode sell 1 1 -1 -1\nend exchange\n";
 
-/// A seller of a unit and a buyer of it, who trade at their lower values.
-pub(crate) const SALE: &str = "ice 1 exchange\nsettings 50 0 100 1 0 200\ngood A\n\
-    bidder s 1\nnode sell 0 1 -10 -10\nbidder b 0\nnode buy 0 1 20 30\nend exchange\n";
-
 /// Three bidders with a unit each, any two of which may trade, and none of which is needed.
 pub(crate) const EMPTY_CORE: &str = "ice 1 exchange\nsettings 50 0 100 1 5 200\ngood A\n\
     bidder x 1\nnode choose 1 1 2 0 0\nnode buy 0 1 10 10\nnode sell 0 1 0 0\n\
     bidder y 1\nnode choose 1 1 2 0 0\nnode buy 0 1 10 10\nnode sell 0 1 0 0\n\
     bidder z 1\nnode choose 1 1 2 0 0\nnode buy 0 1 10 10\nnode sell 0 1 0 0\nend exchange\n";
-
-/// A seller and a buyer of a unit, who trade only once the buyer says that it is worth more. Its
-/// weighted values have a weight of 60, and a round has to improve by 2.
-pub(crate) const OPEN_SALE: &str = "ice 1 exchange\nsettings 60 0 100 2 5 200\ngood A\n\
-    bidder s 1\nnode sell 0 1 -15 -15\nbidder b 0\nnode buy 0 1 10 20\nend exchange\n";
-
-/// A seller of 997 units of A and one of 991 units of B, and a buyer of all three goods that no one
-/// can serve: of prices at which no one would rather trade, the greatest one is least at one place
-/// alone, and there the prices have a denominator of 100 * 997 * 991 * 983.
-pub(crate) const THREE_PRIMES: &str =
-    "ice 1 exchange\nsettings 33 0 100 1 5 200\ngood A\ngood B\ngood C\n\
-    bidder s 997 0 0\nnode sell 0 997 -1001 -1000\nbidder t 0 991 0\nnode sell 1 991 -1001 -1000\n\
-    bidder b 0 0 0\nnode choose 3 3 3 5001 5001\nnode buy 0 1 0 0\nnode buy 1 1 0 0\nnode buy 2 983 0 0\n\
-    end exchange\n";
 
 /// The exchange that the lines describe.
 pub(crate) fn exchange(alloc: Global, lines: &str) -> Result<Exchange, Fail> {

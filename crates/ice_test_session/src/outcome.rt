@@ -38,12 +38,11 @@ fn count(log: &Log) -> (u32, u32) {
 
 /// What a search answered, in numbers.
 fn told(answer: Result<Found, SearchEnd>, left: u32) -> Result<Outcome, Fail> {
-    let (value, bound, log) = match answer {
-        Ok(found) => (found.value, None, found.log),
-        Err(SearchEnd::Spent(spent)) => (spent.value, Some(spent.bound), spent.log),
+    let (value, bound, (branch_steps, leaves)) = match answer {
+        Ok(found) => (found.value, None, count(&found.log)),
+        Err(SearchEnd::Spent(spent)) => (spent.value, Some(spent.bound), count(&spent.log)),
         Err(SearchEnd::NoMemory) => return Err("no memory")?,
     };
-    let (branch_steps, leaves) = count(&log);
     Ok(Outcome {
         value,
         bound,

@@ -1,26 +1,13 @@
-//! Worked prices, and certificates that pass or fail the tests.
+//! Certificates of prices that pass or fail the tests.
 
-use crate::markets::{EMPTY_CORE, MAYBE, OPEN_SALE, THREE_PRIMES};
-use crate::taken::{Market, are_satisfied, market_of, with_leaf};
-use ice_price::{LimitKind, PriceEnd, price};
+use crate::markets::EMPTY_CORE;
+use crate::taken::{are_satisfied, market_of, with_leaf};
 use ice_pricing::{Certificate, CertificateRow, Pricing, Scratch, check_pricing, weighted_values};
 use ice_terms::Prices;
 use ice_trade::Exchange;
 use ice_tree::Assignment;
 use std::alloc::Global;
 use std::test::Fail;
-
-/// The prices of an exchange for sets at its opening bounds.
-fn priced(
-    alloc: Global,
-    exchange: &Exchange,
-    sets: &Assignment,
-) -> Result<Result<Pricing, PriceEnd>, Fail> {
-    if !are_satisfied(exchange, sets) {
-        return Err(Fail::from("a set isn't satisfied"));
-    }
-    Ok(price(alloc, exchange, exchange.bounds(), sets))
-}
 
 /// Whether a pricing passes the tests for an exchange and sets at its opening bounds.
 fn passes(
@@ -50,64 +37,6 @@ fn certificate(alloc: Global, den: u64, leaves: &[(u8, u16)]) -> Result<Certific
         })?;
     }
     Ok(Certificate { den, rows })
-}
-
-/// The price of the only good over its denominator, the violation, and whether both certificates
-/// pass.
-#[derive(Clone, Copy, Debug, PartialEq, Eq)]
-struct GoodPrice {
-    num: i64,
-    den: i64,
-    violation: i128,
-    passes: bool,
-}
-
-/// The price of the only good in a pricing whose certificates pass or don't.
-fn good_price(pricing: &Pricing, passes: bool) -> Result<GoodPrice, Fail> {
-    Ok(GoodPrice {
-        num: *pricing.prices.nums().first().ok_or("no good")?,
-        den: pricing.prices.den(),
-        violation: pricing.delta,
-        passes,
-    })
-}
-
-/// The pricing of a market.
-fn pricing_of(alloc: Global, market: &Market) -> Result<Pricing, Fail> {
-    match priced(alloc, &market.exchange, &market.sets)? {
-        Ok(pricing) => Ok(pricing),
-        Err(_) => Err("no prices")?,
-    }
-}
-
-/// The price of the only good of an exchange where some bidders take leaves.
-fn price_of_good(alloc: Global, lines: &str, taken: &[(u8, u16)]) -> Result<GoodPrice, Fail> {
-    let market = market_of(alloc, lines, taken)?;
-    let pricing = pricing_of(alloc, &market)?;
-    let passes = passes(alloc, &market.exchange, &market.sets, &pricing)?;
-    good_price(&pricing, passes)
-}
-
-/// Exchanges with leaves that bidders take, the price of the good, and the violation.
-const PRICES: [(&str, &[(u8, u16)], i64, i128); 3] = [
-    (MAYBE, &[], 11, 0),
-    (OPEN_SALE, &[], 14, 0),
-    (EMPTY_CORE, &[(0, 1), (1, 2)], 5, 500),
-];
-
-#[test]
-fn prices_are_reckoned(rt: HostRuntime) -> Result<(), Fail> {
-    let alloc = rt.alloc();
-    for (lines, taken, num, violation) in PRICES {
-        let wanted = GoodPrice {
-            num,
-            den: 1,
-            violation,
-            passes: true,
-        };
-        assert_eq!(rt; price_of_good(alloc, lines, taken)?, wanted, "{lines}");
-    }
-    Ok(())
 }
 
 /// A price of the only good with a violation, a certificate of its accuracy over a denominator that
@@ -149,20 +78,5 @@ fn certificates_of_prices(rt: HostRuntime) -> Result<(), Fail> {
         let passes = certificate_passes(alloc, num, violation, den)?;
         assert_eq!(rt; passes, wanted, "at {num} {violation} {den}");
     }
-    Ok(())
-}
-
-/// Why a market has no prices.
-fn limit(alloc: Global, market: &Market) -> Result<Option<LimitKind>, Fail> {
-    match priced(alloc, &market.exchange, &market.sets)? {
-        Err(PriceEnd::Limit(limit)) => Ok(Some(limit.kind)),
-        Err(PriceEnd::NoMemory) | Ok(_) => Ok(None),
-    }
-}
-
-#[test]
-fn prices_over_a_long_denominator(rt: HostRuntime) -> Result<(), Fail> {
-    let market = market_of(rt.alloc(), THREE_PRIMES, &[])?;
-    assert_eq!(rt; limit(rt.alloc(), &market)?, Some(LimitKind::Den));
     Ok(())
 }
