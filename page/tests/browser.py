@@ -7,8 +7,10 @@ from __future__ import annotations
 
 import html
 import json
+import os
 import re
 import shutil
+import signal
 import subprocess
 import tempfile
 import unittest
@@ -18,8 +20,19 @@ from typing import Any
 NAMES = ("chromium", "chromium-browser", "google-chrome", "chrome")
 CHROMIUM = next(filter(None, map(shutil.which, NAMES)), None)
 NEEDS = unittest.skipUnless(CHROMIUM, "no Chromium is installed: apt-get install chromium")
-FLAGS = ["--headless", "--no-sandbox", "--disable-gpu", "--hide-scrollbars", "--no-first-run"]
+FLAGS = [
+    "--headless",
+    "--no-sandbox",
+    "--disable-gpu",
+    "--disable-dev-shm-usage",
+    "--disable-background-networking",
+    "--disable-extensions",
+    "--hide-scrollbars",
+    "--no-first-run",
+]
+TRIES, PATIENCE = 2, 20
 DARK = ["--blink-settings=preferredColorScheme=0"]
+HUNG: list[str] = []
 SCRIPT = """
 const visible = part => {
   const box = part.getBoundingClientRect();
@@ -59,16 +72,33 @@ window.onload = () => {
 
 
 def run(*words: str) -> str:
-    """Runs Chromium, in a folder of its own; what it prints."""
-    with tempfile.TemporaryDirectory() as room:
-        ran = subprocess.run(
-            [str(CHROMIUM), *FLAGS, f"--user-data-dir={room}", *words],
-            capture_output=True,
-            text=True,
-            timeout=60,
-            check=True,
-        )
-        return ran.stdout
+    """Runs Chromium, in a folder of its own; what it prints.
+
+    On a machine with too much to do it may hang as it starts: then it is tried once more, and the
+    tests that want it are skipped. Its output goes to a file, since a pipe stays open until the
+    last of its processes has gone.
+    """
+    why = f"{CHROMIUM} didn't answer in {PATIENCE} seconds, {TRIES} times"
+    for _ in range(0 if HUNG else TRIES):
+        with tempfile.TemporaryDirectory(ignore_cleanup_errors=True) as room:
+            with open(Path(room, "printed"), "w+", encoding="utf-8") as printed:
+                process = subprocess.Popen(
+                    [str(CHROMIUM), *FLAGS, f"--user-data-dir={room}/profile", *words],
+                    stdout=printed,
+                    stderr=subprocess.DEVNULL,
+                    start_new_session=True,
+                )
+                try:
+                    status = process.wait(PATIENCE)
+                except subprocess.TimeoutExpired:
+                    os.killpg(process.pid, signal.SIGKILL)
+                    process.wait()
+                    continue
+                assert status == 0, f"Chromium ended with status {status}"
+                printed.seek(0)
+                return printed.read()
+    HUNG.append(why)
+    raise unittest.SkipTest(why)
 
 
 def measured(pages: list[str], width: int, dark: bool = False) -> list[dict[str, Any]]:

@@ -24,6 +24,12 @@ def sample(name: str) -> str:
     return (HERE / "samples" / name).read_text()
 
 
+def opened(journal: str, settlement: int) -> str:
+    """The journal of a session as it stood before the bids that follow a settlement."""
+    place = journal.index("submit ", journal.index(f"settle {settlement}\n"))
+    return journal[:place] + "end open\n"
+
+
 class Element:
     """An element of a page."""
 

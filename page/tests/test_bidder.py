@@ -2,7 +2,7 @@
 import re
 import unittest
 
-from support import SAMPLES, call, page_of, run, sample
+from support import SAMPLES, call, opened, page_of, run, sample
 
 AIRPORT = sample("airport-slots.session")
 NAMES = re.findall("^bidder ([^ ]+)", AIRPORT, re.M)
@@ -94,9 +94,7 @@ class OneBidder(unittest.TestCase):
         self.assertIn("You add nothing to the total, so you keep nothing.", words)
 
     def test_its_provisional_set(self):
-        lines = AIRPORT.splitlines()
-        begun = next(number for number, line in enumerate(lines) if line.startswith("submit "))
-        journal = "".join(f"{line}\n" for line in lines[:begun] + ["end open"])
+        journal = opened(AIRPORT, 0)
         for name, set_, now in (
             ("Meridian", "“buy dep-0630 + dep-0700 + arr-2215” (nodes 0–2, 4)", "buy dep-0630"),
             ("Polar-Cargo", "“no trade” (no nodes)", "no trade"),
@@ -168,6 +166,16 @@ class OneBidder(unittest.TestCase):
             self.assertGreater(sum(a != b for a, b in zip(AIRPORT.split(), changed.split())), 150)
             options = ("--bidder", name, "--checked", "yes 32 0/1", "--title", "Slots")
             self.assertEqual(run(AIRPORT, *options), run(changed, *options), name)
+
+    def test_same_page_while_bids_are_awaited(self):
+        for settlement in (0, 2):
+            journal = opened(AIRPORT, settlement)
+            for name in NAMES:
+                changed = with_other_bids(journal, name)
+                self.assertNotEqual(journal, changed)
+                pages = [run(text, "--bidder", name) for text in (journal, changed)]
+                self.assertIn("your sets at the prices", pages[0][1])
+                self.assertEqual(pages[0], pages[1], name)
 
     def test_stops_tell_nothing(self):
         for name, state in (

@@ -3,17 +3,11 @@ import unittest
 from concurrent.futures import ThreadPoolExecutor
 
 import browser
-from support import SAMPLES, run, sample
+from support import SAMPLES, opened, run, sample
 from test_access import LEAST_CONTRAST, contrast, luminance
 
 AIRPORT = sample("airport-slots.session")
 PHONE, SCREEN = 390, 1160
-
-
-def opened(journal: str, settlement: int) -> str:
-    """The journal as it stood before the bids that follow a settlement."""
-    place = journal.index("submit ", journal.index(f"settle {settlement}\n"))
-    return journal[:place] + "end open\n"
 
 
 def pages() -> dict[str, str]:
@@ -34,11 +28,16 @@ class OnScreens(unittest.TestCase):
     @classmethod
     def setUpClass(cls):
         cls.pages = pages()
-        ways = ((PHONE, False), (SCREEN, False), (SCREEN, True))
+        few = ("airport-slots.session", "Meridian, open", "hall.journal", "ring.spent.session")
+        dark = {name: cls.pages[name] for name in few}
+        ways = {(PHONE, False): cls.pages, (SCREEN, False): cls.pages, (SCREEN, True): dark}
+
+        def measured(way: tuple[int, bool]) -> dict[str, dict]:
+            shown = ways[way]
+            return dict(zip(shown, browser.measured(list(shown.values()), *way)))
+
         with ThreadPoolExecutor(3) as pool:
-            every = list(cls.pages.values())
-            found = list(pool.map(lambda way: browser.measured(every, *way), ways))
-        cls.found = dict(zip(ways, (dict(zip(cls.pages, each)) for each in found)))
+            cls.found = dict(zip(ways, pool.map(measured, ways)))
 
     def test_what_is_outside_is_found(self):
         # A page that is too wide in two ways, so that the tests below can fail.
@@ -97,7 +96,7 @@ class OnPaper(unittest.TestCase):
 
     def test_two_sheets_for_a_bidder(self):
         journals = (AIRPORT, opened(AIRPORT, 2))
-        names = ("Meridian", "Northern-Airways", "Airport-Coordination")
+        names = ("Northern-Airways", "Airport-Coordination")
         made = [run(journal, "--bidder", name)[1] for journal in journals for name in names]
         with ThreadPoolExecutor(3) as pool:
             self.assertEqual(list(pool.map(browser.sheets, made)), [2] * len(made))

@@ -145,6 +145,14 @@ class Asked(unittest.TestCase):
         self.assertGreater(len(journal), 500000)
         self.assertEqual(self.answer('echo "no 9 count"; exit 3', journal)[0], "no")
 
+    def test_a_warning_where_somebody_asked_in_vain(self):
+        def warns(*options: str) -> list[str]:
+            return [part.text for part in page_of(sample(SESSION), *options).root.all("dd", "warn")]
+
+        self.assertEqual(warns(), [])
+        self.assertEqual(warns("--bidder", "b"), [])
+        self.assertEqual(warns("--check", "--program", self.program("exit 70")), ["no verdict"])
+
     def test_bad_journal_ends_the_program(self):
         status, _, errors = run(
             "ice 1 assign\n", "--check", "--program", self.program('cat >/dev/null; echo "yes 0"')

@@ -1,8 +1,10 @@
 """Damaged journals: status 2, a message that names a line, and never a crash."""
 import random
+import re
 import unittest
+from collections import Counter
 
-from support import SAMPLES, run, sample
+from support import SAMPLES, opened, run, sample
 
 LINE = r"some\.journal: line [0-9]+: ."
 
@@ -90,6 +92,28 @@ class Damage(unittest.TestCase):
         self.refused(text.replace("\n", "\n\n", 1), 2)
         self.refused(b"", 1)
         self.refused(b"\0" * 20000, 1)
+
+    def test_one_number_changed_for_a_bidder(self):
+        # What no session would say has a page all the same, or the line is named.
+        draw = random.Random(5)
+        journal = opened(sample("airport-slots.session"), 1)
+        names = re.findall("^bidder ([^ ]+)", journal, re.M)
+        statuses = Counter()
+        for _ in range(120):
+            lines = [line.split(" ") for line in journal.splitlines()]
+            words = draw.choice([words for words in lines if len(words) > 1 and words[0] != "near"])
+            place = draw.randrange(1, len(words))
+            if words[0] == "set":
+                words[1] = "".join(draw.choice("01") for _ in words[1])
+            elif words[place].lstrip("-").isdigit():
+                words[place] = str(draw.choice([0, 1, 2, -7, 200, 10**9]))
+            changed = "".join(" ".join(words) + "\n" for words in lines)
+            status, page, errors = run(changed, "--bidder", draw.choice(names))
+            self.assertEqual(bool(page), status == 0)
+            self.assertTrue(page or re.search(LINE, errors), errors)
+            statuses[status] += 1
+        self.assertEqual(set(statuses), {0, 2})
+        self.assertGreater(statuses[0], 30)
 
     def test_random_edits(self):
         draw = random.Random(12)

@@ -6,7 +6,7 @@ import time
 import unittest
 
 from largest import BIDDERS, GOODS, NODES, ROUNDS, largest_session, name
-from support import HERE, page_of, run, sample
+from support import HERE, opened, page_of, run, sample
 
 TREE = "bidder {} 0\nnode choose 0 1 1 0 0\nnode buy 0 1 0 0\n"
 MEASURED = """
@@ -69,6 +69,17 @@ class Limits(unittest.TestCase):
         self.assertGreater(len(slices), 3)
         self.assertTrue(all(part.all("path", "link") for part in slices))
         self.assertEqual(drawn, NODES - 3 * bundles)
+
+    def test_a_bidder_of_the_largest_session(self):
+        journal = opened(largest_session(), ROUNDS - 1)
+        for number in (0, 1):
+            start, bidder = time.process_time(), name("bidder", number)
+            page = page_of(journal, "--bidder", bidder)
+            self.assertLess(time.process_time() - start, 10)
+            self.assertIn(f"Round {ROUNDS}: your sets at the prices", page.root.seen())
+            bids = journal.count(f"submit {bidder} ")
+            self.assertEqual(len(page.table("Your bids")), bids + 1)
+            self.assertEqual(bids, 10 * (ROUNDS - 1))
 
     def test_each_limit(self):
         lawful = [

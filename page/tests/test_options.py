@@ -1,4 +1,5 @@
 """The words of the command, its statuses, and words that look like markup."""
+import hashlib
 import os
 import re
 import subprocess
@@ -99,6 +100,21 @@ class Words(unittest.TestCase):
         self.assertEqual(page.facts()["total value, at least"][0], f"1 {ODD}")
         self.assertIn(f"“{ODD}”", page.facts()["checker’s answer"][1])
         self.assertEqual(page.root.all("script"), [])
+
+    def test_date_and_program(self):
+        options = ("--date", "29 November", "--made-by", ODD)
+        for more in ((), ("--bidder", "b")):
+            page = page_of(sample(SESSION), *options, *more)
+            self.assertEqual(page.root.all("p", "soft")[0].text, f"29 November · {ODD}")
+            self.assertEqual(page.root.all("script"), [])
+            self.assertEqual(run(sample(SESSION), *more), run(sample(SESSION), *more))
+            self.assertNotIn("·", page_of(sample(SESSION)).root.all("section")[0].all("p")[0].text)
+
+    def test_digest(self):
+        digest = hashlib.sha256(sample(SESSION).encode()).hexdigest()
+        self.assertIn(digest, run(sample(SESSION), "--bidder", "b", "--digest")[1])
+        self.assertNotIn(digest, run(sample(SESSION), "--bidder", "b")[1])
+        self.assertEqual(run(sample(SESSION), "--digest")[0], 1)
 
     def test_file_name(self):
         with tempfile.TemporaryDirectory() as folder:
