@@ -169,7 +169,7 @@ class Advice:
 
 
 def values(bid: Bid, before: tuple[list[int], list[int]]) -> list[tuple[str, bool]]:
-    """The intervals of a bid by node, and whether each is new; nodes worth 0 throughout are left out.
+    """The intervals of a bid by node, and whether each is new; what is 0 throughout is left out.
 
     The lists of a bid that doesn't count the nodes are given as they are.
     """

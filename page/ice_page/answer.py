@@ -66,7 +66,7 @@ def limit_words(view: View) -> str:
 
 
 def fault_words(view: View) -> str:
-    """What is wrong with the file of the round that is awaited; a bidder isn't told whose bid it is."""
+    """What is wrong with the file of the awaited round; a bidder isn't told whose bid that is."""
     stop = view.journal.end
     if view.alone or stop.word == "open":
         return ""

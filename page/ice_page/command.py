@@ -91,7 +91,8 @@ def read(options: argparse.Namespace) -> tuple[Journal, Answer]:
     """The journal, and what the checker says of the same bytes where it is asked."""
     with open(0 if options.journal == "-" else options.journal, "rb", buffering=0) as stream:
         if not options.check:
-            return read_journal(Lines(stream), options.bidder), Answer((options.checked or "").strip())
+            answer = Answer((options.checked or "").strip())
+            return read_journal(Lines(stream), options.bidder), answer
         checker = Checker(options.program or PROGRAM)
         try:
             journal = read_journal(Lines(stream, checker.feed), options.bidder)

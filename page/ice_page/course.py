@@ -143,10 +143,10 @@ def price_tables(view: View) -> str:
         + key(
             "the prices with which a round begins",
             "▲ ▼ other than in the round before" if count > 1 else "",
+            unit,
             tag("span", "earlier prices stand on a wider screen", class_="narrow")
             if count > SHOWN_NARROW
             else "",
-            unit,
         )
     )
 

@@ -19,7 +19,7 @@ def words() -> Words:
         prog="ice-nets",
         epilog=STATUSES,
         allow_abbrev=False,
-        description="Tells a bidder its sets at the prices, when its next bid counts, and its bids.",
+        description="Tells a bidder its sets at the prices, when its next bid counts, its bids.",
     )
     parser.add_argument("journal", metavar="JOURNAL", help="a session; - is standard input")
     parser.add_argument("bidder", metavar="NAME", help="the bidder")

@@ -1,7 +1,6 @@
 """What one bidder needs to bid: its sets at the prices, when its next bid counts, and its bids."""
 from __future__ import annotations
 
-from typing import Optional
 
 from . import words
 from .advice import Advice, values
@@ -25,14 +24,14 @@ class Round:
         return table_of(self.offer, len(self.goods))
 
 
-def round_of(journal: Journal, settlement: Settlement, bidder: int) -> Optional[Round]:
+def round_of(journal: Journal, settlement: Settlement, bidder: int) -> Round | None:
     """The round that follows a settlement; None where none does."""
     found = offer(journal, settlement, bidder)
     return Round(journal, settlement, found) if found else None
 
 
-def round_shown(journal: Journal, bidder: int, number: Optional[int]) -> Optional[Round]:
-    """The round of this number, or else the one that is awaited; BadJournal where it isn't there."""
+def round_shown(journal: Journal, bidder: int, number: int | None) -> Round | None:
+    """The round of this number, or else the awaited one; BadJournal where it isn't there."""
     if number is None:
         return round_of(journal, journal.last, bidder) if words.awaited(journal) else None
     held = journal.settlements[number - 1 : number] if number > 0 else []

@@ -9,7 +9,7 @@ from dataclasses import dataclass
 from fractions import Fraction
 from functools import cached_property
 from math import lcm
-from typing import NamedTuple, Optional, Sequence
+from typing import NamedTuple, Sequence
 
 from . import sets
 from .journal import Bidder, Bounds, Journal, Settlement
@@ -19,12 +19,13 @@ class FirstRule(NamedTuple):
     """Whether bounds tell which set a bidder wants.
 
     `wanted` is a best set by the middles of the intervals, and the provisional one where that is
-    one of several: where the rule holds it is best whatever the values are. Else `other` could leave more by `gap`; or it is the provisional set,
-    `gap` may be 0, and it is neither best too nor behind `wanted` whatever the values are.
+    one of several: where the rule holds it is best whatever the values are. Else `other` could
+    leave more by `gap`; or it is the provisional set, `gap` may be 0, and it is neither best too
+    nor behind `wanted` whatever the values are.
     """
 
     wanted: str
-    other: Optional[str] = None
+    other: str | None = None
     gap: Fraction = Fraction(0)
 
     @property
@@ -89,12 +90,12 @@ class Offer:
         return [self.scale * value - cost for value, cost in zip(values, self.costs)]
 
     def against(self, bits: str, bounds: Bounds) -> list[int]:
-        """The nets at the values that are worst for a set: lower ones on it, upper ones elsewhere."""
+        """The nets at the values worst for a set: lower ones on it, upper ones elsewhere."""
         low, high = bounds
         return self.nets([a if bit == "1" else b for bit, a, b in zip(bits, low, high)])
 
     def in_favour(self, bits: str, bounds: Bounds) -> list[int]:
-        """The nets at the values that are best for a set: upper ones on it, lower ones elsewhere."""
+        """The nets at the values best for a set: upper ones on it, lower ones elsewhere."""
         low, high = bounds
         return self.nets([b if bit == "1" else a for bit, a, b in zip(bits, low, high)])
 
@@ -138,7 +139,7 @@ class Offer:
         _, gain = self.lead(self.provisional, self.in_favour(self.provisional, bounds))
         return SecondRule(before, now, before - self.improve, self.amount(gain))
 
-    def judge(self, low: list[int], high: list[int]) -> tuple[str, Optional[int]]:
+    def judge(self, low: list[int], high: list[int]) -> tuple[str, int | None]:
         """The verdict on a first bid of the round, with the node at fault where it names one."""
         nodes = len(self.bidder.nodes)
         if (len(low), len(high)) != (nodes, nodes):
@@ -154,7 +155,7 @@ class Offer:
         return ("accepted" if self.second_rule((low, high)).holds else "43"), None
 
 
-def offer(journal: Journal, settlement: Settlement, number: int) -> Optional[Offer]:
+def offer(journal: Journal, settlement: Settlement, number: int) -> Offer | None:
     """What a settlement offers a bidder; None where no round follows it."""
     group = settlement.group("provisional")
     if settlement.prices is None or group is None:

@@ -6,7 +6,7 @@ from __future__ import annotations
 
 import heapq
 from itertools import count
-from typing import Iterator, NamedTuple, Optional, Sequence
+from typing import Iterator, NamedTuple, Sequence
 
 from .journal import Node
 
@@ -72,15 +72,15 @@ def how_many(nodes: Sequence[Node]) -> int:
 # passed, from the left to the right. What is still possible behind a decision is known exactly, so
 # the greatest possible weight leads from each set to the next in at most one decision a node.
 
-Rest = list[list[Optional[int]]]
+Rest = list[list[int | None]]
 
 
 class Choices:
-    """What the children of a choose node can still add, by the next child and how many are taken."""
+    """What the children of a choose node can still add, by the next one and how many are taken."""
 
-    def __init__(self, node: Node, inside: Sequence[Optional[int]]) -> None:
+    def __init__(self, node: Node, inside: Sequence[int | None]) -> None:
         self.node, least, most = node, node.first, node.second
-        row: list[Optional[int]] = [0 if taken >= least else None for taken in range(most + 1)]
+        row: list[int | None] = [0 if taken >= least else None for taken in range(most + 1)]
         self.rest: Rest = [row]
         for child in reversed(node.children):
             gain, after = inside[child], self.rest[-1]
@@ -94,7 +94,7 @@ class Choices:
             )
         self.rest.reverse()
 
-    def left(self, place: int, taken: int) -> Optional[int]:
+    def left(self, place: int, taken: int) -> int | None:
         """The most that children from this place on add where so many are taken; None: no way."""
         return self.rest[place][taken] if taken <= self.node.second else None
 
@@ -105,14 +105,14 @@ class Open(NamedTuple):
     node: int
     place: int
     taken: int
-    below: Optional["Open"]
+    below: Open | None
 
 
 class Taken(NamedTuple):
     """The nodes that are taken so far, the last one first."""
 
     node: int
-    before: Optional["Taken"]
+    before: Taken | None
 
 
 class Search:
@@ -120,7 +120,7 @@ class Search:
 
     def __init__(self, nodes: Sequence[Node], weights: Weights) -> None:
         self.nodes = nodes
-        self.inside: list[Optional[int]] = list(weights)
+        self.inside: list[int | None] = list(weights)
         self.choices: dict[int, Choices] = {}
         for node in reversed(nodes):
             if node.kind == "choose":
@@ -128,14 +128,14 @@ class Search:
                 rest = choices.left(0, 0)
                 own = weights[node.number]
                 self.inside[node.number] = None if rest is None else own + rest
-        self.heap: list[tuple[int, int, int, Optional[Open], Optional[Taken]]] = []
+        self.heap: list[tuple[int, int, int, Open | None, Taken | None]] = []
         self.serial = count()
 
-    def push(self, weight: int, depth: int, undecided: Optional[Open], taken: Taken | None) -> None:
-        """Keeps what is decided so far, with the most that it can weigh; the deepest comes first."""
+    def push(self, weight: int, depth: int, undecided: Open | None, taken: Taken | None) -> None:
+        """Keeps what is decided, with the most that it can weigh; the deepest comes first."""
         heapq.heappush(self.heap, (-weight, -depth, next(self.serial), undecided, taken))
 
-    def enter(self, node: int, below: Optional[Open]) -> Optional[Open]:
+    def enter(self, node: int, below: Open | None) -> Open | None:
         """What is undecided where a node is taken."""
         return Open(node, 0, 0, below) if node in self.choices else below
 
@@ -153,7 +153,7 @@ class Search:
             else:
                 self.decide(-minus, 1 - depth, undecided, taken)
 
-    def decide(self, weight: int, depth: int, at: Open, taken: Optional[Taken]) -> None:
+    def decide(self, weight: int, depth: int, at: Open, taken: Taken | None) -> None:
         """Takes the next child, and passes it."""
         choices, child = self.choices[at.node], self.nodes[at.node].children[at.place]
         here = choices.left(at.place, at.taken)
@@ -168,7 +168,7 @@ class Search:
             after = Open(at.node, at.place + 1, at.taken, at.below)
             self.push(weight - here + passed, depth, after, taken)
 
-    def bits(self, taken: Optional[Taken]) -> str:
+    def bits(self, taken: Taken | None) -> str:
         """The set of the nodes that are taken."""
         found = set()
         while taken:

@@ -2,7 +2,6 @@
 from __future__ import annotations
 
 import textwrap
-from typing import Optional
 
 from . import words
 from .advice import values
@@ -42,7 +41,7 @@ def table_lines(shown: Round, nets: Table) -> list[str]:
     return lines
 
 
-def nets_lines(journal: Journal, shown: Optional[Round]) -> list[str]:
+def nets_lines(journal: Journal, shown: Round | None) -> list[str]:
     """The sets at the prices of a round, and when the next bid counts."""
     if shown is None:
         kind = "The session has closed" if journal.end.word == "closed" else "The journal ends"
@@ -67,7 +66,7 @@ def bids_lines(journal: Journal, bidder: int) -> list[str]:
     return ["", "Your bids, by node", *lines] if lines else []
 
 
-def told(journal: Journal, bidder: int, number: Optional[int]) -> str:
+def told(journal: Journal, bidder: int, number: int | None) -> str:
     """All of it."""
     shown = round_shown(journal, bidder, number)
     title = [f"For {journal.bidders[bidder].name}", ""]

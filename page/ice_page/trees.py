@@ -227,7 +227,7 @@ def provisional(view: View, number: int) -> str:
     return tag("p", says, class_="soft")
 
 
-def says(view: View, number: int) -> str:
+def gets(view: View, number: int) -> str:
     """What a bidder gets and pays, in a line."""
     trade = text(words.trade(view.units[number], view.journal.goods))
     if not view.journal.payments:
@@ -263,7 +263,7 @@ def card(view: View, number: int) -> str:
     drawing = TreeDrawing(view, number)
     parts = [
         tag("h3", text(bidder.name)),
-        tag("div", says(view, number)),
+        tag("div", gets(view, number)),
         why,
         tag("div", drawing.whole(), class_="wider"),
         outline(drawing),

@@ -1,4 +1,4 @@
-"""A real Chromium, where one is installed: what it shows outside the screen, and on how many sheets.
+"""A real Chromium, where one is installed: what it shows, and on how many sheets it prints.
 
 Pages have no script. They are put into frames of a page that has one, and that measures them; what
 it found comes back as the text of that page.
@@ -34,35 +34,39 @@ TRIES, PATIENCE = 2, 20
 DARK = ["--blink-settings=preferredColorScheme=0"]
 HUNG: list[str] = []
 SCRIPT = """
+const style = part => part.ownerDocument.defaultView.getComputedStyle(part);
 const visible = part => {
   const box = part.getBoundingClientRect();
-  return box.width > 0 && box.height > 0 && part.ownerDocument.defaultView.getComputedStyle(part).clipPath === 'none';
+  return box.width > 0 && box.height > 0 && style(part).clipPath === 'none';
 };
-const name = part => part.tagName + '.' + (part.getAttribute('class') || '') + ': ' + part.textContent.slice(0, 40);
+const name = part =>
+  part.tagName + '.' + (part.getAttribute('class') || '') + ': ' + part.textContent.slice(0, 40);
 const colour = words => {
   const found = words.match(/[0-9.]+/g).map(Number);
   return words.startsWith('color(') ? found.map((one, at) => at < 3 ? 255 * one : one) : found;
 };
 const behind = part => {
   for (let at = part; at; at = at.parentElement) {
-    const found = colour(at.ownerDocument.defaultView.getComputedStyle(at).backgroundColor);
+    const found = colour(style(at).backgroundColor);
     if (found.length < 4 || found[3] > 0) return found;
   }
   return null;
 };
+const hasWords = part =>
+  !part.closest('svg') && [...part.childNodes].some(one => one.nodeType === 3 && one.data.trim());
+const colours = part => JSON.stringify([colour(style(part).color), behind(part)]);
 const measure = frame => {
-  const page = frame.contentDocument, view = frame.contentWindow, width = page.documentElement.clientWidth;
+  const page = frame.contentDocument, width = page.documentElement.clientWidth;
   const parts = [...page.body.querySelectorAll('*')].filter(visible);
-  const words = parts.filter(part => [...part.childNodes].some(one => one.nodeType === 3 && one.data.trim()));
+  const scrolls = part =>
+    part.scrollWidth > part.clientWidth + 1 && style(part).overflowX === 'auto';
+  const words = parts.filter(hasWords);
   return {
     width,
     outside: parts.filter(part => part.getBoundingClientRect().right > width + 0.5).map(name),
-    scrolls: parts.filter(part => part.scrollWidth > part.clientWidth + 1 && view.getComputedStyle(part).overflowX === 'auto').map(name),
-    words: words.filter(part => !part.closest('svg')).map(part => part.textContent),
-    colours: [...new Set(words.filter(part => !part.closest('svg')).map(part =>
-      JSON.stringify([colour(view.getComputedStyle(part).color), behind(part)])))].map(JSON.parse),
-    drawings: parts.filter(part => part.tagName === 'svg').length,
-    height: page.documentElement.scrollHeight,
+    scrolls: parts.filter(scrolls).map(name),
+    words: words.map(part => part.textContent),
+    colours: [...new Set(words.map(colours))].map(JSON.parse),
   };
 };
 window.onload = () => {

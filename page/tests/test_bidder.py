@@ -88,8 +88,9 @@ class OneBidder(unittest.TestCase):
         words = page_of(AIRPORT, "--bidder", "Charter-Sud").root.seen()
         self.assertIn("You add 3 to the total; the cut is 194.75 (779/4), so you keep 0.", words)
         self.assertIn("You get: no trade.", page_of(AIRPORT, "--bidder", "Polar-Cargo").root.seen())
-        # Without the incumbent the same total is reached.
-        journal = sample("two-settlements.session").replace("payment b 1 1/2 31/2", "payment b 0 0/1 16/1")
+        # As where the same total is reached without it.
+        paid = ("payment b 1 1/2 31/2", "payment b 0 0/1 16/1")
+        journal = sample("two-settlements.session").replace(*paid)
         words = page_of(journal, "--bidder", "b").root.seen()
         self.assertIn("You add nothing to the total, so you keep nothing.", words)
 
@@ -197,8 +198,8 @@ class OneBidder(unittest.TestCase):
             self.assertEqual(page.facts()["checker’s answer"][0], "right so far")
             lead = page.root.all("p", "lead")[0].text
             self.assertNotRegex(lead, "it found|possible|bids[.]|file")
-            awaited = state == "Open"
-            self.assertEqual("Open: round 1: bids are awaited. Nothing is settled." == lead, awaited)
+            says = "Open: round 1: bids are awaited. Nothing is settled."
+            self.assertEqual(says == lead, state == "Open")
             self.assertNotIn(f"{line} closed", page.root.text)
 
     def test_a_no_is_shown_without_its_line(self):

@@ -99,7 +99,7 @@ class Damage(unittest.TestCase):
         journal = opened(sample("airport-slots.session"), 1)
         names = re.findall("^bidder ([^ ]+)", journal, re.M)
         statuses = Counter()
-        for _ in range(120):
+        for _ in range(60):
             lines = [line.split(" ") for line in journal.splitlines()]
             words = draw.choice([words for words in lines if len(words) > 1 and words[0] != "near"])
             place = draw.randrange(1, len(words))
@@ -113,7 +113,7 @@ class Damage(unittest.TestCase):
             self.assertTrue(page or re.search(LINE, errors), errors)
             statuses[status] += 1
         self.assertEqual(set(statuses), {0, 2})
-        self.assertGreater(statuses[0], 30)
+        self.assertGreater(statuses[0], 15)
 
     def test_random_edits(self):
         draw = random.Random(12)

@@ -108,7 +108,8 @@ class Limits(unittest.TestCase):
             self.assertRegex(errors, "line [0-9]+: ")
 
     def test_idle_bidders(self):
-        # Of many bidders that own and trade nothing the tables have no rows, and one line has all names.
+        # Of many bidders that own and trade nothing the tables have no rows, and a line has all
+        # names.
         for count in (6, 7):
             trees = ["node sell 0 1 -2 -1\n"] + [wide(2)] * count
             journal = assignment(1, trees).replace("bidder b0 0", "bidder b0 1")

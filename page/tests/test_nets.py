@@ -193,7 +193,7 @@ class ByHand(unittest.TestCase):
             ],
         )
         self.assertEqual((table.all_sets, table.extent, table.shares), (3, nets.ALL, False))
-        # By the middles Wednesday leaves 55/6 and the two days 50/6; at 80 and 20 the two days lead by 85/6.
+        # By the middles Wednesday leaves 55/6 and the days 50/6; at 80 and 20 these lead by 85/6.
         rule = offer.first_rule(offer.bounds)
         self.assertEqual(rule, ("10001", "11110", Fraction(85, 6)))
         self.assertEqual(offer.judge([0, 62, 0, 0, 20], [0, 80, 0, 0, 30])[0], "42")
@@ -213,7 +213,8 @@ class ByHand(unittest.TestCase):
         self.assertEqual(offer.judge([66, 0, 0], [70, 0, 0])[0], "accepted")
 
     def test_a_value_that_sets_share(self):
-        # Worth 0..9 at the root, whichever leaf is taken: they leave -1..8 and -3..6, and yet the first leads.
+        # Worth 0..9 at the root, whichever leaf is taken: they leave -1..8 and -3..6, and yet
+        # the first leads.
         root = Node(0, "choose", 1, 1, None, 1, [1, 2])
         leaves = [Node(1, "buy", 0, 1, 0, 2), Node(2, "buy", 1, 1, 0, 2)]
         bidder = Bidder("b", [0, 0], [root, *leaves])
@@ -249,7 +250,7 @@ class Many(unittest.TestCase):
     """More sets than can be shown."""
 
     def offer(self, leaves: int) -> Offer:
-        """Leaves of prices 1, 2, 3 .., each worth from 0 to 10 more than its price, or 0 to 10 less."""
+        """Leaves of prices 1, 2, 3 .., each worth its price, or up to 10 more or less."""
         root = Node(0, "choose", 0, leaves, None, 1, list(range(1, leaves + 1)))
         nodes = [root, *(Node(child, "buy", child - 1, 1, 0, 2) for child in root.children)]
         prices = [Fraction(child) for child in root.children]

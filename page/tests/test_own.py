@@ -159,7 +159,7 @@ class OnItsPage(unittest.TestCase):
                 "1: 76..80 4: 20..25",
             ],
         )
-        # At 62 and 20 two days leave 1/3 to 55/3, and by the middles 28/3, more than Wednesday's 55/6.
+        # At 62 two days leave 1/3 to 55/3, and by the middles 28/3, more than Wednesday's 55/6.
         self.assertEqual(
             [row[2] for row in rows[1:]],
             [
@@ -178,7 +178,7 @@ class OnItsPage(unittest.TestCase):
         )
         bold = page_of(journal, "--bidder", "choir").root.all("span", "value")
         self.assertEqual([part.text for part in bold if part.all("b")][:1], ["1: 62..80"])
-        # The opera's two days cost 295/6: at 68 it may lack 113/6, and 65 less their cost are asked.
+        # The opera's days cost 295/6: at 68 it may lack 113/6, and 65 less their cost is asked.
         self.assertIn(
             "refused (43): it says too little that is new (second rule): by your provisional set, "
             "“no trade” (no nodes), you may lack up to ≈18.833 (113/6), against “buy tuesday + "

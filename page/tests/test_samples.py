@@ -126,7 +126,8 @@ class Samples(unittest.TestCase):
                 for who, worth, adds, keeps, pays, bar in listed:
                     vickrey, discount, payment = payments[who]
                     self.assertEqual(worth, minus(told.worth(who)))
-                    self.assertEqual([adds, bar], [minus(int(vickrey)) if vickrey != "0" else ""] * 2)
+                    self.assertEqual(adds, minus(int(vickrey)) if vickrey != "0" else "")
+                    self.assertEqual(bar, adds)
                     self.amount(keeps or "0", Fraction(discount))
                     self.amount(pays, Fraction(payment))
                 cut, surplus = map(Fraction, told.rest("threshold")[0])
