@@ -65,8 +65,9 @@ def words() -> Words:
     )
     parser.add_argument(
         "--digest",
-        action="store_true",
-        help="with --bidder: show the SHA-256 of the journal, where it is published",
+        metavar="D",
+        default="",
+        help='the digest that is published, such as "$(page/ice-digest JOURNAL)"',
     )
     parser.add_argument(
         "--round",
@@ -135,8 +136,8 @@ def main(arguments: list[str] | None = None) -> int:
         parser.error("--check asks the checker, and --checked tells its answer: give one of them")
     if options.program and not options.check:
         parser.error("--program goes with --check")
-    if options.bidder is None and (options.round is not None or options.digest):
-        parser.error("--round and --digest go with --bidder")
+    if options.round is not None and options.bidder is None:
+        parser.error("--round goes with --bidder")
     if options.page and is_same(options.journal, options.page):
         parser.error("the page would overwrite the journal")
     source = "standard input" if options.journal == "-" else os.path.basename(options.journal)
@@ -159,7 +160,7 @@ def main(arguments: list[str] | None = None) -> int:
         round=options.round,
         date=options.date,
         program=options.made_by,
-        shows_digest=options.digest,
+        digest=options.digest,
     )
     try:
         page = whole_page(view)

@@ -30,15 +30,16 @@ def footer(view: View) -> str:
         ]
     )
     kind = f"kind {journal.kind}, version {journal.version}"
-    digest = f"SHA-256 of the journal: {tag('code', journal.digest)}"
+    told = f"published digest of the journal: {tag('code', text(view.digest))}"
+    told = told if view.digest else ""
     if view.alone:
-        shown = digest if view.shows_digest else ""
-        return tag("footer", key(kind, shown, rules, "of the other bidders nothing is shown"))
+        return tag("footer", key(kind, told, rules, "of the other bidders nothing is shown"))
     answer, said = view.answer, ""
     if answer.asked and answer.text:
         said = f"{text(answer.asked)} read these bytes and said “{text(answer.text)}”"
     source = f"{text(view.source)}, {kind}, {numbers.plural(journal.lines, 'line')}"
-    return tag("footer", key(source, digest, said, rules))
+    digest = f"SHA-256 {tag('code', journal.digest)}"
+    return tag("footer", key(source, digest, told, said, rules))
 
 
 def whole_page(view: View) -> str:

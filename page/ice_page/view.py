@@ -26,7 +26,7 @@ class View:
     round: int | None = None
     date: str = ""
     program: str = ""
-    shows_digest: bool = False
+    digest: str = ""
 
     @property
     def alone(self) -> bool:

@@ -112,9 +112,13 @@ class Words(unittest.TestCase):
 
     def test_digest(self):
         digest = hashlib.sha256(sample(SESSION).encode()).hexdigest()
-        self.assertIn(digest, run(sample(SESSION), "--bidder", "b", "--digest")[1])
         self.assertNotIn(digest, run(sample(SESSION), "--bidder", "b")[1])
-        self.assertEqual(run(sample(SESSION), "--digest")[0], 1)
+        for more in ((), ("--bidder", "b")):
+            page = page_of(sample(SESSION), "--digest", f"<i>whole 1 756 {digest}", *more)
+            words = page.root.all("footer")[0].text
+            self.assertIn(f"published digest of the journal: <i>whole 1 756 {digest}", words)
+            words = page_of(sample(SESSION), *more).root.all("footer")[0].text
+            self.assertNotIn("published digest", words)
 
     def test_file_name(self):
         with tempfile.TemporaryDirectory() as folder:

@@ -132,7 +132,7 @@ class OnItsPage(unittest.TestCase):
             status, _, errors = run(HALL, "--bidder", "choir", "--round", number)
             self.assertEqual((status, f"it has no round {number}" in errors), (2, True))
         status, _, errors = run(HALL, "--round", "1")
-        self.assertEqual((status, "--round and --digest go with --bidder" in errors), (1, True))
+        self.assertEqual((status, "--round goes with --bidder" in errors), (1, True))
 
     def test_its_bids(self):
         journal = with_bids(
