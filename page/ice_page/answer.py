@@ -171,13 +171,10 @@ def own_facts(view: View, bidder: int) -> list[Fact]:
     ]
     if view.journal.payments:
         payment = view.journal.payments[bidder].payment
-        found.append(
-            Fact(
-                "you receive" if payment < 0 else "you pay",
-                exact(abs(payment)) + view.with_unit,
-                "that value less what you keep",
-            )
-        )
+        verb, note = "you pay", "that value less what you keep"
+        if payment < 0:
+            verb, note = "you receive", "minus that value, and what you keep"
+        found.append(Fact(verb, exact(abs(payment)) + view.with_unit, note))
     return found
 
 

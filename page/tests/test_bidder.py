@@ -52,7 +52,8 @@ class OneBidder(unittest.TestCase):
             facts["your trade is worth, at least"],
             ("792", "at your lower values, in a trade proven best"),
         )
-        self.assertEqual(facts["you pay"][0], "716.75 (2867/4)")
+        paid = ("716.75 (2867/4)", "that value less what you keep")
+        self.assertEqual(facts["you pay"], paid)
         self.assertEqual(facts["state"], ("Closed", "after 3 rounds"))
         self.assertEqual(facts["could be missed, at most"], ("32", "the regret"))
         self.assertEqual(facts["surplus of the payments"][0], "0")
@@ -80,7 +81,8 @@ class OneBidder(unittest.TestCase):
 
     def test_who_receives(self):
         facts = page_of(sample("two-settlements.session"), "--bidder", "s").facts()
-        self.assertEqual(facts["you receive"][0], "15.5 (31/2)")
+        received = ("15.5 (31/2)", "minus that value, and what you keep")
+        self.assertEqual(facts["you receive"], received)
         self.assertNotIn("you pay", facts)
 
     def test_who_keeps_nothing(self):
