@@ -56,6 +56,7 @@ def parse(data: bytes) -> Any:
         text = data.decode()
         value = json.loads(text, parse_int=integer, parse_float=real, parse_constant=constant)
         json.dumps(value, ensure_ascii=False, default=vars).encode()
+        levels = depth(value)
     except UnicodeDecodeError as fault:
         raise BadFile(f"no JSON: byte {fault.start + 1} is no UTF-8") from None
     except UnicodeEncodeError:
@@ -64,7 +65,7 @@ def parse(data: bytes) -> Any:
         raise BadFile("no JSON: it is nested too deeply") from None
     except ValueError as fault:
         raise BadFile(f"no JSON: {fault}") from None
-    if depth(value) > MOST_DEPTH:
+    if levels > MOST_DEPTH:
         raise BadFile(f"no JSON: more than {MOST_DEPTH} arrays and objects in one another")
     return value
 

@@ -65,6 +65,7 @@ class Collect(unittest.TestCase):
             ('{"lo": 1e400}', "no JSON: `1e400` is too large to be read"),
             ('{"lo": %s}' % ("9" * 400), "is too large to be read"),
             (DEEP, "no JSON: more than 127 arrays and objects in one another"),
+            ("[" * 600 + "]" * 600, "no JSON"),
             ("[" * 100000, "no JSON"),
         ]:
             status, made, errors = collect(*files(bid, BID))
