@@ -33,7 +33,7 @@ class BadTable(Exception):
         """A line for each fault, the first of them where they are many."""
         lines = [str(fault) for fault in self.faults[:MOST_SHOWN]]
         left = len(self.faults) - MOST_SHOWN
-        return lines + [f"and {left} faults more"] * (left > 0)
+        return lines + [f"and {left} more"] * (left > 0)
 
 
 class BadFile(Exception):

@@ -4,18 +4,21 @@ from __future__ import annotations
 from itertools import combinations
 
 LEAST = 4
+MOST_TOLD = 5
 
 
 def is_slip(one: str, other: str) -> bool:
     """Whether two names differ in case, in one letter, or in two letters that changed places.
 
     A digit more or another one makes a name of its own, as in `slot-1` and `slot-2`, and so does
-    a letter in a name of fewer than four.
+    one letter at the end, as in `berth-A` and `berth-B`, or any in a name of fewer than four.
     """
     a, b = sorted((one.lower(), other.lower()), key=len)
     if one == other or a == b:
         return one != other
     if len(b) - len(a) > 1 or len(a) < LEAST:
+        return False
+    if a[:-1] == b[:-1] and a[-2] in "-_.":
         return False
     front = next((n for n, (x, y) in enumerate(zip(a, b)) if x != y), len(a))
     x, y = a[front:], b[front:]
@@ -27,12 +30,14 @@ def is_slip(one: str, other: str) -> bool:
 
 
 def slips(names: list[str], what: str) -> list[str]:
-    """A line for each two names that look like slips of each other."""
-    return [
+    """A line for each two names that look like slips of each other, of the first where many do."""
+    lines = [
         f"{what} `{one}` and `{other}` have almost the same name: are they two?"
         for one, other in combinations(names, 2)
         if is_slip(one, other)
     ]
+    left = len(lines) - MOST_TOLD
+    return lines[:MOST_TOLD] + [f"{what}: and {left} more"] * (left > 0)
 
 
 def nearest(name: str, names: list[str]) -> str:

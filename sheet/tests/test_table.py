@@ -162,7 +162,7 @@ class Refused(unittest.TestCase):
         wanted = [("line 5, column C (lo)",), ("line 6, column D (hi)",)]
         self.check(SMALL + rows, *wanted)
         status, _, errors = market(SMALL + "c,xor,x,2,1,\n" * 30)
-        self.assertEqual((status, len(errors), errors[-1]), (2, 21, "t.csv: and 10 faults more"))
+        self.assertEqual((status, len(errors), errors[-1]), (2, 21, "t.csv: and 10 more"))
 
     def test_a_line_of_several_lines(self):
         table = SMALL.replace("b,xor", '"b\n",xor') + "c,xor,x,2,1,\n"
@@ -187,12 +187,19 @@ class Told(unittest.TestCase):
             ("slot-1", "slot-12", False),
             ("slot-12", "slot-21", False),
             ("abc", "abd", False),
+            ("berth-A", "berth-B", False),
+            ("berth-A", "berth-a", True),
             ("north", "south", False),
         ]:
             rows = f"{one},xor,1,2,1,\n{other},xor,1,2,1,\n"
             status, _, errors = market(SMALL + rows)
             told = f"bidders `{one}` and `{other}` have almost the same name: are they two?"
             self.assertEqual((status, told in errors), (0, is_told), (one, other))
+
+    def test_many_of_them(self):
+        rows = "".join(f"alph{letter},xor,1,2,1,\n" for letter in "abcd")
+        errors = market(SMALL + rows)[2]
+        self.assertEqual((len(errors), errors[5]), (7, "bidders: and 1 more"))
 
     def test_goods_too(self):
         errors = market(SMALL.replace("A,B\n", "North,north\n"))[2]
