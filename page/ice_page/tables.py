@@ -3,7 +3,7 @@ from __future__ import annotations
 
 from fractions import Fraction
 from itertools import zip_longest
-from typing import BinaryIO, Iterable, Iterator, NamedTuple
+from typing import BinaryIO, Iterable, NamedTuple
 
 from .checker import worths
 from .course import REASONS

@@ -71,7 +71,7 @@ def tell(line: str) -> None:
 
 def read_settings(options: argparse.Namespace) -> dict[str, int]:
     """The settings, from their file or their text."""
-    if options.settings:
+    if options.settings is not None:
         return settings_of(jsontext.read(options.settings), options.settings)
     try:
         value = jsontext.parse(options.text.encode(errors="surrogateescape"))
@@ -86,44 +86,44 @@ def count(number: int, one: str) -> str:
     return f"{number} {one}" + "s" * (number != 1)
 
 
-def tell_summary(table: Table, others: int) -> None:
-    """What the table has, and names that look like slips."""
-    for line in slips([bidder.name for bidder in table.bidders], "bidders"):
+def tell_summary(table: Table, others: list[str]) -> None:
+    """What the table has beside bidders of these names, and names that look like slips."""
+    for line in slips([bidder.name for bidder in table.bidders] + others, "bidders"):
         tell(line)
     for line in slips([good.name for good in table.goods], "goods"):
         tell(line)
     packages = sum(len(bidder.packages) for bidder in table.bidders)
     parts = [count(len(table.bidders), "bidder"), count(len(table.goods), "good")]
-    behind = f", and {count(others, 'bidder')} with trees" if others else ""
+    behind = f", and {count(len(others), 'bidder')} with trees" if others else ""
     tell(", ".join([*parts, count(packages, "package")]) + behind)
 
 
 def made_of(options: argparse.Namespace) -> dict[str, Any]:
     """The file that is asked for; BadTable or BadFile where something is wrong."""
     table = Reader(rows_of(Path(options.table).read_bytes())).read()
-    if not (options.settings or options.text):
+    if options.settings is None and options.text is None:
         return round_of(options, table)
     if faults := faults_of_market(table):
         raise BadTable(faults)
     settings = read_settings(options)
     if not options.trees:
-        tell_summary(table, 0)
+        tell_summary(table, [])
         return files.flat(table, settings)
     others = files.read_others(options.trees, table)
-    tell_summary(table, len(others))
+    tell_summary(table, [other["name"] for other in others])
     return files.exchange(table, settings, others)
 
 
 def round_of(options: argparse.Namespace, table: Table) -> dict[str, Any]:
     """A round file of the table."""
     if not options.market:
-        tell_summary(table, 0)
+        tell_summary(table, [])
         tell(UNMATCHED)
         return files.round_in_order(table)
     market = read_market(options.market)
     if faults := faults_of_round(table, market):
         raise BadTable(faults)
-    tell_summary(table, 0)
+    tell_summary(table, [])
     for line in notes_of_round(table, market):
         tell(line)
     return files.round_of(table, market)

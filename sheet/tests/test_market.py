@@ -112,7 +112,13 @@ class Unfit(unittest.TestCase):
 
     def test_a_tree(self):
         trees = copy.deepcopy(EXCHANGE)
-        for change in ({"lo": -1}, {"choose": [1, 2]}, {"of": [leaf("sell", "A")]}):
+        valued = tree(-20, -10, leaf("sell", "A") | {"lo": -1})
+        for change in (
+            {"lo": -1},
+            {"choose": [1, 2]},
+            {"of": [leaf("sell", "A"), SOLD[1]]},
+            {"of": [valued, SOLD[1]]},
+        ):
             trees["bidders"][0]["tree"] = EXCHANGE["bidders"][0]["tree"] | change
             self.check("s,or,-20,-10,-1,\n", "line 2: s has a tree in the market", file=trees)
 
@@ -170,6 +176,10 @@ class Trees(unittest.TestCase):
             status, made, errors = self.trees(value)
             self.assertEqual((status, made), (0, wanted))
             self.assertEqual(errors, ["2 bidders, 2 goods, 4 packages, and 1 bidder with trees"])
+
+    def test_names_that_look_like_slips(self):
+        errors = self.trees([OTHER | {"name": "S"}])[2]
+        self.assertEqual(errors[0], "bidders `s` and `S` have almost the same name: are they two?")
 
     def test_what_is_refused(self):
         for value, words in [

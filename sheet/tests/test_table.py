@@ -80,6 +80,7 @@ class Refused(unittest.TestCase):
     def test_numbers(self):
         for cell, words in [
             ('"4,200"', "a thousands separator, as it seems: write 4200"),
+            ("4.000", "a thousands separator, as it seems: write 4000"),
             ("4.200", "a thousands separator, as it seems: write 4200"),
             ("4'200", "a thousands separator, as it seems: write 4200"),
             ("4 200", "a thousands separator, as it seems: write 4200"),
@@ -222,6 +223,7 @@ class Words(unittest.TestCase):
             ("[]", "an array where an object is due"),
             ("t.csv", "no JSON: Expecting value: line 1 column 1 (char 0); a file is given by"),
             ("x" * 5000, "no JSON"),
+            ("", "no JSON"),
         ]:
             status, made, errors = sheet(SMALL, text)
             self.assertEqual((status, made, len(errors)), (2, None, 1), errors)
