@@ -117,17 +117,53 @@ class Limits(unittest.TestCase):
         self.refused(whole + b" ", "refused 1 61 -\n")
         self.answers(b" " * (made.EXCHANGE_BYTES + 1), "refused 1 61 -\n", ["xor", "file"])
 
-    def test_length_of_prices_and_rounds(self):
-        long = b" " * (made.EXCHANGE_BYTES + 1)
+    def test_length_of_a_round(self):
+        data = made.bids(("s", [-15], [-15]))
+        whole = data + b" " * (made.EXCHANGE_BYTES - len(data))
+        for data, last in ((whole, "end open"), (whole + b" ", "refused 2 61 -")):
+            self.file.write_bytes(data)
+            for program in programs():
+                ran = program.run(["run", FILES / "tightened.exchange", self.file])
+                self.assertEqual(ran.output.decode().splitlines()[-1], last)
+                self.assertEqual(b"submit s 1 -15 1 -15" in ran.output, data == whole)
+
+    def test_length_in_line_form(self):
+        whole = b"i" * made.EXCHANGE_BYTES
+        self.refused(whole, "refused 1 51 1\n")
+        self.answers(whole, "refused 2 51 1\n", ["best", "sale.exchange", "file"])
+        long = whole + b"i"
+        self.refused(long, "refused 1 61 -\n")
         self.answers(long, "refused 2 61 -\n", ["best", "sale.exchange", "file"])
-        for program in programs():
-            ran = program.run(["run", FILES / "tightened.exchange", self.file])
-            self.assertTrue(ran.output.endswith(b"\nrefused 2 61 -\n"), str(ran))
 
     def test_length_of_a_journal(self):
         calls = ["check", "file"], ["migrate", "file"]
         self.answers(b"x" * made.JOURNAL_BYTES, "refused 1 51 1\n", *calls)
         self.answers(b"x" * (made.JOURNAL_BYTES + 1), "refused 1 61 -\n", *calls)
+
+    def test_work_of_long_files(self):
+        # Each is answered within a room and a time that stand here, whatever it is made of.
+        million = 1_000_000
+        zeros = b"[" + b"0," * (made.EXCHANGE_BYTES // 2 - 1) + b"0]"
+        members = b"{" + b",".join(b'"%d":0' % n for n in range(million)) + b"}"
+        steps = b"ice 2 regret\n" + b"near 0\n" * (made.JOURNAL_BYTES // 7 - 2)
+        rows = b"ice 1 session\n" + b"verdict accepted\n" * (made.JOURNAL_BYTES // 17 - 1)
+        for name, data, output, calls, megabytes, seconds in (
+            ("zeros", zeros, "refused 1 2 -\n", ["regret", "xor"], 1000, 10),
+            ("members", members, "refused 1 2 -\n", ["regret", "xor"], 1000, 10),
+            ("a text", b'"' + b"x" * (16 * million) + b'"', "refused 1 2 -\n", ["regret", "xor"], 200, 10),
+            ("steps", steps, "no 2 order\n", ["check", "migrate"], 400, 30),
+            ("verdicts", rows, "no 2 order\n", ["check", "migrate"], 400, 30),
+        ):
+            self.file.write_bytes(data)
+            del data
+            for program in filter(lambda made: made.keeps_to_room, programs()):
+                for command in calls:
+                    with self.subTest(name, command=command, program=str(program)):
+                        ran = program.run(
+                            [command, self.file], room=megabytes << 20, seconds=seconds
+                        )
+                        self.assertEqual(ran.output.decode(), output)
+                        self.assertEqual((ran.status, ran.errors), (status_of(output), b""))
 
 
 if __name__ == "__main__":

@@ -13,7 +13,7 @@ from pathlib import Path
 from typing import Any
 
 from harness import program
-from harness.program import TESTS, Program, Ran
+from harness.program import TESTS, Ran
 
 FILES = TESTS / "files"
 TABLES = TESTS / "rows"

@@ -8,17 +8,21 @@
  *                     Nth one does
  * ICE_SHORT_READ=N    a read gives at most N bytes
  * ICE_SHORT_WRITE=N   a write takes at most N bytes
+ * ICE_STOP_READ=N     the program is stopped before its Nth read, as by SIGSTOP
+ * ICE_STOP_WRITE=N    the same before its Nth write
  * ICE_COUNTS=FILE     at its end the program's requests, reads and writes are counted there
  */
 #define _GNU_SOURCE
 #include <dlfcn.h>
 #include <errno.h>
 #include <fcntl.h>
+#include <signal.h>
 #include <stdio.h>
 #include <stdlib.h>
 #include <unistd.h>
 
-static long fail_memory, fail_read, fail_write, after, fail_on, short_read, short_write;
+static long fail_memory, fail_read, fail_write, after, fail_on;
+static long short_read, short_write, stop_read, stop_write;
 static long requests, reads, writes;
 
 static void *(*real_malloc)(size_t);
@@ -60,6 +64,8 @@ __attribute__((constructor)) static void begin(void) {
     fail_on = number("ICE_FAIL_ON");
     short_read = number("ICE_SHORT_READ");
     short_write = number("ICE_SHORT_WRITE");
+    stop_read = number("ICE_STOP_READ");
+    stop_write = number("ICE_STOP_WRITE");
     ready = 1;
 }
 
@@ -107,7 +113,8 @@ void *aligned_alloc(size_t align, size_t size) {
 }
 
 ssize_t read(int file, void *to, size_t size) {
-    if (fails(++reads, fail_read)) {
+    if (++reads == stop_read) raise(SIGSTOP);
+    if (fails(reads, fail_read)) {
         errno = EIO;
         return -1;
     }
@@ -117,7 +124,7 @@ ssize_t read(int file, void *to, size_t size) {
 
 ssize_t write(int file, const void *from, size_t size) {
     long failing = fail_write + (after > 0);
-    writes++;
+    if (++writes == stop_write) raise(SIGSTOP);
     if (fail_write && writes >= failing) {
         errno = EIO;
         return -1;

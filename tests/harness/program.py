@@ -3,9 +3,11 @@ from __future__ import annotations
 
 import functools
 import os
+import resource
 import subprocess
 from collections.abc import Iterable, Mapping, Sequence
 from dataclasses import dataclass
+from functools import partial
 from pathlib import Path
 
 TESTS = Path(__file__).resolve().parents[1]
@@ -49,19 +51,54 @@ class Program:
         *,
         folder: Path | None = None,
         environment: Mapping[str, str] | None = None,
-        stdin: int | None = subprocess.DEVNULL,
+        room: int | None = None,
         seconds: float = SECONDS,
     ) -> Ran:
-        """Runs the program on these words, in a folder, with these variables besides its own."""
+        """Runs the program on these words, in a folder, with these variables besides its own, and
+        where a room is given with so many bytes of addresses."""
         ran = subprocess.run(
             [self.path, *words],
             cwd=folder,
             env={**os.environ, **(environment or {})},
-            stdin=stdin,
+            stdin=subprocess.DEVNULL,
             capture_output=True,
             timeout=seconds,
+            preexec_fn=None if room is None else partial(limit, resource.RLIMIT_AS, room),
         )
         return Ran(ran.returncode, ran.stdout, ran.stderr)
+
+    @functools.cached_property
+    def keeps_to_room(self) -> bool:
+        """Whether it can be held to a room: one that watches its memory takes all at once."""
+        return self.run([], room=1 << 32).status == WORDS
+
+    def stopped(
+        self, words: Sequence[str | Path], environment: Mapping[str, str]
+    ) -> subprocess.Popen[bytes]:
+        """A run that stops itself, and is stopped now."""
+        child = subprocess.Popen(
+            [self.path, *words],
+            env={**os.environ, **environment},
+            stdin=subprocess.DEVNULL,
+            stdout=subprocess.PIPE,
+            stderr=subprocess.PIPE,
+        )
+        _, how = os.waitpid(child.pid, os.WUNTRACED)
+        if not os.WIFSTOPPED(how):
+            child.returncode = os.waitstatus_to_exitcode(how)
+            raise AssertionError(f"the run wasn't stopped: {ended(child)}")
+        return child
+
+
+def limit(what: int, most: int) -> None:
+    """Sets a limit of this process, which its program then has."""
+    resource.setrlimit(what, (most, most))
+
+
+def ended(child: subprocess.Popen[bytes]) -> Ran:
+    """How a run ends, and what it wrote."""
+    output, errors = child.communicate(timeout=SECONDS)
+    return Ran(child.returncode, output, errors)
 
 
 @functools.cache
@@ -69,7 +106,7 @@ def programs() -> Sequence[Program]:
     """The builds that are tested: those that ICE_PROGRAMS names, with colons between, or else
     the one that the launcher and the gate leave, and the gate's second one where it is there."""
     named = os.environ.get("ICE_PROGRAMS")
-    paths = [Path(path) for path in named.split(":")] if named else [ROOT / path for path in BUILDS]
+    paths = list(map(Path, named.split(":"))) if named else [ROOT / path for path in BUILDS]
     found = [path.resolve() for path in paths if path.exists()]
     if not found or (named and len(found) < len(paths)):
         raise RuntimeError(
