@@ -1,0 +1,172 @@
+"""Tests of the launcher's line of words, with a stand-in for the program."""
+from __future__ import annotations
+
+import os
+import pathlib
+import pty
+import shutil
+import subprocess
+import tempfile
+import unittest
+
+TESTS = pathlib.Path(__file__).resolve().parent
+TOP = TESTS.parent.parent
+EXCHANGE = """{"settings": {"weight": 50, "close_regret": 0, "cap": 9, "improve": 0, "round": 5, "branches": 9},
+ "goods": ["day"], "bidders": [{"name": "B\u00e4cker", "own": {"dy": 1},
+  "tree": {"buy": "day", "units": 1.5, "lo": 3, "hi": 2}}]}
+"""
+OPEN = "ice 2 session\nsettle 0\nregret 90\nsettle 1\nfinal 8\nregret 3915\nprices 2 1\nend open\n"
+CLOSED = "ice 2 session\nsettle 1\nfinal 8\nregret 0\nthreshold 5/2 1/3\npayment a 1 1/1 2/1\nend closed\n"
+
+
+class Words(unittest.TestCase):
+    """Each test has a checkout with a program that counts as built."""
+
+    def setUp(self):
+        self.top = pathlib.Path(tempfile.mkdtemp(prefix="launch-"))
+        self.addCleanup(shutil.rmtree, self.top)
+        shutil.copy(TOP / "ice", self.top)
+        shutil.copytree(TOP / "launch", self.top / "launch")
+        for part in ("src", "specs", "proofs", "out"):
+            (self.top / "crates/ice_cli" / part).mkdir(parents=True)
+        (self.top / "crates.txt").write_text("ice_cli:\n")
+        shutil.copyfile(TESTS / "program", self.top / "crates/ice_cli/out/ice_cli")
+        (self.top / "crates/ice_cli/out/ice_cli").chmod(0o755)
+        (self.top / "market.json").write_text(EXCHANGE)
+        self.out = self.top / "out"
+
+    def settings(self, answer: str, status: int) -> dict[str, str]:
+        """The environment in which the program answers so."""
+        (self.top / "answer").write_text(answer)
+        return {**os.environ, "ANSWER": str(self.top / "answer"), "STATUS": str(status), "LC_ALL": "C.UTF-8"}
+
+    def told(self, answer: str, status: int, *words: str, mode: str = "w") -> str:
+        """The line of words where standard output is a file, which has the answer and nothing else."""
+        before = self.out.read_text() if mode == "a" else ""
+        with open(self.out, mode, encoding="utf-8") as out:
+            how = {"stdout": out, "stderr": subprocess.PIPE, "stdin": subprocess.DEVNULL, "text": True, "cwd": self.top}
+            ran = subprocess.run(["./ice", *words], env=self.settings(answer, status), check=False, **how)
+        self.assertEqual((ran.returncode, self.out.read_text()), (status, before + answer))
+        lines = [line for line in ran.stderr.splitlines() if line.startswith("ice: ")]
+        self.assertLessEqual(len(lines), 1)
+        if status != 1:
+            self.assertEqual(ran.stderr.splitlines(), lines)
+        return lines[0][5:] if lines else ""
+
+    def refused(self, number: int, place: str, *words: str, file: int = 1) -> str:
+        """The line of words for a refusal."""
+        return self.told(f"refused {file} {number} {place}\n", 2, *(words or ("run", "market.json")))
+
+    def test_sessions(self):
+        self.assertEqual(self.told(OPEN, 9, "run", "m", "r1"), "open after round 1, regret 3915: wants round 2")
+        self.assertEqual(self.told(CLOSED, 0, "run", "m", "r1"), "closed after round 1: regret 0, surplus 1/3")
+        self.assertEqual(self.told(CLOSED, 0, "run", "m", "r1", "r 2", "r3"), "closed after round 1: regret 0, surplus 1/3; not read: r\\ 2 r3")
+        spent = "settle 0\nspent 50 65\nset 1\nend spent\n"
+        self.assertEqual(self.told(spent, 4, "run", "m"), "the branches of the settings are used up: what was found is worth 50, and nothing is worth more than 65")
+        self.assertEqual(self.told("limit accuracy rows 0 1\nend limit\n", 5, "run", "m"), "the pricing came to a limit: no prices are offered")
+
+    def test_what_says_all_itself_has_no_line(self):
+        self.assertEqual(self.told("yes 0 0/1\n", 0, "check", "j"), "")
+        self.assertEqual(self.told("best a 1\nset 1\nend best\n", 0, "best", "e", "p"), "")
+
+    def test_faults_have_their_element(self):
+        self.assertEqual(self.refused(13, "bidders.0"), 'market.json is refused: bidders.0 "B\u00e4cker": not a lawful name: 1 to 32 of A-Z a-z 0-9 _ - . (number 13)')
+        self.assertEqual(self.refused(2, "settings"), "market.json is refused: settings has `round`, lacks `rounds`: not of the form that belongs here (number 2)")
+        self.assertIn(': bidders.0.tree.units 1.5: no whole number', self.refused(3, "bidders.0.tree.units"))
+        self.assertIn(': bidders.0.own "dy": a good is named that isn\'t there', self.refused(5, "bidders.0.own"))
+        self.assertIn(": bidders.0 \"B\u00e4cker\": its bids may sell more", self.refused(14, "bidders.0", "xor", "market.json"))
+        self.assertEqual(self.refused(16, "-"), "market.json is refused: an exchange has at least one good and one bidder (number 16)")
+
+    def test_a_fault_of_a_round_names_its_file(self):
+        (self.top / "bom.json").write_bytes(b"\xef\xbb\xbf{}")
+        (self.top / "cut.json").write_text('{"bids": [\n')
+        told = self.refused(1, "-", "run", "market.json", "bom.json", file=2)
+        self.assertEqual(told, "bom.json (round 1) is refused: no JSON (a byte order mark stands in front: leave it out) (number 1)")
+        told = self.refused(1, "-", "run", "market.json", "bom.json", "cut.json", file=3)
+        self.assertEqual(told, "cut.json (round 2) is refused: no JSON (Expecting value at line 2, column 1) (number 1)")
+
+    def test_lines_at_fault(self):
+        (self.top / "j").write_text("ice 1 assign\nsettings 1\ngood a\x07 \n")
+        self.assertEqual(self.refused(50, "3", "check", "j"), "j is refused: line 3 `good a^G `: no record, or one that may not stand here, or one is missing (number 50)")
+        self.assertEqual(self.refused(51, "9", "check", "/dev/stdin"), "standard input is refused: line 9: the last line has no newline: the file may have been cut off (number 51)")
+        self.assertEqual(self.refused(53, "-", "migrate", "j"), "j is refused: not a journal of a kind that `migrate` takes (number 53)")
+
+    def test_each_number_has_words(self):
+        for number in [*range(1, 6), *range(10, 15), 16, 17, *range(20, 27), 50, 51, 52, 53, 61, 90, 91]:
+            told = self.refused(number, "-")
+            self.assertRegex(told, rf"^market.json is refused: [^:]{{6,}}.*\(number {number}\)$")
+            self.assertNotIn("refused: refused", told)
+
+    def test_each_test_of_a_journal_has_words(self):
+        rules = "order short exchange count parent few many excess value near sign fixed above alive regret fixing prices violation accuracy balance verdict threshold payment"
+        for name in rules.split():
+            told = self.told(f"no 7 {name}\n", 3, "check", "j")
+            self.assertRegex(told, "^j, line 7: [a-z ]{12,}")
+            self.assertNotIn("failed", told)
+
+    def test_a_journal_that_is_right_as_far_as_it_goes(self):
+        (self.top / "j").write_text(OPEN)
+        self.assertEqual(self.told("no 8 closed\n", 3, "check", "j"), "j is right as far as it goes, to line 8: it closes nothing, and ends with `end open`")
+
+    def test_files_that_are_not_read(self):
+        self.assertEqual(self.told("unread 1\n", 6, "check", "absent"), "absent could not be read: there is no such file")
+        self.assertEqual(self.told("settle 0\nunread 2\n", 6, "run", "m", "launch"), "launch (round 1) could not be read: it is a folder")
+
+    def test_wrong_words(self):
+        for words, told in {
+            (): "there is no command",
+            ("chek", "j"): "there is no command chek",
+            ("help",): "there is no command help: it is `--help`",
+            ("check", "a", "b"): "`check` takes one file, and 2 words stand behind it",
+            ("best", "a"): "`best` takes an exchange and prices, and 1 words stand behind it",
+            ("gen", "07"): "`gen` takes a number from 0 to 4294967295, with no sign and no leading zero, and not 07",
+            ("replay", "j", "21"): "`replay` takes a settlement from 0 to 20, with no sign and no leading zero, and not 21",
+            ("run",): "`run` takes an exchange, and no file is named",
+            ("run", *"m12345678901234567890!"): "`run` takes up to 20 round files, and 21 are named",
+            ("check", b"\xff"): "the word $'\\377' is no text in UTF-8",
+        }.items():
+            self.assertEqual(self.told("words refused\n", 1, *words), told)
+
+    def test_what_stood_in_the_file_is_left(self):
+        self.out.write_text("refused 9 9 before\n")
+        self.assertEqual(self.told(OPEN, 9, "run", "m", mode="a"), "open after round 0, regret 3915: wants round 1")
+        self.assertEqual(self.told("end open\n", 9, "run", "m", mode="a"), "open after round 0: wants round 1")
+
+    def test_a_pipe_gets_the_same_bytes_and_its_words(self):
+        answer = OPEN * 5000
+        ran = subprocess.run([self.top / "ice", "run", "m", "r1"], env=self.settings(answer, 9), capture_output=True, text=True, check=False)
+        self.assertEqual((ran.returncode, ran.stdout, ran.stderr), (9, answer, "ice: open after round 1: wants round 2\n"))
+        ran = subprocess.run([self.top / "ice", "check", "m"], env=self.settings("refused 1 50 3\n", 2), capture_output=True, text=True, check=False)
+        self.assertEqual(ran.stderr, "ice: a file is refused: the last line of the output says which, its fault, and where\n")
+
+    def test_standard_output_that_fails_ends_with_7(self):
+        for target in (">/dev/full", ">&-", "| true"):
+            script = f'set -o pipefail; {{ sleep 0.3; ./ice run m; echo "status $?" >&2; }} {target}'
+            ran = subprocess.run(["bash", "-c", script], cwd=self.top, env=self.settings(OPEN * 5000, 9), stderr=subprocess.PIPE, text=True, check=False)
+            self.assertEqual(ran.stderr.splitlines()[-2:], ["ice: standard output failed: what was written is a front of the answer, or nothing", "status 7"], target)
+
+    def test_on_a_terminal_the_words_stand_behind_the_answer(self):
+        answer = OPEN * 2000
+        where = self.settings(answer, 9)
+        child, terminal = pty.fork()
+        if child == 0:
+            os.chdir(self.top)
+            os.execve("./ice", ["./ice", "run", "m", "r1"], where)
+        read = b""
+        while True:
+            try:
+                piece = os.read(terminal, 65536)
+            except OSError:
+                break
+            if not piece:
+                break
+            read += piece
+        ended = os.waitpid(child, 0)[1]
+        os.close(terminal)
+        wanted = answer + "ice: open after round 1, regret 3915: wants round 2\n"
+        self.assertEqual(read.decode(), wanted.replace("\n", "\r\n"))
+        self.assertEqual(os.waitstatus_to_exitcode(ended), 9)
+
+
+if __name__ == "__main__":
+    unittest.main()

@@ -1,0 +1,274 @@
+# shellcheck shell=bash
+# What an answer of the program says, in a line of words for whoever sits at the terminal. The launcher `ice` reads this file and
+# calls answer and describe; it gives `program`. Standard output is the program's own and stays as it is:
+#
+# - Where it is a file, the program writes into it, and its last records are read back from there when the program has ended.
+# - Where it is a terminal, a `tee` stands between, so that they are known here too.
+# - Where it is anything else, as a pipe, nothing stands between, and the words and the status alone are told.
+
+: "${program:?}"
+
+# Of what is read, the last record of each kind that tells what the answer is, or how far a session came.
+summary() {
+    LC_ALL=C grep -a -E '^(settle|regret|spent|threshold|no|refused|unread) ' | LC_ALL=C awk '
+        { kept[$1] = substr($0, 1, 400) }
+        END { for (name in kept) print kept[name] }
+    '
+}
+
+# Sets `begin`, where the next byte goes in standard output, which is a file: at its end where it was opened to append.
+find_place() {
+    local name value
+    begin=0
+    while read -r name value; do
+        case $name in
+        pos:) begin=$value ;;
+        flags:) [ $((8#$value & 8#2000)) = 0 ] || begin=$(stat -Lc %s "/proc/$$/fd/1") ;;
+        esac
+    done <"/proc/$$/fdinfo/1"
+}
+
+# Runs the program on the words, and sets `status` and `said`, the summary of what it wrote.
+answer() {
+    local begin ends held
+    said=
+    if [ -t 1 ] && held=$(mktemp 2>/dev/null); then
+        exec 7<>"$held" 8>&1
+        rm -f "$held"
+        "$program" "$@" 7<&- 8>&- | tee /dev/fd/9 9>&1 >&8 7<&- 8>&- 2>/dev/null | summary >&7 8>&-
+        ends=("${PIPESTATUS[@]}")
+        said=$(cat "/proc/$$/fd/7" 2>/dev/null)
+        exec 7<&- 8>&-
+        status=${ends[0]}
+        # a terminal that takes no more
+        [ "${ends[1]}" = 0 ] || [ "$status" -ge 128 ] || status=7
+    elif [ -f /dev/fd/1 ] && [ -r "/proc/$$/fdinfo/1" ]; then
+        find_place
+        "$program" "$@"
+        status=$?
+        case $1:$status in
+        run:0 | *:[234569]) said=$(tail -c "+$((begin + 1))" "/proc/$$/fd/1" 2>/dev/null | summary) ;;
+        esac
+    else
+        "$program" "$@"
+        status=$?
+    fi
+}
+
+# Field N of the last record of a name in what was said, or nothing.
+field() {
+    awk -v name="$1" -v n="$2" '$1 == name { print $n; exit }' <<<"$said"
+}
+
+# The fault of a file with a number, in words.
+fault() {
+    case $1 in
+    1) echo "no JSON" ;;
+    2) echo "not of the form that belongs here" ;;
+    3) echo "no whole number: write 10, not 10.0 or 1e1" ;;
+    4) echo "outside its limits" ;;
+    5) echo "a good is named that isn't there: it is spelled as in \`goods\`, or numbered from 0" ;;
+    10) echo "a good of this name is there already" ;;
+    11) echo "a bidder of this name is there already" ;;
+    12) echo "too many: at most 32 goods, 40 bidders, and 2,000 nodes in all trees" ;;
+    13) echo "not a lawful name: 1 to 32 of A-Z a-z 0-9 _ - ." ;;
+    14) echo "its bids may sell more of a good than it owns" ;;
+    16) echo "an exchange has at least one good and one bidder" ;;
+    17) echo "a good stands behind a bidder" ;;
+    20) echo "a choice asks for at least, at most and among so many children, in rising order, and has at least one" ;;
+    21) echo "the lower value is above the upper one" ;;
+    22) echo "a value, a number of units or a good is outside its limits" ;;
+    23) echo "more than 200 nodes in a tree" ;;
+    24) echo "a tree more than 16 levels deep" ;;
+    25) echo "a tree is not complete, or goes on behind its end" ;;
+    26) echo "a list that doesn't count the nodes of the tree" ;;
+    50) echo "no record, or one that may not stand here, or one is missing" ;;
+    51) echo "the last line has no newline: the file may have been cut off" ;;
+    52) echo "the journal has no such settlement" ;;
+    53) echo "not a journal of a kind that \`$2\` takes" ;;
+    61) echo "longer than such a file may be" ;;
+    90) echo "a package with no good" ;;
+    91) echo "a bidder with no package" ;;
+    *) echo "refused" ;;
+    esac
+}
+
+# The test of a journal that failed, in words.
+rule() {
+    case $1 in
+    order) echo "another record belongs here" ;;
+    short) echo "the journal ends too early" ;;
+    exchange) echo "the exchange is at fault" ;;
+    count) echo "a set has another length than its tree" ;;
+    parent) echo "a set has a node without the one above it" ;;
+    few) echo "a set has too few children of a choice" ;;
+    many) echo "a set has too many children of a choice" ;;
+    excess) echo "more of a good is bought than is sold, or not all that is sold of an exact one" ;;
+    value) echo "the sets are not worth what their head says" ;;
+    near) echo "a change names a good that isn't there, or changes nothing" ;;
+    sign) echo "a multiplier below 0 of a good that isn't exact" ;;
+    fixed) echo "a branch at a node that isn't there or isn't free" ;;
+    above) echo "a bound is above what it has to show" ;;
+    alive) echo "the bidder still has a set" ;;
+    regret) echo "the regret is another" ;;
+    fixing) echo "the bidder that is left out trades" ;;
+    prices) echo "a price is above the cap, or the numbers are not in lowest terms" ;;
+    violation) echo "the prices fit the bids by another number" ;;
+    accuracy) echo "the rows don't show that no prices fit better" ;;
+    balance) echo "the rows don't show that no such prices are lower" ;;
+    verdict) echo "another verdict is due on the bid above" ;;
+    threshold) echo "the cut or the surplus is another" ;;
+    payment) echo "another payment is due" ;;
+    *) echo "the test \`$1\` failed" ;;
+    esac
+}
+
+# The name of file N of the words, as it was typed.
+name_of() {
+    case ${words[$1]} in
+    /dev/stdin | /dev/fd/0 | /proc/self/fd/0) echo "standard input" ;;
+    *) printf '%q\n' "${words[$1]}" ;;
+    esac
+    [ "${words[0]}" != run ] || [ "$1" -lt 2 ] || echo " (round $(($1 - 1)))"
+}
+
+# What stands at a place of a file, cut to a part of a line: a line of it, or a value in JSON where Python 3 is there.
+what_stands() {
+    local file=$1 number=$2 place=$3 text=
+    [ -f "$file" ] || return 0
+    if [[ $place =~ ^[0-9]+$ ]]; then
+        text=$(sed -n "${place}{p;q}" "$file" 2>/dev/null | cut -c1-60 | cat -v)
+        [ -z "$text" ] || printf " \`%s\`" "$text"
+    elif command -v python3 >/dev/null; then
+        python3 -I "${BASH_SOURCE[0]%/*}/value_at" "$file" "$number" "$place" 2>/dev/null
+    fi
+}
+
+refused() {
+    local file number place name stands words_of
+    file=$(field refused 2) number=$(field refused 3) place=$(field refused 4)
+    if [ -z "$place" ] || [ -z "${words[$file]:-}" ]; then
+        echo "a file is refused: the last line of the output says which, its fault, and where"
+        return
+    fi
+    name=$(name_of "$file" | tr -d '\n')
+    stands=$(what_stands "${words[$file]}" "$number" "$place")
+    words_of=$(fault "$number" "${words[0]}")
+    case $place in
+    -) echo "$name is refused: $words_of$stands (number $number)" ;;
+    *[!0-9]*) echo "$name is refused: $place$stands: $words_of (number $number)" ;;
+    *) echo "$name is refused: line $place$stands: $words_of (number $number)" ;;
+    esac
+}
+
+unread() {
+    local file name why="it can't be read"
+    file=$(field unread 2)
+    if [ -z "$file" ] || [ -z "${words[$file]:-}" ]; then
+        echo "a file could not be read: the last line of the output has its number"
+        return
+    fi
+    name=$(name_of "$file" | tr -d '\n')
+    if [ -d "${words[$file]}" ]; then
+        why="it is a folder"
+    elif [ ! -e "${words[$file]}" ]; then
+        why="there is no such file"
+    elif [ ! -r "${words[$file]}" ]; then
+        why="you may not read it"
+    fi
+    echo "$name could not be read: $why"
+}
+
+# What is wrong about words that the program refuses.
+wrong_words() {
+    local word count=$((${#words[@]} - 1))
+    for word in "${words[@]}"; do
+        if command -v iconv >/dev/null && ! printf %s "$word" | iconv -f UTF-8 -t UTF-8 >/dev/null 2>&1; then
+            printf 'the word %q is no text in UTF-8\n' "$word"
+            return
+        fi
+    done
+    case ${words[0]-} in
+    '') echo "there is no command" ;;
+    check | regret | migrate | xor) echo "\`${words[0]}\` takes one file, and $count words stand behind it" ;;
+    best) echo "\`best\` takes an exchange and prices, and $count words stand behind it" ;;
+    run)
+        if [ "$count" = 0 ]; then echo "\`run\` takes an exchange, and no file is named"; else echo "\`run\` takes up to 20 round files, and $((count - 1)) are named"; fi
+        ;;
+    replay)
+        if [ "$count" != 2 ]; then
+            echo "\`replay\` takes a journal and a number, and $count words stand behind it"
+        else
+            printf "\`replay\` takes a settlement from 0 to 20, with no sign and no leading zero, and not %q\n" "${words[2]}"
+        fi
+        ;;
+    gen)
+        if [ "$count" != 1 ]; then
+            echo "\`gen\` takes one number, and $count words stand behind it"
+        else
+            printf "\`gen\` takes a number from 0 to 4294967295, with no sign and no leading zero, and not %q\n" "${words[1]}"
+        fi
+        ;;
+    help | version) echo "there is no command ${words[0]}: it is \`--${words[0]}\`" ;;
+    *) printf 'there is no command %q\n' "${words[0]}" ;;
+    esac
+}
+
+# How a session ended that closed: its round and regret, and which of the files that were named it didn't come to.
+closed() {
+    local settle regret surplus beyond
+    settle=$(field settle 2) regret=$(field regret 2) surplus=$(field threshold 3)
+    if [ -z "$settle" ] || [ -z "$regret" ]; then
+        echo "closed"
+        return
+    fi
+    beyond=("${words[@]:settle+2}")
+    echo "closed after round $settle: regret $regret, surplus $surplus${beyond[0]:+; not read: $(printf '%q ' "${beyond[@]}" | sed 's/ $//')}"
+}
+
+opened() {
+    local round=$((${#words[@]} - 2)) regret
+    regret=$(field regret 2)
+    echo "open after round $round${regret:+, regret $regret}: wants round $((round + 1))"
+}
+
+spent() {
+    local least most
+    least=$(field spent 2) most=$(field spent 3)
+    echo "the branches of the settings are used up${most:+: what was found is worth $least, and nothing is worth more than $most}"
+}
+
+# What a journal that isn't closed came to, by its last line.
+stopped() {
+    local last=
+    [ ! -f "${words[1]}" ] || last=$(tail -c 400 "${words[1]}" | tail -n 1 | tr -cd ' -~')
+    echo "right as far as it goes, to line $1: it closes nothing${last:+, and ends with \`$last\`}"
+}
+
+# The line of words for what the program answered: nothing where its own output says it all.
+describe() {
+    local status=$1 line test
+    shift
+    local words=("$@")
+    case $status in
+    0) [ "${words[0]}" != run ] || closed ;;
+    1) wrong_words ;;
+    2) refused ;;
+    3)
+        line=$(field no 2) test=$(field no 3)
+        if [ -z "$test" ]; then
+            echo "no: the answer has the line of the first test that failed, and its name"
+        elif [ "$test" = closed ]; then
+            echo "$(name_of 1 | tr -d '\n') is $(stopped "$line")"
+        else
+            echo "$(name_of 1 | tr -d '\n'), line $line: $(rule "$test")"
+        fi
+        ;;
+    4) spent ;;
+    5) echo "the pricing came to a limit: no prices are offered" ;;
+    6) unread ;;
+    7) echo "standard output failed: what was written is a front of the answer, or nothing" ;;
+    8) echo "want of memory: free some, and run it again" ;;
+    9) opened ;;
+    esac
+}
