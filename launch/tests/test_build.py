@@ -24,7 +24,7 @@ ice_f: ice_e
 ice_e: ice_a # a comment
 ice_other: ice_a
 """
-PROGRAM = "#!/bin/sh\necho answer \"$@\"\nexit 3\n"
+PROGRAM = "#!/bin/sh\necho answer \"$@\"\nexit 0\n"
 
 
 class Build(unittest.TestCase):
@@ -87,7 +87,7 @@ class Build(unittest.TestCase):
 
     def test_builds_side_by_side(self):
         status, out, err = self.launch(RT_SECONDS="0.3")
-        self.assertEqual((status, out), (3, "answer one two words\n"))
+        self.assertEqual((status, out), (0, "answer one two words\n"))
         runs = self.runs()
         self.assertEqual({run[0] for run in runs}, {"ice_a", "ice_b", "ice_c", "ice_d", "ice_e", "ice_f", "ice_cli"})
         self.assertEqual(len(runs), 7)
@@ -101,7 +101,7 @@ class Build(unittest.TestCase):
         self.assertEqual(self.runs(), [])
 
     def test_one_lane_leaves_the_jobs_to_rt(self):
-        self.assertEqual(self.launch(ICE_LANES="1")[0], 3)
+        self.assertEqual(self.launch(ICE_LANES="1")[0], 0)
         runs = self.runs()
         self.assertEqual({run[1] for run in runs}, {"checkout"})
         self.assertNotIn("--jobs", " ".join(run[2] for run in runs))
@@ -113,7 +113,7 @@ class Build(unittest.TestCase):
         was = program.stat().st_ino
         (self.top / "crates.txt").touch()
         status, out, _ = self.launch()
-        self.assertEqual((status, out), (3, "answer one two words\n"))
+        self.assertEqual((status, out), (0, "answer one two words\n"))
         self.assertEqual(len(self.runs()), 7)
         self.assertEqual(program.stat().st_ino, was)
         self.assertEqual(self.launch()[2], "")
@@ -127,7 +127,7 @@ class Build(unittest.TestCase):
         self.assertGreaterEqual(done, {"ice_a", "ice_b", "ice_c"})
         self.assertTrue((self.top / "crates/ice_d/out/incremental/kept").exists())
         before = {name: (self.top / f"crates/{name}/out/rlib/stamp").stat().st_ino for name in done}
-        self.assertEqual(self.launch()[0], 3)
+        self.assertEqual(self.launch()[0], 0)
         for name, it in before.items():
             self.assertEqual((self.top / f"crates/{name}/out/rlib/stamp").stat().st_ino, it, name)
 
@@ -149,12 +149,12 @@ class Build(unittest.TestCase):
             self.assertNotIn(f"{TESTS}/rt", beside)
             for name in ("ice_b", "ice_e"):
                 shutil.rmtree(self.top / f"crates/{name}/out", ignore_errors=True)
-        self.assertEqual(self.launch()[0], 3)
+        self.assertEqual(self.launch()[0], 0)
 
     def test_of_two_launchers_one_builds(self):
         both = [self.start(RT_SECONDS="0.3") for _ in range(2)]
         ends = [(*it.communicate(timeout=120), it.returncode) for it in both]
-        self.assertEqual([(out, status) for out, _, status in ends], [("answer one two words\n", 3)] * 2)
+        self.assertEqual([(out, status) for out, _, status in ends], [("answer one two words\n", 0)] * 2)
         self.assertEqual(len(self.runs()), 7)
         said = sorted(err for _, err, _ in ends)
         self.assertEqual(said[0], "ice: another run builds the program; waiting for it\n")
@@ -167,12 +167,12 @@ class Build(unittest.TestCase):
         started.communicate()
         self.assertNotEqual([*self.top.glob(".git/ice-lanes-*")], [])
         time.sleep(1.5)
-        self.assertEqual(self.launch()[0], 3)
+        self.assertEqual(self.launch()[0], 0)
         self.is_clean()
 
     def test_without_a_git_folder(self):
         shutil.rmtree(self.top / ".git")
-        self.assertEqual(self.launch()[0], 3)
+        self.assertEqual(self.launch()[0], 0)
         self.is_clean()
 
     def test_what_changes_during_a_build_is_built_the_next_time(self):
