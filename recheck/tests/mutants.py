@@ -4,9 +4,8 @@
     recheck/tests/mutants.py [COUNT [FIRST]]
 
 makes COUNT mutants, 2,000 where nothing is said, of the seeds from FIRST on, which is 0. The status
-is 1 where an answer differs; then the journals are kept, in a folder that is named. What the tests
-of the crates hold, the examples and the samples of the pages are the journals that are damaged, of
-each kind and in both versions.
+is 1 where an answer differs; then the journals are kept, in a folder that is named. What other
+tests hold, and the examples, are the journals that are damaged, of each kind and in both versions.
 """
 from __future__ import annotations
 

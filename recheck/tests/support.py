@@ -1,10 +1,11 @@
-"""What the tests share: journals, those that stand in the tests of the crates, and the program."""
+"""What the tests share: journals, those that stand in other tests, and the program."""
 from __future__ import annotations
 
 import os
 import re
 import subprocess
 import sys
+import tempfile
 import unittest
 from pathlib import Path
 
@@ -16,7 +17,12 @@ sys.path.insert(0, str(HERE.parent))
 
 from ice_recheck.journals import Answer, check  # noqa: E402
 
-JOURNALS = sorted(ROOT.glob("examples/*.journal")) + sorted(ROOT.glob("page/tests/samples/*"))
+JOURNALS = [
+    file
+    for place in ("examples/*.journal", "page/tests/samples/*", "tests/files/*")
+    for file in sorted(ROOT.glob(place))
+    if file.suffix in (".journal", ".session", ".regret", ".assign")
+]
 HEAD = re.compile(r"\s*ice [12] (assign|regret|session)\b")
 LITERAL = re.compile(r'"((?:[^"\\]|\\.)*)"', re.DOTALL)
 ARRAY = re.compile(rf"\[\s*((?:{LITERAL.pattern}\s*,?\s*)+)\]", re.DOTALL)
@@ -76,8 +82,30 @@ def changed(lines: list[str], place: int, text: str) -> str:
     )
 
 
-def rows() -> list[str]:
-    """Every journal in the tests of the crates: texts, lists of lines, and all changes of these."""
+def judged_in_tables() -> list[tuple[str, bytes, tuple[str, ...], int]]:
+    """The rows of the program's own tests in which one file is checked.
+
+    Each has a name, the file's bytes, the outputs of which one is due, and the status. There are
+    none where those tests aren't, or where Python is older than they want.
+    """
+    if sys.version_info < (3, 11) or not (ROOT / "tests" / "harness").is_dir():
+        return []
+    sys.path.append(str(ROOT / "tests"))
+    from harness import cases
+
+    found = []
+    for case in (case for table in cases.tables() for case in cases.table(table)):
+        with tempfile.TemporaryDirectory() as folder:
+            words = case.lay(Path(folder))
+            file = Path(folder, words[-1] if words else "")
+            is_check = len(words) == 2 and words[0] == "check" and file.is_file()
+            if is_check and case.write is None and case.due.outputs:
+                found.append((case.name, file.read_bytes(), case.due.outputs, case.due.status))
+    return found
+
+
+def rows() -> list[bytes]:
+    """Every journal in other tests: texts, lists of lines and all changes of these, and tables."""
     found = []
     for source in sources():
         texts = [unescaped(text) for text in LITERAL.findall(source)]
@@ -85,4 +113,5 @@ def rows() -> list[str]:
         changes = [(int(place), unescaped(text)) for place, text in CHANGE.findall(source)]
         for lines in lists_of_lines(source):
             found += [changed(lines, place, text) for place, text in [(0, ""), *changes]]
-    return sorted({text.lstrip("\n") for text in found})
+    texts = {text.lstrip("\n").encode() for text in found}
+    return sorted(texts | {journal for _, journal, _, _ in judged_in_tables()})

@@ -60,7 +60,7 @@ class Browser(unittest.TestCase):
 
     def test_samples_and_rows(self):
         self.agree([file.read_bytes() for file in JOURNALS])
-        self.agree([journal.encode() for journal in rows()])
+        self.agree(rows())
 
     def test_mutants(self):
         self.agree([mutants.mutant(seed) for seed in range(mutants.COUNT)])

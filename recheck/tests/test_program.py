@@ -1,4 +1,4 @@
-"""The same line and status as the program's: on samples, on rows of the crates, and on mutants."""
+"""The same line and status as the program's: on samples, on rows of tests, and on mutants."""
 import unittest
 
 import mutants
@@ -27,9 +27,9 @@ class Program(unittest.TestCase):
         self.agree("as it is", journal)
         self.agree("without its last byte but one", journal[:-2] + b"\n")
 
-    def test_rows_of_the_crates(self):
+    def test_rows_of_other_tests(self):
         for journal in rows():
-            self.agree(journal, journal.encode())
+            self.agree(str(journal), journal)
 
     def test_mutants(self):
         self.assertEqual(mutants.differences(mutants.COUNT), [])

@@ -1,39 +1,31 @@
-"""The journals of the table of `check`, with the answers that stand beside them there."""
-import sys
-import tempfile
+"""The journals in the tables of the program's tests, with the answers that stand beside them."""
 import unittest
-from pathlib import Path
 
-from support import ROOT, answer
+from support import ROOT, answer, check, judged_in_tables
 
-TESTS = ROOT / "tests"
-TABLE = TESTS / "rows" / "check.toml"
+WHOLE = ("sale.regret", "sale.session", "rounds.session", "core.session")
 
 
-def cases() -> list:
-    """Each row of the table that is a journal."""
-    sys.path.insert(0, str(TESTS))
-    from harness.cases import table
-
-    return [case for case in table(TABLE) if case.words[0] == "check" and not case.write]
-
-
-@unittest.skipUnless(TABLE.is_file(), "the table isn't here")
-@unittest.skipUnless(sys.version_info >= (3, 11), "tables are read by Python 3.11")
 class Rows(unittest.TestCase):
-    """Each journal and each change of it."""
+    """Each row in which a journal is checked, and journals that are made here."""
 
+    @unittest.skipUnless(judged_in_tables(), "the tables aren't here, or Python is older than 3.11")
     def test_answers(self):
-        count = 0
-        for case in cases():
-            with self.subTest(case.name), tempfile.TemporaryDirectory() as name:
-                journal = Path(name, case.lay(Path(name))[1])
-                if not journal.is_file() or not case.due.outputs:
-                    continue
-                count += 1
-                line, status = answer(journal.read_bytes().decode("latin-1"))
-                self.assertEqual((f"{line}\n", status), (case.due.outputs[0], case.due.status))
-        self.assertGreater(count, 100)
+        rows = judged_in_tables()
+        self.assertGreater(len(rows), 100)
+        for name, journal, outputs, status in rows:
+            with self.subTest(name):
+                line, ended = check(journal)
+                self.assertIn(f"{line}\n", outputs)
+                self.assertEqual(ended, status)
+
+    @unittest.skipUnless((ROOT / "tests" / "files").is_dir(), "the tables aren't here")
+    def test_cut_journals_are_short(self):
+        for file in (ROOT / "tests" / "files" / name for name in WHOLE):
+            lines = file.read_text().splitlines(keepends=True)
+            for count in range(1, len(lines)):
+                found = answer("".join(lines[:count]))
+                self.assertEqual(found, (f"no {count + 1} short", 3), (file.name, count))
 
     def test_lines_at_fault(self):
         for text, line in (
