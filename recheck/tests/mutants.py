@@ -168,7 +168,7 @@ def keep(found: list[str]) -> Path:
 def main(words: list[str]) -> int:
     """The status."""
     if PROGRAM is None:
-        print("no built program is here: `./ice` builds one, or ICE_PROGRAM names it")
+        print("no built program is here: `./ice` builds one, or ICE_PROGRAMS names it")
         return 1
     count = int(words[0]) if words else COUNT
     found = differences(count, int(words[1]) if len(words) > 1 else 0)

@@ -35,8 +35,8 @@ def answer(journal: str) -> tuple[str, int]:
 
 
 def find_program() -> str | None:
-    """The built program: that of ICE_PROGRAM, of this clone, or of a release folder."""
-    named = os.environ.get("ICE_PROGRAM")
+    """The built program: the first of ICE_PROGRAMS, that of this clone, or of a release folder."""
+    named = os.environ.get("ICE_PROGRAMS", "").split(":")[0]
     is_clone = (ROOT / "crates").is_dir()
     program = Path(named or ROOT / ("crates/ice_cli/out/ice_cli" if is_clone else "ice"))
     return str(program.resolve()) if os.access(program, os.X_OK) else None
@@ -44,7 +44,7 @@ def find_program() -> str | None:
 
 PROGRAM = find_program()
 needs_program = unittest.skipUnless(
-    PROGRAM, "no built program is here: `./ice` builds one, or ICE_PROGRAM names it"
+    PROGRAM, "no built program is here: `./ice` builds one, or ICE_PROGRAMS names it"
 )
 
 
