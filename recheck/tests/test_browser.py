@@ -86,9 +86,10 @@ class Browser(unittest.TestCase):
         self.assertIn("<b>&.journal, 1696 bytes", shown)
         self.assertIn(hashlib.sha256(journal).hexdigest(), shown)
         self.assertIn("Nothing of it is proved", shown)
+        self.assertIn("The regret is 0, and the surplus 0/1.", shown)
         cells = [text for text in shown.split("|") if text.strip()]
         payments = cells[cells.index("choir") :][:8]
-        self.assertEqual(payments, ["choir", "1", "1", "0", "60", "5", "5/2", "115/2"])
+        self.assertEqual(payments, ["choir", "115/2", "60", "5", "5/2", "1", "1", "0"])
 
     def test_a_damaged_file_that_is_dropped(self):
         journal = (ROOT / "examples" / "hall-session.journal").read_bytes()
