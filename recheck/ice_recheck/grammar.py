@@ -6,7 +6,7 @@ from fractions import Fraction
 from math import gcd
 from typing import Any, Callable, NamedTuple
 
-LONGEST_NUMBER = 40  # characters: no range has a longer one
+LONGEST_LINE, LONGEST_NUMBER = 8192, 40  # characters: no record and no range has longer ones
 
 
 class NoRecord(Exception):
@@ -179,6 +179,7 @@ FORMS: dict[str, Form] = {
 def read_record(line: bytes) -> Record:
     """The record that a line without its newline is; NoRecord where it is none."""
     try:
+        demand(len(line) <= LONGEST_LINE)
         text = line.decode("ascii")
         demand(text.isprintable())
         words = text.split(" ")
