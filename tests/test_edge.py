@@ -1,12 +1,15 @@
 """Faults where the program meets the system: reads and writes that fail or come short, files that
 are none, change or go, and a standard output that takes nothing."""
+from __future__ import annotations
+
+import functools
 import os
 import resource
 import signal
 import subprocess
 import tempfile
 import unittest
-from collections.abc import Iterator, Sequence
+from collections.abc import Callable, Sequence
 from pathlib import Path
 from threading import Timer
 
@@ -25,20 +28,40 @@ def pieces(call: Call, output: bytes) -> Sequence[bytes]:
     return [lines[0], b"".join(lines[1:])] if call.command == "migrate" else lines
 
 
+def for_each_call(test: Callable[[Edge, Program, Call, Ran], None]) -> Callable[[Edge], None]:
+    """A test of each call by each build, with what it gives where nothing fails."""
+
+    @functools.wraps(test)
+    def whole_test(self: Edge) -> None:
+        for program in programs():
+            for call in CALLS.values():
+                with self.subTest(call.name, program=str(program)):
+                    test(self, program, call, program.run(call.words()))
+
+    return whole_test
+
+
+def for_each_file(
+    test: Callable[[Edge, Program, Call, int, Ran], None]
+) -> Callable[[Edge], None]:
+    """A test of each word of each call that names a file, by its place."""
+
+    @functools.wraps(test)
+    def whole_test(self: Edge, program: Program, call: Call, whole: Ran) -> None:
+        for place in call.files:
+            with self.subTest(place=place):
+                test(self, program, call, place, whole)
+
+    return for_each_call(whole_test)
+
+
 class Edge(unittest.TestCase):
-    """Each test goes over all builds and calls."""
+    """What the tests of faults share."""
 
     def setUp(self):
         folder = tempfile.TemporaryDirectory()
         self.addCleanup(folder.cleanup)
         self.folder = Path(folder.name)
-
-    def calls(self) -> Iterator[tuple[Program, Call, Ran]]:
-        """Each call by each build, with what it gives where nothing fails."""
-        for program in programs():
-            for call in CALLS:
-                with self.subTest(call.name, program=str(program)):
-                    yield program, call, program.run(call.words())
 
     def is_same(self, ran: Ran, due: Ran) -> None:
         """Tests that a run gave the same as another."""
@@ -68,28 +91,29 @@ class Edge(unittest.TestCase):
 class Writes(Edge):
     """Writes that fail or come short."""
 
-    def test_each_write_fails_after_no_byte_and_after_one(self):
-        for program, call, whole in self.calls():
-            front = b""
-            for number, piece in enumerate(pieces(call, whole.output), 1):
-                for taken in (0, 1):
-                    faults = edge(fail_write=number, after=taken)
-                    ran = program.run(call.words(), environment=faults)
-                    self.fails_to_write(ran, front + piece[:taken])
-                front += piece
+    @for_each_call
+    def test_each_write_fails_after_no_byte_and_after_one(self, program, call, whole):
+        front = b""
+        for number, piece in enumerate(pieces(call, whole.output), 1):
+            for taken in (0, 1):
+                faults = edge(fail_write=number, after=taken)
+                ran = program.run(call.words(), environment=faults)
+                self.fails_to_write(ran, front + piece[:taken])
+            front += piece
 
-    def test_each_write_takes_a_byte(self):
-        for program, call, whole in self.calls():
-            for size in (1, 7):
-                self.is_same(program.run(call.words(), environment=edge(short_write=size)), whole)
+    @for_each_call
+    def test_each_write_takes_a_byte(self, program, call, whole):
+        for size in (1, 7):
+            self.is_same(program.run(call.words(), environment=edge(short_write=size)), whole)
 
     def test_a_file_that_takes_no_more_bytes(self):
         # The system's own limit of a file's length, without a file in C: after each byte.
         for program in programs():
-            for call in (CALLS[0], CALLS[3], CALLS[9]):
+            for name in ("check, closed at once", "run, closed at once", "migrate"):
+                call = CALLS[name]
                 whole = program.run(call.words()).output
                 for size in range(0, len(whole), 1 + len(whole) // 50):
-                    with self.subTest(call.name, size=size, program=str(program)):
+                    with self.subTest(name, size=size, program=str(program)):
                         self.limited(program, call, whole, size)
 
     def limited(self, program: Program, call: Call, whole: bytes, size: int) -> None:
@@ -113,37 +137,37 @@ class Writes(Edge):
         self.assertEqual(ran.stdout, "")
         return ran.returncode, ran.stderr
 
-    def test_a_full_device(self):
-        for program, call, _ in self.calls():
-            self.assertEqual(self.status_onto(program, call, ">/dev/full"), (WRITE_FAULT, ""))
+    @for_each_call
+    def test_a_full_device(self, program, call, _):
+        self.assertEqual(self.status_onto(program, call, ">/dev/full"), (WRITE_FAULT, ""))
 
-    def test_an_output_that_is_closed(self):
-        for program, call, _ in self.calls():
-            self.assertEqual(self.status_onto(program, call, ">&-"), (WRITE_FAULT, ""))
+    @for_each_call
+    def test_an_output_that_is_closed(self, program, call, _):
+        self.assertEqual(self.status_onto(program, call, ">&-"), (WRITE_FAULT, ""))
 
-    def test_an_output_that_is_read_only(self):
-        for program, call, _ in self.calls():
-            self.assertEqual(self.status_onto(program, call, "1</dev/null"), (WRITE_FAULT, ""))
+    @for_each_call
+    def test_an_output_that_is_read_only(self, program, call, _):
+        self.assertEqual(self.status_onto(program, call, "1</dev/null"), (WRITE_FAULT, ""))
 
-    def test_a_pipe_whose_reader_went(self):
-        for program, call, _ in self.calls():
-            reader, writer = os.pipe()
-            os.close(reader)
-            ran = subprocess.run(
-                [program.path, *call.words()], stdout=writer, stderr=subprocess.PIPE
-            )
-            os.close(writer)
-            self.assertEqual((ran.returncode, ran.stderr), (WRITE_FAULT, b""))
+    @for_each_call
+    def test_a_pipe_whose_reader_went(self, program, call, _):
+        reader, writer = os.pipe()
+        os.close(reader)
+        ran = subprocess.run(
+            [program.path, *call.words()], stdout=writer, stderr=subprocess.PIPE
+        )
+        os.close(writer)
+        self.assertEqual((ran.returncode, ran.stderr), (WRITE_FAULT, b""))
 
-    def test_other_streams_that_are_closed(self):
-        for program, call, whole in self.calls():
-            for streams in ("<&-", "2>&-", "<&- 2>&-"):
-                words = ["sh", "-c", f'"$@" {streams}', "sh", program.path, *call.words()]
-                ran = subprocess.run(words, capture_output=True)
-                self.is_same(Ran(ran.returncode, ran.stdout, ran.stderr), whole)
+    @for_each_call
+    def test_other_streams_that_are_closed(self, program, call, whole):
+        for streams in ("<&-", "2>&-", "<&- 2>&-"):
+            words = ["sh", "-c", f'"$@" {streams}', "sh", program.path, *call.words()]
+            ran = subprocess.run(words, capture_output=True)
+            self.is_same(Ran(ran.returncode, ran.stdout, ran.stderr), whole)
 
     def test_a_signal_leaves_whole_lines(self):
-        call = next(call for call in CALLS if call.name == "run, with a round")
+        call = CALLS["run, with a round"]
         for program in programs():
             lines = program.run(call.words()).output.splitlines(keepends=True)
             for number in (1, 2, 20, len(lines)):
@@ -160,23 +184,23 @@ class Writes(Edge):
 class Reads(Edge):
     """Reads that fail or come short, and files that change meanwhile."""
 
-    def test_each_read_gives_few_bytes(self):
-        for program, call, whole in self.calls():
-            for size in (1, 7):
-                self.is_same(program.run(call.words(), environment=edge(short_read=size)), whole)
+    @for_each_call
+    def test_each_read_gives_few_bytes(self, program, call, whole):
+        for size in (1, 7):
+            self.is_same(program.run(call.words(), environment=edge(short_read=size)), whole)
 
-    def test_each_read_fails(self):
-        for program, call, whole in self.calls():
-            file = self.folder / "counts"
-            program.run(call.words(), environment=edge(counts=file, short_read=64))
-            reads = counts(file).reads
-            self.assertGreaterEqual(reads, len(call.files))
-            unread = []
-            for number in range(1, reads + 1):
-                ran = program.run(call.words(), environment=edge(fail_read=number, short_read=64))
-                unread.append(self.unread(call, ran, whole))
-            self.assertEqual(unread, sorted(unread), "files are read in their order")
-            self.assertEqual(sorted(set(unread)), list(range(1, len(call.files) + 1)))
+    @for_each_call
+    def test_each_read_fails(self, program, call, whole):
+        file = self.folder / "counts"
+        program.run(call.words(), environment=edge(counts=file, short_read=64))
+        reads = counts(file).reads
+        self.assertGreaterEqual(reads, len(call.files))
+        unread = []
+        for number in range(1, reads + 1):
+            ran = program.run(call.words(), environment=edge(fail_read=number, short_read=64))
+            unread.append(self.unread(call, ran, whole))
+        self.assertEqual(unread, sorted(unread), "files are read in their order")
+        self.assertEqual(sorted(set(unread)), list(range(1, len(call.files) + 1)))
 
     def test_a_file_that_changes_while_it_is_read(self):
         journal = self.folder / "journal"
@@ -200,7 +224,7 @@ class Reads(Edge):
     def test_files_that_go_between_two_rounds(self):
         # The exchange is read before the first line is written, and a round when it begins.
         for program in programs():
-            call = next(call for call in CALLS if call.name == "run, with a round")
+            call = CALLS["run, with a round"]
             whole = program.run(call.words())
             lines = whole.output.splitlines(keepends=True)
             names = [self.folder / name for name in ("exchange", "round")]
@@ -221,20 +245,14 @@ class Reads(Edge):
 
     def test_a_round_is_read_when_it_begins(self):
         # Each line is written as soon as it is known, those of a settlement before its round.
-        call = next(call for call in CALLS if call.name == "run, with a round")
+        call = CALLS["run, with a round"]
         pipe = self.folder / "pipe"
         os.mkfifo(pipe)
         _, exchange, bids = call.words()
         for program in programs():
             whole = program.run(call.words())
             front = whole.output[: whole.output.index(b"submit")]
-            child = subprocess.Popen(
-                [program.path, "run", exchange, pipe],
-                stdin=subprocess.DEVNULL,
-                stdout=subprocess.PIPE,
-                stderr=subprocess.PIPE,
-                bufsize=0,
-            )
+            child = program.start(["run", exchange, pipe])
             assert child.stdout is not None
             timer = Timer(SECONDS, child.kill)
             timer.start()
@@ -251,92 +269,80 @@ class Reads(Edge):
 class Files(Edge):
     """What a word may name instead of a file."""
 
-    def each_file(self) -> Iterator[tuple[Program, Call, list[str], int, Ran]]:
-        """Each word that names a file, by its place, with the words around it."""
-        for program, call, whole in self.calls():
-            for place in call.files:
-                yield program, call, list(call.words()), place, whole
-
-    def test_names_that_cannot_be_read(self):
-        link = self.folder / "link"
-        link.symlink_to(self.folder / "nowhere")
-        circle = self.folder / "circle"
-        circle.symlink_to(circle)
-        names = [
+    @for_each_file
+    def test_names_that_cannot_be_read(self, program, call, place, whole):
+        link, circle = self.folder / "link", self.folder / "circle"
+        for path, target in ((link, self.folder / "nowhere"), (circle, circle)):
+            path.unlink(missing_ok=True)
+            path.symlink_to(target)
+        for name in (
             "",
             "-",
-            str(self.folder),
-            str(self.folder / "absent"),
-            str(link),
-            str(circle),
+            self.folder,
+            self.folder / "absent",
+            link,
+            circle,
             "x" * 5000,
-            str(FILES / "sale.assign" / "inside"),
+            FILES / "sale.assign" / "inside",
             "/dev/stdin",
-        ]
-        for program, call, words, place, whole in self.each_file():
-            for name in names:
-                words[place] = name
-                closed = ["sh", "-c", '"$@" <&-', "sh", program.path, *words]
-                ran = subprocess.run(closed, capture_output=True)
-                number = self.unread(call, Ran(ran.returncode, ran.stdout, ran.stderr), whole)
-                self.assertEqual(number, place, name)
+        ):
+            words = call.words({place: name})
+            closed = ["sh", "-c", '"$@" <&-', "sh", program.path, *words]
+            ran = subprocess.run(closed, capture_output=True)
+            number = self.unread(call, Ran(ran.returncode, ran.stdout, ran.stderr), whole)
+            self.assertEqual(number, place, name)
 
     def test_a_file_without_leave(self):
-        if os.geteuid() == 0 and subprocess.run(
-            ["test", "-x", programs()[0].path], user=NOBODY
-        ).returncode:
-            self.skipTest("root reads every file, and nobody else can run the program")
+        is_root = os.geteuid() == 0
         closed = self.folder / "closed"
         closed.write_text(shared("sale.assign"))
         closed.chmod(0)
-        user = {"user": NOBODY} if os.geteuid() == 0 else {}
         self.folder.chmod(0o755)
         for program in programs():
             words = [program.path, "check", closed]
-            ran = subprocess.run(words, capture_output=True, **user)
+            try:
+                ran = subprocess.run(words, capture_output=True, user=NOBODY if is_root else None)
+            except PermissionError:
+                self.skipTest("root reads every file, and nobody else may run the program")
             self.assertEqual((ran.returncode, ran.stdout), (UNREAD, b"unread 1\n"))
 
-    def test_devices(self):
-        for program, call, words, place, _ in self.each_file():
-            words[place] = "/dev/null"
-            ran = program.run(words)
-            self.assertEqual((ran.status, ran.errors), (INPUT, b""))
-            self.assertRegex(ran.output.splitlines()[-1], b"^refused %d " % place)
+    @for_each_file
+    def test_an_empty_device(self, program, call, place, _):
+        ran = program.run(call.words({place: "/dev/null"}))
+        self.assertEqual((ran.status, ran.errors), (INPUT, b""))
+        self.assertRegex(ran.output.splitlines()[-1], b"^refused %d " % place)
 
     def test_a_device_that_never_ends(self):
-        for program in programs():
-            for call in (CALLS[0], CALLS[3], CALLS[4], CALLS[10]):
-                words = call.words()
-                words[-1] = "/dev/zero"
-                ran = program.run(words)
-                self.assertEqual(ran.status, INPUT)
-                self.assertEqual(ran.output.splitlines()[-1], b"refused %d 61 -" % (len(words) - 1))
+        for name in ("check, closed at once", "run, closed at once", "run, with a round", "best"):
+            call = CALLS[name]
+            last = call.files[-1]
+            for program in programs():
+                with self.subTest(name, program=str(program)):
+                    ran = program.run(call.words({last: "/dev/zero"}))
+                    self.assertEqual((ran.status, ran.errors), (INPUT, b""))
+                    self.assertEqual(ran.output.splitlines()[-1], b"refused %d 61 -" % last)
 
-    def test_pipes_and_links(self):
-        for program, call, words, place, whole in self.each_file():
-            link = self.folder / f"link-{place}"
-            link.unlink(missing_ok=True)
-            link.symlink_to(words[place])
-            pipe = self.folder / f"pipe-{place}"
-            pipe.unlink(missing_ok=True)
-            os.mkfifo(pipe)
-            self.is_same(program.run([*words[:place], link, *words[place + 1 :]]), whole)
-            data = Path(words[place]).read_bytes()
-            child = subprocess.Popen(
-                [program.path, *words[:place], pipe, *words[place + 1 :]],
-                stdin=subprocess.DEVNULL,
-                stdout=subprocess.PIPE,
-                stderr=subprocess.PIPE,
-            )
-            with pipe.open("wb", buffering=0) as writer:
-                for at in range(0, len(data), 1 + len(data) // 5):
-                    writer.write(data[at : at + 1 + len(data) // 5])
-            self.is_same(ended(child), whole)
+    @for_each_file
+    def test_links_and_pipes(self, program, call, place, whole):
+        link, pipe = self.folder / "link", self.folder / "pipe"
+        for path in (link, pipe):
+            path.unlink(missing_ok=True)
+        file = Path(call.words()[place])
+        link.symlink_to(file)
+        self.is_same(program.run(call.words({place: link})), whole)
+        os.mkfifo(pipe)
+        data = file.read_bytes()
+        part = 1 + len(data) // 5
+        child = program.start(call.words({place: pipe}))
+        with pipe.open("wb", buffering=0) as writer:
+            for at in range(0, len(data), part):
+                writer.write(data[at : at + part])
+        self.is_same(ended(child), whole)
 
-    def test_words_that_are_no_text(self):
-        for program, call, words, place, _ in self.each_file():
-            ran = program.run([*words[:place], b"caf\xe9", *words[place + 1 :]])
-            self.assertEqual((ran.status, ran.output), (WORDS, b"words refused\n"))
+    @for_each_file
+    def test_words_that_are_no_text(self, program, call, place, _):
+        ran = program.run(call.words({place: b"caf\xe9"}))
+        self.assertEqual((ran.status, ran.output), (WORDS, b"words refused\n"))
 
 
 if __name__ == "__main__":

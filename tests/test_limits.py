@@ -5,7 +5,7 @@ from pathlib import Path
 
 from harness import made
 from harness.cases import FILES, status_of
-from harness.program import DONE, programs
+from harness.program import DONE, IS_ALL, programs
 
 
 class Limits(unittest.TestCase):
@@ -140,6 +140,7 @@ class Limits(unittest.TestCase):
         self.answers(b"x" * made.JOURNAL_BYTES, "refused 1 51 1\n", *calls)
         self.answers(b"x" * (made.JOURNAL_BYTES + 1), "refused 1 61 -\n", *calls)
 
+    @unittest.skipUnless(IS_ALL, "long: ICE_TESTS=all tries it")
     def test_work_of_long_files(self):
         # Each is answered within a room and a time that stand here, whatever it is made of.
         million = 1_000_000
@@ -147,21 +148,20 @@ class Limits(unittest.TestCase):
         members = b"{" + b",".join(b'"%d":0' % n for n in range(million)) + b"}"
         steps = b"ice 2 regret\n" + b"near 0\n" * (made.JOURNAL_BYTES // 7 - 2)
         rows = b"ice 1 session\n" + b"verdict accepted\n" * (made.JOURNAL_BYTES // 17 - 1)
-        for name, data, output, calls, megabytes, seconds in (
-            ("zeros", zeros, "refused 1 2 -\n", ["regret", "xor"], 1000, 10),
-            ("members", members, "refused 1 2 -\n", ["regret", "xor"], 1000, 10),
-            ("a text", b'"' + b"x" * (16 * million) + b'"', "refused 1 2 -\n", ["regret", "xor"], 200, 10),
-            ("steps", steps, "no 2 order\n", ["check", "migrate"], 400, 30),
-            ("verdicts", rows, "no 2 order\n", ["check", "migrate"], 400, 30),
+        text = b'"' + b"x" * (16 * million) + b'"'
+        for name, data, output, commands, megabytes, seconds in (
+            ("zeros", zeros, "refused 1 2 -\n", ("regret", "xor"), 1000, 10),
+            ("members", members, "refused 1 2 -\n", ("regret", "xor"), 1000, 10),
+            ("a text", text, "refused 1 2 -\n", ("regret", "xor"), 200, 10),
+            ("steps", steps, "no 2 order\n", ("check", "migrate"), 600, 60),
+            ("verdicts", rows, "no 2 order\n", ("check", "migrate"), 600, 60),
         ):
             self.file.write_bytes(data)
-            del data
+            limits = {"room": megabytes << 20, "seconds": seconds}
             for program in filter(lambda made: made.keeps_to_room, programs()):
-                for command in calls:
+                for command in commands:
                     with self.subTest(name, command=command, program=str(program)):
-                        ran = program.run(
-                            [command, self.file], room=megabytes << 20, seconds=seconds
-                        )
+                        ran = program.run([command, self.file], **limits)
                         self.assertEqual(ran.output.decode(), output)
                         self.assertEqual((ran.status, ran.errors), (status_of(output), b""))
 

@@ -7,7 +7,10 @@ from pathlib import Path
 
 from harness.cases import Case, table, tables
 from harness.edge import edge
-from harness.program import Program, Ran, programs
+from harness.program import SECONDS, Program, Ran, programs
+
+# A run that opens a pipe that nobody writes to would wait for ever, and is ended after so long.
+PIPE_SECONDS = 10.0
 
 
 def run(program: Program, case: Case, folder: Path) -> Ran:
@@ -16,8 +19,12 @@ def run(program: Program, case: Case, folder: Path) -> Ran:
     for name in case.pipes:
         os.mkfifo(Path(folder, name))
     failing = case.write
-    environment = edge(fail_write=failing[0], after=failing[1]) if failing else None
-    return program.run(words, folder=folder, environment=environment)
+    return program.run(
+        words,
+        folder=folder,
+        environment=edge(fail_write=failing[0], after=failing[1]) if failing else None,
+        seconds=PIPE_SECONDS if case.pipes else SECONDS,
+    )
 
 
 class Rows(unittest.TestCase):

@@ -1,10 +1,14 @@
 """Calls of each command that the walks make: one that is answered at once, and more that go on."""
 from __future__ import annotations
 
-from collections.abc import Sequence
+from collections.abc import Mapping, Sequence
 from dataclasses import dataclass
+from pathlib import Path
 
 from harness.cases import FILES
+
+
+Word = str | bytes | Path
 
 
 @dataclass(frozen=True)
@@ -14,9 +18,13 @@ class Call:
     name: str
     text: str
 
-    def words(self) -> Sequence[str]:
-        """The words, with the paths of files."""
-        return [str(FILES / word[1:]) if word[0] == "@" else word for word in self.text.split()]
+    def words(self, other: Mapping[int, Word] | None = None) -> list[Word]:
+        """The words, with the paths of files, and with others at some places."""
+        texts = enumerate(self.text.split())
+        return [
+            (other or {}).get(place, FILES / text[1:] if text[0] == "@" else text)
+            for place, text in texts
+        ]
 
     @property
     def command(self) -> str:
@@ -29,19 +37,22 @@ class Call:
         return [place for place, word in enumerate(self.text.split()) if word[0] == "@"]
 
 
-CALLS = [
-    Call("check, closed at once", "check @sale.session"),
-    Call("check, with a round", "check @rounds.session"),
-    Call("check, at fault", "check @unmatched.assign"),
-    Call("run, closed at once", "run @sale.exchange"),
-    Call("run, with a round", "run @tightened.exchange @eight.round"),
-    Call("run, open", "run @tightened.exchange @none.round @none.round"),
-    Call("run, at a limit", "run @limit.exchange"),
-    Call("regret", "regret @choice.exchange"),
-    Call("replay", "replay @rounds.session 1"),
-    Call("migrate", "migrate @sale.session"),
-    Call("best", "best @sale.json @fifteen.prices"),
-    Call("xor", "xor @sales.json"),
-    Call("gen", "gen 7"),
-    Call("other words", "verify"),
-]
+CALLS = {
+    call.name: call
+    for call in (
+        Call("check, closed at once", "check @sale.session"),
+        Call("check, with a round", "check @rounds.session"),
+        Call("check, at fault", "check @unmatched.assign"),
+        Call("run, closed at once", "run @sale.exchange"),
+        Call("run, with a round", "run @tightened.exchange @eight.round"),
+        Call("run, open", "run @tightened.exchange @none.round @none.round"),
+        Call("run, at a limit", "run @limit.exchange"),
+        Call("regret", "regret @choice.exchange"),
+        Call("replay", "replay @rounds.session 1"),
+        Call("migrate", "migrate @sale.session"),
+        Call("best", "best @sale.json @fifteen.prices"),
+        Call("xor", "xor @sales.json"),
+        Call("gen", "gen 7"),
+        Call("other words", "verify"),
+    )
+}

@@ -18,6 +18,9 @@ SOURCES = ("src", "specs", "proofs")
 # After so many seconds a run is ended, and its test fails.
 SECONDS = 60.0
 
+# Whether all is tested: every request of long runs, and the work of the longest files.
+IS_ALL = os.environ.get("ICE_TESTS") == "all"
+
 # The exit statuses of the program, by what they say.
 DONE, WORDS, INPUT, NO, SPENT, LIMIT, UNREAD, WRITE_FAULT, NO_MEMORY, OPEN = range(10)
 
@@ -72,17 +75,24 @@ class Program:
         """Whether it can be held to a room: one that watches its memory takes all at once."""
         return self.run([], room=1 << 32).status == WORDS
 
-    def stopped(
-        self, words: Sequence[str | Path], environment: Mapping[str, str]
+    def start(
+        self, words: Iterable[str | Path | bytes], environment: Mapping[str, str] | None = None
     ) -> subprocess.Popen[bytes]:
-        """A run that stops itself, and is stopped now."""
-        child = subprocess.Popen(
+        """A run that has begun."""
+        return subprocess.Popen(
             [self.path, *words],
-            env={**os.environ, **environment},
+            env={**os.environ, **(environment or {})},
             stdin=subprocess.DEVNULL,
             stdout=subprocess.PIPE,
             stderr=subprocess.PIPE,
+            bufsize=0,
         )
+
+    def stopped(
+        self, words: Iterable[str | Path | bytes], environment: Mapping[str, str]
+    ) -> subprocess.Popen[bytes]:
+        """A run that stops itself, and is stopped now."""
+        child = self.start(words, environment)
         _, how = os.waitpid(child.pid, os.WUNTRACED)
         if not os.WIFSTOPPED(how):
             child.returncode = os.waitstatus_to_exitcode(how)

@@ -1,0 +1,110 @@
+"""Want of memory: each request of a run refused in turn, alone and with all behind it, and limits
+of the system on what a run may have."""
+import re
+import tempfile
+import unittest
+from collections.abc import Iterator, Sequence
+from pathlib import Path
+
+from harness.calls import CALLS, Word
+from harness.edge import Counts, counts, edge
+from harness.program import IS_ALL, NO_MEMORY, ROOT, Program, Ran, programs
+
+EXAMPLES = ROOT / "examples"
+
+# Commands that write a journal as it is found, so that its front stands where memory is wanted.
+GROWING = ("run", "regret")
+
+GENERATED = [EXAMPLES / "generated.json", EXAMPLES / "generated.truth.json"]
+
+
+def calls() -> Iterator[tuple[str, Sequence[Word]]]:
+    """The calls whose requests are refused: all of the shared ones, and a generated market."""
+    for call in CALLS.values():
+        yield call.name, call.words()
+    yield "run, generated", ["run", *GENERATED]
+
+
+class Memory(unittest.TestCase):
+    """Each test goes over all builds."""
+
+    def setUp(self):
+        folder = tempfile.TemporaryDirectory()
+        self.addCleanup(folder.cleanup)
+        self.file = Path(folder.name, "counts")
+
+    def counts(self, program: Program, words: Sequence[Word]) -> Counts:
+        """What a run counts. A build with an allocator of its own makes no request."""
+        program.run(words, environment=edge(counts=self.file))
+        found = counts(self.file)
+        if found.requests == 0:
+            self.skipTest(f"{program} asks for memory in another way")
+        return found
+
+    def is_front(self, ran: Ran, whole: Ran, command: str) -> None:
+        """Tests that a run ended for want of memory, and wrote what belongs to that."""
+        self.assertEqual((ran.status, ran.errors), (NO_MEMORY, b""), str(ran))
+        if command not in GROWING:
+            self.assertEqual(ran.output, b"")
+        self.assertTrue(whole.output.startswith(ran.output), str(ran))
+        self.assertTrue(ran.output == b"" or ran.output.endswith(b"\n"), str(ran))
+        self.assertLess(len(ran.output), len(whole.output), "a stop stands in it")
+
+    def walk(self, words: Sequence[Word], step: int, **variables: int) -> None:
+        """Refuses requests of a call in turn, each at a run of its own."""
+        for program in programs():
+            whole = program.run(words)
+            count = self.counts(program, words).requests
+            wanted = 0
+            for number in range(1, count + 1, step):
+                with self.subTest(" ".join(map(str, words)), number=number, program=str(program)):
+                    ran = program.run(words, environment=edge(fail_memory=number, **variables))
+                    # Room that an iterator's hint asks for is asked for again, as it is needed.
+                    if variables or (ran.status, ran.output) != (whole.status, whole.output):
+                        self.is_front(ran, whole, str(words[0]))
+                        wanted += 1
+            self.assertGreater(wanted, 0)
+
+    def test_each_request_alone(self):
+        for name, words in calls():
+            self.walk(words, self.step(name))
+
+    def test_each_request_and_all_behind_it(self):
+        for name, words in calls():
+            self.walk(words, self.step(name), fail_on=1)
+
+    def step(self, name: str) -> int:
+        """Every request is refused of most calls, and of the long ones where all is tested."""
+        return 1 if IS_ALL or name not in ("gen", "run, generated") else 10
+
+    def test_limits_of_the_system(self):
+        for program in filter(lambda made: made.keeps_to_room, programs()):
+            for name, words in calls():
+                with self.subTest(name, program=str(program)):
+                    self.limited(program, words)
+
+    def limited(self, program: Program, words: Sequence[Word]) -> None:
+        """Runs a call with ten limits of its room, from what a run wants that refuses its words to
+        what the call wants."""
+        whole = program.run(words)
+        least, most = peak(program, [], 1), peak(program, words, self.counts(program, words).writes)
+        for tenth in range(1, 11):
+            room = least + (most - least) * tenth // 10
+            ran = program.run(words, room=room)
+            if (ran.status, ran.output) != (whole.status, whole.output):
+                self.is_front(ran, whole, str(words[0]))
+
+
+def peak(program: Program, words: Sequence[Word], writes: int) -> int:
+    """The bytes of addresses that a run had at most, as it begins the last of its writes."""
+    child = program.stopped(words, edge(stop_write=writes))
+    status = Path(f"/proc/{child.pid}/status").read_text()
+    child.kill()
+    child.communicate()
+    found = re.search(r"VmPeak:\s*([0-9]+) kB", status)
+    assert found is not None
+    return int(found[1]) * 1024
+
+
+if __name__ == "__main__":
+    unittest.main()
