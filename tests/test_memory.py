@@ -4,6 +4,7 @@ import re
 import tempfile
 import unittest
 from collections.abc import Iterator, Sequence
+from dataclasses import dataclass
 from pathlib import Path
 
 from harness.calls import CALLS, Word
@@ -87,23 +88,31 @@ class Memory(unittest.TestCase):
         """Runs a call with ten limits of its room, from what a run wants that refuses its words to
         what the call wants."""
         whole = program.run(words)
-        least, most = peak(program, [], 1), peak(program, words, self.counts(program, words).writes)
+        least = usage(program, [], 1)
+        most = usage(program, words, self.counts(program, words).writes)
         for tenth in range(1, 11):
-            room = least + (most - least) * tenth // 10
+            room = least.data + (most.peak - least.peak) * tenth // 10
             ran = program.run(words, room=room)
             if (ran.status, ran.output) != (whole.status, whole.output):
                 self.is_front(ran, whole, str(words[0]))
 
 
-def peak(program: Program, words: Sequence[Word], writes: int) -> int:
-    """The bytes of addresses that a run had at most, as it begins the last of its writes."""
+@dataclass(frozen=True)
+class Usage:
+    """The bytes that a run has for its data, and those of all its addresses at most so far."""
+
+    data: int
+    peak: int
+
+
+def usage(program: Program, words: Sequence[Word], writes: int) -> Usage:
+    """What a run has as it begins the last of its writes."""
     child = program.stopped(words, edge(stop_write=writes))
     status = Path(f"/proc/{child.pid}/status").read_text()
     child.kill()
     child.communicate()
-    found = re.search(r"VmPeak:\s*([0-9]+) kB", status)
-    assert found is not None
-    return int(found[1]) * 1024
+    sizes = dict(re.findall(r"^(Vm\w+):\s*([0-9]+) kB$", status, re.MULTILINE))
+    return Usage(int(sizes["VmData"]) * 1024, int(sizes["VmPeak"]) * 1024)
 
 
 if __name__ == "__main__":

@@ -58,7 +58,8 @@ class Program:
         seconds: float = SECONDS,
     ) -> Ran:
         """Runs the program on these words, in a folder, with these variables besides its own, and
-        where a room is given with so many bytes of addresses."""
+        where a room is given with so many bytes of memory besides its stack: a stack that can't
+        grow ends every program by a signal."""
         ran = subprocess.run(
             [self.path, *words],
             cwd=folder,
@@ -66,14 +67,14 @@ class Program:
             stdin=subprocess.DEVNULL,
             capture_output=True,
             timeout=seconds,
-            preexec_fn=None if room is None else partial(limit, resource.RLIMIT_AS, room),
+            preexec_fn=None if room is None else partial(limit, resource.RLIMIT_DATA, room),
         )
         return Ran(ran.returncode, ran.stdout, ran.stderr)
 
     @functools.cached_property
     def keeps_to_room(self) -> bool:
         """Whether it can be held to a room: one that watches its memory takes all at once."""
-        return self.run([], room=1 << 32).status == WORDS
+        return self.run([], room=1 << 30).status == WORDS
 
     def start(
         self, words: Iterable[str | Path | bytes], environment: Mapping[str, str] | None = None
@@ -113,19 +114,21 @@ def ended(child: subprocess.Popen[bytes]) -> Ran:
 
 @functools.cache
 def programs() -> Sequence[Program]:
-    """The builds that are tested: those that ICE_PROGRAMS names, with colons between, or else
-    the one that the launcher and the gate leave, and the gate's second one where it is there."""
+    """The builds that are tested: those that ICE_PROGRAMS names, with colons between, or else the
+    one that the launcher and the gate leave, and the gate's second one where it is current."""
     named = os.environ.get("ICE_PROGRAMS")
     paths = list(map(Path, named.split(":"))) if named else [ROOT / path for path in BUILDS]
-    found = [path.resolve() for path in paths if path.exists()]
-    if not found or (named and len(found) < len(paths)):
-        raise RuntimeError(
-            "no program at " + " ".join(map(str, paths)) + ": build it by ./ice check FILE, or name"
-            " one in ICE_PROGRAMS"
-        )
-    if not named and (changed := newer_source(found[0])):
-        raise RuntimeError(f"{changed.relative_to(ROOT)} is newer than the program: build it anew")
-    return [Program(path) for path in found]
+    first, *others = paths
+    for path in paths if named else [first]:
+        if not path.exists():
+            raise RuntimeError(
+                f"no program at {path}: build it by ./ice check FILE, or name one in ICE_PROGRAMS"
+            )
+    if not named:
+        if changed := newer_source(first):
+            raise RuntimeError(f"{changed} is newer than the program: build it anew")
+        others = [path for path in others if path.exists() and not newer_source(path)]
+    return [Program(path.resolve()) for path in (first, *others)]
 
 
 def newer_source(program: Path) -> Path | None:
