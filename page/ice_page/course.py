@@ -36,7 +36,8 @@ REASONS = {
     ),
     "43": (
         "tightened too little",
-        "what its provisional set may lack must fall by {} or vanish (second rule)",
+        "what it may lack by its provisional set must fall by {} or vanish, unless another set is "
+        "sure to leave more than that (second rule)",
     ),
     "44": ("came again", "a bid of this bidder was accepted in this round before"),
     "45": ("unknown name", "no bidder of the exchange has it"),
