@@ -144,9 +144,9 @@ class Limits(unittest.TestCase):
     def test_work_of_long_files(self):
         # Each is answered within a room and a time that stand here, whatever it is made of.
         million = 1_000_000
-        zeros = b"[" + b"0," * (made.EXCHANGE_BYTES // 2 - 1) + b"0]"
+        zeros = b"[" + b"0," * (made.EXCHANGE_BYTES // 2 - 2) + b"0]"
         members = b"{" + b",".join(b'"%d":0' % n for n in range(million)) + b"}"
-        steps = b"ice 2 regret\n" + b"near 0\n" * (made.JOURNAL_BYTES // 7 - 2)
+        steps = b"ice 1 regret\n" + b"near 0\n" * (made.JOURNAL_BYTES // 7 - 2)
         rows = b"ice 1 session\n" + b"verdict accepted\n" * (made.JOURNAL_BYTES // 17 - 1)
         text = b'"' + b"x" * (16 * million) + b'"'
         for name, data, output, commands, megabytes, seconds in (
