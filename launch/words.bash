@@ -140,7 +140,7 @@ what_stands() {
         text=$(sed -n "${place}{p;q}" "$file" 2>/dev/null | cut -c1-60 | cat -v)
         [ -z "$text" ] || printf " \`%s\`" "$text"
     elif command -v python3 >/dev/null; then
-        python3 -I "${BASH_SOURCE[0]%/*}/value_at" "$file" "$number" "$place" 2>/dev/null
+        python3 -I "${BASH_SOURCE[0]%/*}/value_at" "$file" "$number" "$place" "${words[0]}" 2>/dev/null
     fi
 }
 
@@ -154,6 +154,9 @@ refused() {
     name=$(name_of "$file" | tr -d '\n')
     stands=$(what_stands "${words[$file]}" "$number" "$place")
     words_of=$(fault "$number" "${words[0]}")
+    case $number$stands in
+    "2 "*"has flat bids") words_of="\`ice xor\` makes an exchange of them first" ;;
+    esac
     case $place in
     -) echo "$name is refused: $words_of$stands (number $number)" ;;
     *[!0-9]*) echo "$name is refused: $place$stands: $words_of (number $number)" ;;

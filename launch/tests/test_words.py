@@ -1,6 +1,7 @@
 """Tests of the launcher's line of words, with a stand-in for the program."""
 from __future__ import annotations
 
+import json
 import os
 import pathlib
 import pty
@@ -76,6 +77,25 @@ class Words(unittest.TestCase):
         self.assertIn(': bidders.0.own "dy": a good is named that isn\'t there', self.refused(5, "bidders.0.own"))
         self.assertIn(": bidders.0 \"B\u00e4cker\": its bids may sell more", self.refused(14, "bidders.0", "xor", "market.json"))
         self.assertEqual(self.refused(16, "-"), "market.json is refused: an exchange has at least one good and one bidder (number 16)")
+
+    def test_flat_bids_want_xor_first(self):
+        packages = TOP / "examples/packages.json"
+        shutil.copy(packages, self.top / "flat.json")
+        told = 'flat.json is refused: bidders.0 "regulator" has flat bids: `ice xor` makes an exchange of them first (number 2)'
+        for words in (("run", "flat.json"), ("run", "flat.json", "r1"), ("regret", "flat.json"), ("best", "flat.json", "p")):
+            self.assertEqual(self.refused(2, "bidders.0", *words), told)
+        market = json.loads(packages.read_text())
+        (self.top / "flat.json").write_text(json.dumps({**market, "bidders": [{"own": {}, "or": []}]}))
+        self.assertEqual(self.refused(2, "bidders.0", "run", "flat.json"), told.replace(' "regulator"', ""))
+        other = "not of the form that belongs here (number 2)"
+        for bidder, command, place in [
+            ({"name": "a", "own": {}, "xor": [], "note": 1}, "xor", "bidders.0"),  # `xor` takes flat bids
+            ({"name": "a", "own": {}, "tree": 7}, "run", "bidders.1"),  # trees among them: `xor` takes none
+            ({"name": "a", "own": {}, "or": [{"lo": 1, "hi": 2}]}, "xor", "bidders.0.or.0"),
+        ]:
+            (self.top / "flat.json").write_text(json.dumps({**market, "bidders": [bidder, *market["bidders"]]}))
+            told = self.refused(2, place, command, "flat.json")
+            self.assertTrue(told.endswith(other), told)
 
     def test_a_fault_of_a_round_names_its_file(self):
         (self.top / "bom.json").write_bytes(b"\xef\xbb\xbf{}")
