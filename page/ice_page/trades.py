@@ -20,6 +20,7 @@ from .markup import (
     tag,
     text,
 )
+from .sellers import sellers_part
 from .view import View
 
 NARROW_NAMES = 4
@@ -40,6 +41,7 @@ def trades_part(view: View) -> str:
     return (
         (Payments(view, listed).whole() if view.journal.payments else short_list(view, listed))
         + Matrix(view, listed).whole()
+        + sellers_part(view)
         + key(others, odds if doesnt_add_up(view) else "")
     )
 
@@ -177,17 +179,22 @@ class Payments:
         """What the columns mean."""
         unit = f", in{self.view.with_unit}" if self.view.unit else ""
         trading = [number for number, units in enumerate(self.view.units) if any(units)]
-        none = sum(not self.payments[number].discount for number in trading)
         return key(
             f"worth: the set’s lower values{unit}",
             "adds: what the total would lack without it (its Vickrey discount)",
             "keeps: what it adds less the cut",
             "who pays a negative amount receives it",
-            f"{none} of the {len(trading)} that trade keep nothing: they pay the whole lower value "
-            "of their sets"
-            if none
-            else "",
+            self.without_discount(trading),
         )
+
+    def without_discount(self, trading: list[int]) -> str:
+        """How many of those that trade have a discount of 0, in words; nothing where none has."""
+        none = sum(not self.payments[number].discount for number in trading)
+        keep, whole = "keep", "they pay the whole lower value of their sets"
+        if none == 1:
+            keep, whole = "keeps", "it pays the whole lower value of its set"
+        says = f"{none} of the {len(trading)} that trade {keep} nothing (a discount of 0): {whole}"
+        return says if none else ""
 
 
 class Matrix:

@@ -323,10 +323,15 @@ class ByHand(unittest.TestCase):
                 "sell A; worth −15, adds 1, keeps 0.5 (1/2)",
             ],
         )
-        self.assertNotIn("keep nothing", page.root.seen())
+        self.assertNotIn("a discount of 0", page.root.seen())
         # Of the airport's seven that trade the cut of 194.75 is above what three add.
         words = page_of(sample("airport-slots.session")).root.seen()
-        self.assertIn("3 of the 7 that trade keep nothing: they pay the whole lower value", words)
+        nothing = "3 of the 7 that trade keep nothing (a discount of 0): they pay the whole lower"
+        self.assertIn(nothing, words)
+        paid = ("payment b 1 1/2 31/2", "payment b 0 0/1 16/1")
+        one = page_of(sample("two-settlements.session").replace(*paid)).root.seen()
+        nothing = "1 of the 2 that trade keeps nothing (a discount of 0): it pays the whole lower"
+        self.assertIn(nothing, one)
 
     def test_course(self):
         page = self.page()
