@@ -107,7 +107,8 @@ class Bid(NamedTuple):
 class Settlement:
     """A settlement: bounds of each bidder, searches, prices, and the bids that followed.
 
-    Of the bidder whose bids are kept, `kept` has them in their order: at most 400.
+    Of the bidder whose bids are kept, `kept` has them in their order: at most 400. `tries` has the
+    last refused bid of each bidder, in the last settlement behind which any was refused.
     """
 
     number: int
@@ -118,6 +119,7 @@ class Settlement:
     rows: tuple[int, int] = (0, 0)
     bids: Counter[Judged] = field(default_factory=Counter)
     kept: list[Bid] = field(default_factory=list)
+    tries: dict[int, Bid] = field(default_factory=dict)
 
     def group(self, seeks: str) -> Group | None:
         """The search of this kind that was done to its end."""
@@ -407,9 +409,24 @@ class Reader:
                 name = name if name in unknown else "others"
             number = verdict.head.partition(" ")[2]
             settlement.bids[Judged(bidder, number, name, *verdict.fields)] += 1
-            if name == self.kept and bidder is not None and len(settlement.kept) < MOST_KEPT:
-                settlement.kept.append(Bid(low, high, number, *verdict.fields))
+            if not accepted:
+                self.forget_tries()
+            if bidder is not None:
+                self.keep(settlement, bidder, Bid(low, high, number, *verdict.fields))
         return bounds
+
+    def forget_tries(self) -> None:
+        """Leaves out the last tries of earlier rounds."""
+        for earlier in self.journal.settlements[:-1]:
+            earlier.tries.clear()
+
+    def keep(self, settlement: Settlement, bidder: int, bid: Bid) -> None:
+        """Keeps a bid, if it is of the one bidder or the last try of its bidder so far."""
+        if bid.verdict != "accepted":
+            settlement.tries[bidder] = bid
+        name = self.journal.bidders[bidder].name
+        if name == self.kept and len(settlement.kept) < MOST_KEPT:
+            settlement.kept.append(bid)
 
 
 def read_journal(lines: Lines, kept: str | None = None) -> Journal:

@@ -10,6 +10,7 @@ from .course import course_section
 from .markup import key, tag, text
 from .own import bids_section, nets_section
 from .trees import trees_section
+from .tries import tries_part
 from .view import View
 
 STYLES = Path(__file__).with_name("page.css")
@@ -53,7 +54,7 @@ def whole_page(view: View) -> str:
         answer_section(view),
         nets_section(view),
         bids_section(view),
-        course_section(view),
+        course_section(view) + tries_part(view),
         trees_section(view),
         certificates_section(view),
     )
