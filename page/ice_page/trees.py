@@ -19,6 +19,7 @@ LEAST_LEFT = 170
 BROAD = 600
 STEP = 10
 WRAP = 44
+MOST_ODD = 6
 
 
 class Line(NamedTuple):
@@ -55,6 +56,11 @@ class TreeDrawing:
         self.idle = [not any(each) for each in values]
         self.lines = self.all_lines()
         self.spans = list(map(words.interval, self.low, self.high))
+        valued = [item for item in self.lines if not self.idle[item.node.number]]
+        self.is_told = len(valued) == 1
+        if self.is_told:
+            number = valued[0].node.number
+            self.spans[number] = self.stated(valued[0], self.low[number], self.high[number])
         self.left = max([LEAST_LEFT, *map(self.extent, self.lines)])
         self.width = self.left + INTERVAL + 14 + LETTER * max(map(len, self.spans))
         lowest = min(0, *self.low0)
@@ -104,6 +110,25 @@ class TreeDrawing:
                 plain = choice(node) if node.kind == "choose" else f"{node.kind} {self.leaf(node)}"
                 found.append(Line(node, [plain], ""))
         return found
+
+    def side(self, item: Line) -> str:
+        """Whether a row only sells or only buys, and its value stands alone: no node above has one.
+
+        Gives nothing where that isn't so.
+        """
+        inside = item.node.children if item.note else [item.node.number]
+        kinds = {self.nodes[number].kind for number in inside}
+        up = item.node.up
+        while up is not None and self.idle[up]:
+            up = self.nodes[up].up
+        if up is not None or len(kinds) > 1 or "choose" in kinds:
+            return ""
+        return kinds.pop()
+
+    def stated(self, item: Line, low: int, high: int) -> str:
+        """An interval of a row: in words where its value stands alone, and else as numbers."""
+        side = self.side(item)
+        return words.stake(side, low, high) if side else words.interval(low, high)
 
     def whole(self) -> str:
         """The drawing, in slices that fit on a sheet of paper."""
@@ -239,15 +264,37 @@ def gets(view: View, number: int) -> str:
     return f"{trade}; {verb} <b>{exact(abs(payment))}</b>"
 
 
+def shortened(opening: str, now: str) -> str:
+    """The words of an opening interval without those that stand before the present one."""
+    for begins in (words.WANTS, words.PAYS):
+        if opening.startswith(begins) and now.startswith(begins):
+            return opening.removeprefix(begins)
+    return opening
+
+
+def against_the_sign(drawing: TreeDrawing) -> str:
+    """Sales above 0 and purchases below 0, in words, where the drawing has numbers alone."""
+    found = []
+    for item in drawing.lines:
+        number, side = item.node.number, drawing.side(item)
+        low, high = drawing.low[number], drawing.high[number]
+        if side and not drawing.is_told and (high > 0 if side == "sell" else low < 0):
+            found.append(f'“{" ".join(item.words)}” (node {number}) {words.stake(side, low, high)}')
+    if len(found) > MOST_ODD:
+        found[MOST_ODD:] = [f"{numbers.whole(len(found) - MOST_ODD)} more"]
+    says = f"Against the usual sign: {words.listed(found)}." if found else ""
+    return tag("p", text(says), class_="wider soft") if says else ""
+
+
 def outline(drawing: TreeDrawing) -> str:
     """The tree as lines of words, for narrow screens."""
     rows = []
     for place, item in enumerate(drawing.lines):
         number, taken = item.node.number, bool(drawing.look(place))
-        opening = words.interval(drawing.low0[number], drawing.high0[number])
-        now = drawing.spans[number]
+        opening = drawing.stated(item, drawing.low0[number], drawing.high0[number])
+        now = drawing.stated(item, drawing.low[number], drawing.high[number])
         value = "" if drawing.idle[number] else f": {now}"
-        was = f" (opening: {opening})" if value and opening != now else ""
+        was = f" (opening: {shortened(opening, now)})" if value and opening != now else ""
         node = f'{"●" if taken else "○"} {number} {" ".join(item.words)}{item.note}{value}'
         body = text(node) + (tag("span", was, class_="soft") if was else "")
         style = f"padding-left:{6 + STEP * item.node.depth}px"
@@ -265,6 +312,7 @@ def card(view: View, number: int) -> str:
         tag("h3", text(bidder.name)),
         tag("div", gets(view, number)),
         why,
+        against_the_sign(drawing),
         tag("div", drawing.whole(), class_="wider"),
         outline(drawing),
     ]
@@ -279,7 +327,7 @@ def trees_section(view: View) -> str:
         + key(
             "a node has its number, and is filled where it trades",
             "a bundle takes one row, its leaves’ numbers in brackets",
-            "sales have negative values",
+            "sales have negative values, where no words say what they want",
             *(
                 tag("span", part, class_="wider")
                 for part in (

@@ -9,6 +9,9 @@ from . import numbers
 from .journal import Good, Journal
 
 
+WANTS, PAYS = "wants at least ", "pays up to "
+
+
 def trade(units: Sequence[int], goods: Sequence[Good]) -> str:
     """What a set buys and sells, such as `buy 2 ham-mon + ver-tue; sell crane`."""
     sides = []
@@ -37,6 +40,19 @@ def places(bits: str) -> str:
 def interval(low: int, high: int) -> str:
     """An interval of values."""
     return numbers.whole(low) if low == high else f"{numbers.whole(low)}..{numbers.whole(high)}"
+
+
+def stake(side: str, low: int, high: int) -> str:
+    """An interval of the value of a sale or a purchase by itself, as what its bidder will do.
+
+    Such as `wants at least 500` of a sale at -500, and `pays up to 500` of a purchase at 500.
+    """
+    take, rid = ("", " to be rid of it") if side == "sell" else (" to take it", "")
+    if low >= 0 and (high or side == "buy"):
+        return f"{PAYS}{interval(low, high)}{rid}"
+    if high <= 0:
+        return f"{WANTS}{interval(-high, -low)}{take}"
+    return f"{WANTS}{numbers.whole(-low)}{take}, or {PAYS}{numbers.whole(high)}{rid}"
 
 
 def amount(number: Fraction | int) -> str:

@@ -69,7 +69,7 @@ class OnScreens(unittest.TestCase):
             self.assertIn("716.75", words)
             self.assertEqual(trade in words, shown)
             self.assertEqual("+2" in words, not shown)
-            self.assertEqual("● 1 buy dep-0630: 300 (opening: 190..330)" in words, shown)
+            self.assertEqual("● 1 buy dep-0630: pays up to 300 (opening: 190..330)" in words, shown)
 
     def test_prices_on_a_phone(self):
         small = self.found[PHONE, False]["Meridian, open"]["words"]
