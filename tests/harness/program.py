@@ -4,6 +4,7 @@ from __future__ import annotations
 import functools
 import os
 import resource
+import signal
 import subprocess
 from collections.abc import Iterable, Mapping, Sequence
 from dataclasses import dataclass
@@ -79,7 +80,7 @@ class Program:
     def start(
         self, words: Iterable[str | Path | bytes], environment: Mapping[str, str] | None = None
     ) -> subprocess.Popen[bytes]:
-        """A run that has begun."""
+        """A run that has begun, and hears signals even where those that test don't (nohup)."""
         return subprocess.Popen(
             [self.path, *words],
             env={**os.environ, **(environment or {})},
@@ -87,6 +88,7 @@ class Program:
             stdout=subprocess.PIPE,
             stderr=subprocess.PIPE,
             bufsize=0,
+            preexec_fn=hear_signals,
         )
 
     def stopped(
@@ -99,6 +101,12 @@ class Program:
             child.returncode = os.waitstatus_to_exitcode(how)
             raise AssertionError(f"the run wasn't stopped: {ended(child)}")
         return child
+
+
+def hear_signals() -> None:
+    """Has this process, and so its program, end at the signals that a parent may have ignored."""
+    for ending in (signal.SIGTERM, signal.SIGINT, signal.SIGHUP):
+        signal.signal(ending, signal.SIG_DFL)
 
 
 def limit(what: int, most: int) -> None:
