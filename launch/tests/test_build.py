@@ -27,6 +27,12 @@ ice_other: ice_a
 PROGRAM = "#!/bin/sh\necho answer \"$@\"\nexit 0\n"
 
 
+def hear_signals() -> None:
+    """Has the launcher hear what a caller of these tests may ignore, as nohup does: bash traps no signal that it was told to ignore."""
+    for number in (signal.SIGTERM, signal.SIGINT, signal.SIGHUP):
+        signal.signal(number, signal.SIG_DFL)
+
+
 class Build(unittest.TestCase):
     """Each test has a checkout of its own."""
 
@@ -50,7 +56,7 @@ class Build(unittest.TestCase):
 
     def start(self, **settings: str) -> subprocess.Popen:
         """Starts the launcher with these settings."""
-        how = {"stdout": subprocess.PIPE, "stderr": subprocess.PIPE, "stdin": subprocess.DEVNULL, "text": True}
+        how = {"stdout": subprocess.PIPE, "stderr": subprocess.PIPE, "stdin": subprocess.DEVNULL, "text": True, "preexec_fn": hear_signals}
         return subprocess.Popen([self.top / "ice", "one", "two words"], env={**self.where, **settings}, **how)
 
     def launch(self, **settings: str) -> tuple[int, str, str]:
