@@ -229,10 +229,12 @@ def reason(view: View, number: int) -> str:
     whose, whom, ending = ("Your", "You", "") if view.alone else ("Its", "It", "s")
     says = f"{whose} set is worth {numbers.whole(view.worths[number])} at lower values. "
     if not payment.vickrey:
-        says += f"{whom} add{ending} nothing to the total, so {whom.lower()} keep{ending} nothing"
-        return tag("p", f"{says}.", class_="soft")
+        how = " (your Vickrey discount is 0)" if view.alone else ""
+        says += f"{whom} add{ending} nothing to the total{how}, "
+        return tag("p", f"{says}so {whom.lower()} keep{ending} nothing.", class_="soft")
     without = numbers.whole(view.total - payment.vickrey)
-    how = "" if view.alone else f" (without it {without} of {total} can be reached)"
+    how = f" (without it {without} of {total} can be reached)"
+    how = " (your Vickrey discount)" if view.alone else how
     says += (
         f"{whom} add{ending} {added} to the total{how}; the cut is {exact(cut)}, so "
         f"{whom.lower()} keep{ending} {exact(payment.discount)}"
@@ -305,7 +307,7 @@ def outline(drawing: TreeDrawing) -> str:
 def card(view: View, number: int) -> str:
     """One bidder: its trade, its payment and its tree."""
     bidder, why = view.journal.bidders[number], provisional(view, number)
-    if view.journal.payments and "1" in view.journal.shown.sets[number]:
+    if view.journal.payments and (view.alone or "1" in view.journal.shown.sets[number]):
         why = reason(view, number)
     drawing = TreeDrawing(view, number)
     parts = [

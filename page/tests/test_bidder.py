@@ -73,8 +73,8 @@ class OneBidder(unittest.TestCase):
         words = page.root.seen()
         for part in (
             "You get: buy dep-0630 + dep-0700 + dep-0730.",
-            "Your set is worth 792 at lower values. You add 270 to the total; the cut is 194.75 "
-            "(779/4), so you keep 75.25 (301/4).",
+            "Your set is worth 792 at lower values. You add 270 to the total (your Vickrey "
+            "discount); the cut is 194.75 (779/4), so you keep 75.25 (301/4).",
             "Your tree",
         ):
             self.assertIn(part, words)
@@ -88,13 +88,17 @@ class OneBidder(unittest.TestCase):
     def test_who_keeps_nothing(self):
         # It adds 3 and the cut is 194.75; Polar-Cargo trades nothing.
         words = page_of(AIRPORT, "--bidder", "Charter-Sud").root.seen()
-        self.assertIn("You add 3 to the total; the cut is 194.75 (779/4), so you keep 0.", words)
-        self.assertIn("You get: no trade.", page_of(AIRPORT, "--bidder", "Polar-Cargo").root.seen())
+        says = "You add 3 to the total (your Vickrey discount); the cut is 194.75 (779/4), so you "
+        self.assertIn(f"{says}keep 0.", words)
+        words = page_of(AIRPORT, "--bidder", "Polar-Cargo").root.seen()
+        self.assertIn("You get: no trade.", words)
+        self.assertIn("Your set is worth 0 at lower values. You add nothing to the total", words)
         # As where the same total is reached without it.
         paid = ("payment b 1 1/2 31/2", "payment b 0 0/1 16/1")
         journal = sample("two-settlements.session").replace(*paid)
         words = page_of(journal, "--bidder", "b").root.seen()
-        self.assertIn("You add nothing to the total, so you keep nothing.", words)
+        says = "You add nothing to the total (your Vickrey discount is 0), so you keep nothing."
+        self.assertIn(says, words)
 
     def test_its_provisional_set(self):
         journal = opened(AIRPORT, 0)
