@@ -95,18 +95,19 @@ def spent_words(view: View) -> str:
 
 def checked(view: View) -> Fact:
     """The checker's answer, and what it means for this page."""
-    answer, expected, name = view.answer, due(view.journal), "checker’s answer"
+    answer, expected, name = view.answer, due(view.journal), f"{view.judge}’s answer"
     said, wanted = f"“{text(answer.text)}”", f"“{expected}”"
     if not answer.text and not answer.asked:
-        how = "<code>ice check</code> judges it"
-        how = "whoever has the journal can have it checked" if view.alone else how
-        return Fact(name, "not checked", f"this page retells the journal; {how}", "soft")
+        how = "; <code>ice check</code> judges it"
+        how = "; whoever has the journal can have it checked" if view.alone else how
+        how = "" if view.journal.of_statement else how
+        return Fact(name, "not checked", f"this page retells the {view.file}{how}", "soft")
     if not answer.is_verdict():
-        said = said if answer.text else f"the checker ended with status {answer.status}"
-        return Fact(name, "no verdict", f"{said}: nothing is known of this journal", "warn")
+        said = said if answer.text else f"the {view.judge} ended with status {answer.status}"
+        return Fact(name, "no verdict", f"{said}: nothing is known of this {view.file}", "warn")
     if not answer.fits(view.journal):
         why = (
-            "not what this journal asks for"
+            f"not what this {view.file} asks for"
             if view.alone
             else f"{said}, where this journal asks for {wanted}"
         )
@@ -114,7 +115,8 @@ def checked(view: View) -> Fact:
     by = f"asked of {text(answer.asked)} for this page" if answer.asked else "as told to this page"
     by = by if view.alone or expected.startswith("no ") else f"{said}, {by}"
     if expected.startswith("yes "):
-        return Fact(name, "yes", f"{by}: every test passed", "good")
+        more = "; it can’t say that others were shown the same prices" * view.journal.of_statement
+        return Fact(name, "yes", f"{by}: every test passed{more}", "good")
     where = "where bids are awaited" if words.awaited(view.journal) else "where it stopped"
     up_to = "" if view.alone else f"line {numbers.whole(view.journal.end.line - 1)}, "
     return Fact(name, "right so far", f"{by}: every test passed up to {up_to}{where}", "good")
@@ -200,7 +202,8 @@ def lead(view: View) -> str:
         best = "" if view.alone else ": this is the best trade found so far"
         says += f" Nothing is settled{best}."
     if checked(view).value == "no":
-        says = tag("strong", "The checker doesn’t accept this journal.", class_="bad") + " " + says
+        refused = f"The {view.judge} doesn’t accept this {view.file}."
+        says = tag("strong", refused, class_="bad") + " " + says
     return tag("p", says, class_="lead")
 
 

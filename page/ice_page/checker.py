@@ -1,4 +1,4 @@
-"""The checker's answer on a journal: who gave it, and whether it fits the journal."""
+"""The checker's answer on a journal or a statement: who gave it, and whether it fits."""
 from __future__ import annotations
 
 import subprocess
@@ -10,6 +10,7 @@ from .journal import Journal
 
 PROGRAM = Path(__file__).resolve().parents[2] / "ice"
 NO_VERDICT = ("refused ", "unread ", "words refused")
+STATEMENT = b"statement "
 
 
 @dataclass
@@ -38,8 +39,11 @@ class Answer:
 
 
 def due(journal: Journal) -> str:
-    """The answer that the checker gives on this journal where every test passes."""
+    """The answer that the checker gives on this journal or statement where every test passes."""
     stop = journal.end
+    if journal.of_statement:
+        payment = journal.payments[0].payment
+        return f"yes {payment.numerator}/{payment.denominator}"
     if stop.word == "closed":
         surplus = journal.surplus
         return f"yes {journal.last.regret} {surplus.numerator}/{surplus.denominator}"
@@ -66,20 +70,38 @@ def total(journal: Journal) -> int:
 
 
 class Checker:
-    """The program `ice check`, which is fed the bytes of a journal while they are read."""
+    """The program, which is fed the bytes of a file while they are read.
+
+    It is asked `ice check` of a journal, and `ice audit` of a statement. `front` has the bytes by
+    which these are told apart, until they are enough.
+    """
 
     def __init__(self, program: str | Path = PROGRAM) -> None:
-        self.name = Path(program).name
+        self.program, self.asked, self.front, self.closed = str(program), "", b"", False
+
+    def begin(self) -> None:
+        """Starts the program on what was fed so far."""
+        command = "audit" if self.front.startswith(STATEMENT) else "check"
         self.process = subprocess.Popen(
-            [str(program), "check", "/dev/stdin"], stdin=subprocess.PIPE, stdout=subprocess.PIPE
+            [self.program, command, "/dev/stdin"], stdin=subprocess.PIPE, stdout=subprocess.PIPE
         )
         assert self.process.stdin is not None and self.process.stdout is not None
         self.input: IO[bytes] = self.process.stdin
         self.output: IO[bytes] = self.process.stdout
-        self.closed = False
+        self.asked = command
+        self.put(self.front)
 
     def feed(self, block: bytes) -> None:
         """Hands bytes on; a program that reads no further has its answer all the same."""
+        if self.asked:
+            self.put(block)
+            return
+        self.front += block
+        if len(self.front) >= len(STATEMENT):
+            self.begin()
+
+    def put(self, block: bytes) -> None:
+        """Hands bytes to the program."""
         if self.closed:
             return
         try:
@@ -89,13 +111,17 @@ class Checker:
 
     def answer(self) -> Answer:
         """The program's answer, when all bytes are fed."""
+        if not self.asked:
+            self.begin()
         self.close_input()
         said = self.output.read(4096).decode("utf-8", "replace").strip()
         self.output.close()
-        return Answer(said, f"{self.name} check", self.process.wait())
+        return Answer(said, f"{Path(self.program).name} {self.asked}", self.process.wait())
 
     def stop(self) -> None:
         """Ends the program without its answer."""
+        if not self.asked:
+            return
         self.process.terminate()
         self.close_input()
         self.output.close()

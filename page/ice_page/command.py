@@ -8,8 +8,9 @@ from pathlib import Path
 from typing import NoReturn
 
 from .checker import PROGRAM, Answer, Checker
-from .journal import BadJournal, Journal, Lines, read_journal
+from .journal import BadJournal, Journal, Lines
 from .page import whole_page
+from .statement import read_file
 from .view import View
 
 WRITTEN, BAD_WORDS, NO_JOURNAL, UNREAD, UNWRITTEN = 0, 1, 2, 6, 7
@@ -32,12 +33,12 @@ def words() -> Words:
         prog="ice-page",
         epilog=STATUSES,
         allow_abbrev=False,
-        description="Writes a journal as one page of HTML to look at.",
+        description="Writes a journal, or a bidder's statement, as one page of HTML to look at.",
     )
     parser.add_argument(
         "journal",
         metavar="JOURNAL",
-        help="a journal of kind assign, regret or session; - is standard input",
+        help="a journal of kind assign, regret or session, or a statement; - is standard input",
     )
     parser.add_argument(
         "-o", dest="page", metavar="PAGE", help="where the page goes, if not to standard output"
@@ -93,10 +94,10 @@ def read(options: argparse.Namespace) -> tuple[Journal, Answer]:
     with open(0 if options.journal == "-" else options.journal, "rb", buffering=0) as stream:
         if not options.check:
             answer = Answer((options.checked or "").strip())
-            return read_journal(Lines(stream), options.bidder), answer
+            return read_file(Lines(stream), options.bidder), answer
         checker = Checker(options.program or PROGRAM)
         try:
-            journal = read_journal(Lines(stream, checker.feed), options.bidder)
+            journal = read_file(Lines(stream, checker.feed), options.bidder)
         except BaseException:
             checker.stop()
             raise
@@ -104,9 +105,12 @@ def read(options: argparse.Namespace) -> tuple[Journal, Answer]:
 
 
 def number_of(journal: Journal, name: str | None) -> int | None:
-    """The number of the bidder of this name; BadJournal where there is none."""
+    """The number of the bidder of this name; BadJournal where there is none.
+
+    A statement has one bidder, and its page is for that one.
+    """
     if name is None:
-        return None
+        return 0 if journal.of_statement else None
     names = [bidder.name for bidder in journal.bidders]
     if name not in names:
         raise BadJournal(f"no bidder is named {name}")

@@ -153,11 +153,15 @@ class Stop(NamedTuple):
 
 @dataclass
 class Journal:
-    """A journal of kind assign, regret or session."""
+    """A journal of kind assign, regret or session, or what a statement says of a session.
+
+    A statement has no version, and one bidder; of the searches it has that bidder's sets alone.
+    """
 
     version: int
     kind: str
     settings: Settings
+    of_statement: bool = False
     goods: list[Good] = field(default_factory=list)
     bidders: list[Bidder] = field(default_factory=list)
     opening: list[Bounds] = field(default_factory=list)
@@ -205,11 +209,15 @@ class Reader:
 
     def read(self) -> Journal:
         """The whole journal; BadJournal where the file is none."""
-        journal, lines = self.journal, self.lines
         self.read_exchange()
         {"assign": self.read_assign, "regret": self.read_regret, "session": self.read_session}[
-            journal.kind
+            self.journal.kind
         ]()
+        return self.whole()
+
+    def whole(self) -> Journal:
+        """What was read, which has to be all of the file."""
+        journal, lines = self.journal, self.lines
         if not lines.ended:
             lines.bad(f"`{lines.line[:60]}` stands after the end")
         journal.lines, journal.size = lines.number - 1, lines.size
@@ -220,23 +228,39 @@ class Reader:
 
     def read_exchange(self) -> None:
         """Goods, and bidders with their trees."""
+        self.read_goods()
+        while self.lines.word == "bidder" or not self.journal.bidders:
+            self.read_bidder()
+
+    def read_goods(self) -> None:
+        """The goods."""
         journal, lines = self.journal, self.lines
         while lines.word in ("good", "exact") or not journal.goods:
             record = lines.take("good", "exact")
             journal.goods.append(Good(record.fields[0], record.head == "exact"))
             lines.require(len(journal.goods) <= MOST_GOODS, f"more than {MOST_GOODS} goods")
-        while lines.word == "bidder" or not journal.bidders:
-            name, owned = lines.take("bidder").fields
-            count = len(journal.goods)
-            lines.require(len(owned) == count, f"{len(owned)} owned amounts for {count} goods")
-            bidder = Bidder(name, owned, [])
-            bounds: Bounds = ([], [])
-            self.read_node(bidder.nodes, bounds, None, 1)
-            journal.bidders.append(bidder)
-            journal.opening.append(bounds)
-            lines.require(len(journal.bidders) <= MOST_BIDDERS, f"more than {MOST_BIDDERS} bidders")
-            nodes = sum(len(each.nodes) for each in journal.bidders)
-            lines.require(nodes <= MOST_NODES, f"more than {MOST_NODES:,} nodes in all")
+
+    def read_bidder(self) -> None:
+        """A bidder with its tree."""
+        journal, lines = self.journal, self.lines
+        name, owned = lines.take("bidder").fields
+        self.require_own(name)
+        count = len(journal.goods)
+        lines.require(len(owned) == count, f"{len(owned)} owned amounts for {count} goods")
+        bidder = Bidder(name, owned, [])
+        bounds: Bounds = ([], [])
+        self.read_node(bidder.nodes, bounds, None, 1)
+        journal.bidders.append(bidder)
+        journal.opening.append(bounds)
+        lines.require(len(journal.bidders) <= MOST_BIDDERS, f"more than {MOST_BIDDERS} bidders")
+        nodes = sum(len(each.nodes) for each in journal.bidders)
+        lines.require(nodes <= MOST_NODES, f"more than {MOST_NODES:,} nodes in all")
+
+    def require_own(self, name: str) -> None:
+        """Gives up where the record that was taken last may not be of a bidder of this name.
+
+        In a journal it may be of any.
+        """
 
     def read_node(self, nodes: list[Node], bounds: Bounds, up: int | None, depth: int) -> None:
         """A node with all below it."""
@@ -294,23 +318,31 @@ class Reader:
         """A settlement up to its bids; False where the journal ends in it."""
         if not (self.read_group(settlement, "final") and self.read_group(settlement, "rival")):
             return False
-        settlement.regret = regret = self.lines.take("regret").fields[0]
-        settings = self.journal.settings
-        if regret <= settings.close_regret or settlement.number == settings.rounds:
+        settlement.regret = self.lines.take("regret").fields[0]
+        if self.closes(settlement):
             self.read_closing(settlement)
             return False
         return self.read_group(settlement, "provisional") and self.read_pricing(settlement)
+
+    def closes(self, settlement: Settlement) -> bool:
+        """Whether a settlement closes the session, by its regret or its number."""
+        settings, regret = self.journal.settings, settlement.regret
+        assert regret is not None
+        return regret <= settings.close_regret or settlement.number == settings.rounds
 
     def read_sets(self) -> list[str]:
         """One set a bidder, as bits."""
         sets = []
         for bidder in self.journal.bidders:
-            sets.append(self.lines.take("set").fields[0])
-            count, nodes = len(sets[-1]), len(bidder.nodes)
-            self.lines.require(
-                count == nodes, f"{count} bits for the {nodes} nodes of {bidder.name}"
-            )
+            sets.append(self.read_set("set", bidder))
         return sets
+
+    def read_set(self, head: str, bidder: Bidder) -> str:
+        """A set of a bidder, as bits."""
+        (bits,) = self.lines.take(head).fields
+        count, nodes = len(bits), len(bidder.nodes)
+        self.lines.require(count == nodes, f"{count} bits for the {nodes} nodes of {bidder.name}")
+        return bits
 
     def read_group(self, settlement: Settlement, head: str, bidder: int | None = None) -> bool:
         """A search; False where it was spent, which ends the journal."""
@@ -352,10 +384,7 @@ class Reader:
             self.pass_all("pool")
             self.end("limit", line, record)
             return False
-        denominator, numerators = record.fields
-        count, goods = len(numerators), len(self.journal.goods)
-        lines.require(count == goods, f"{count} prices of {goods} goods")
-        settlement.prices = [Fraction(number, denominator) for number in numerators]
+        settlement.prices = self.prices(record)
         lines.take("accuracy")
         accuracy = self.pass_all("row")
         lines.take("balance")
@@ -371,6 +400,13 @@ class Reader:
         elif lines.word == "end":
             self.end("open")
         return self.journal.stop is None
+
+    def prices(self, record: Record) -> list[Fraction]:
+        """The prices that a record states, one for each good."""
+        denominator, numerators = record.fields
+        count, goods = len(numerators), len(self.journal.goods)
+        self.lines.require(count == goods, f"{count} prices of {goods} goods")
+        return [Fraction(number, denominator) for number in numerators]
 
     def pass_all(self, head: str) -> int:
         """Passes all records of this word, and counts them."""
@@ -396,6 +432,7 @@ class Reader:
         unknown: set[str] = set()
         while lines.word == "submit":
             name, low, high = lines.take("submit").fields
+            self.require_own(name)
             bidder = numbers.get(name)
             verdict = lines.take("verdict")
             accepted = verdict.head == "verdict accepted"

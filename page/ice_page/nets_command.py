@@ -4,7 +4,8 @@ from __future__ import annotations
 import sys
 
 from .command import NO_JOURNAL, UNREAD, UNWRITTEN, WRITTEN, Words, number_of, write
-from .journal import BadJournal, Lines, read_journal
+from .journal import BadJournal, Lines
+from .statement import read_file
 from .told import told
 
 STATUSES = (
@@ -21,7 +22,9 @@ def words() -> Words:
         allow_abbrev=False,
         description="Tells a bidder its sets at the prices, when its next bid counts, its bids.",
     )
-    parser.add_argument("journal", metavar="JOURNAL", help="a session; - is standard input")
+    parser.add_argument(
+        "journal", metavar="JOURNAL", help="a session, or a statement; - is standard input"
+    )
     parser.add_argument("bidder", metavar="NAME", help="the bidder")
     parser.add_argument(
         "--round", metavar="N", type=int, help="the round, if not the one that is awaited"
@@ -34,7 +37,7 @@ def main(arguments: list[str] | None = None) -> int:
     options = words().parse_args(arguments)
     try:
         with open(0 if options.journal == "-" else options.journal, "rb", buffering=0) as stream:
-            journal = read_journal(Lines(stream), options.bidder)
+            journal = read_file(Lines(stream), options.bidder)
         text = told(journal, number_of(journal, options.bidder), options.round)
     except BadJournal as fault:
         print(f"ice-nets: {options.journal}: {fault}", file=sys.stderr)

@@ -30,14 +30,15 @@ def footer(view: View) -> str:
             numbers.plural(settings.branches, "branch step"),
         ]
     )
-    kind = f"kind {journal.kind}, version {journal.version}"
     told = f"published digest of the journal: {tag('code', text(view.digest))}"
     told = told if view.digest else ""
     if view.alone:
+        kind = "a statement" if journal.of_statement else f"kind {journal.kind}"
         return tag("footer", key(kind, told, rules, "of the other bidders nothing is shown"))
     answer, said = view.answer, ""
     if answer.asked and answer.text:
         said = f"{text(answer.asked)} read these bytes and said “{text(answer.text)}”"
+    kind = f"kind {journal.kind}, version {journal.version}"
     source = f"{text(view.source)}, {kind}, {numbers.plural(journal.lines, 'line')}"
     digest = f"SHA-256 {tag('code', journal.digest)}"
     return tag("footer", key(source, digest, told, said, rules))

@@ -194,12 +194,19 @@ ALL_FORMS = (
     Form("unread F", FILE),
 )
 FORMS = {form.head: form for form in ALL_FORMS}
+STATEMENT_FORMS = (
+    Form("statement NAME", NAME),
+    Form("kept BITS", BITS),
+    Form("offered BITS", BITS),
+    Form("end statement"),
+)
+ALL_HEADS = FORMS | {form.head: form for form in STATEMENT_FORMS}
 
 
 def read_record(line: str) -> Record:
-    """The record that the line is; Misspelt where it is none."""
+    """The record, or the line of a statement alone, that the line is; Misspelt where it is none."""
     words = line.split(" ", 2)
-    form = FORMS.get(" ".join(words[:2])) or FORMS.get(words[0])
+    form = ALL_HEADS.get(" ".join(words[:2])) or ALL_HEADS.get(words[0])
     if form is None:
         raise Misspelt
     return form.read(line)

@@ -13,8 +13,9 @@ from .markup import text
 class View:
     """A journal as it is to be shown to all, or to one bidder alone.
 
-    A page for one bidder shows what is published (settings, goods, regret, prices, cut and
-    surplus) and what is the bidder's own; it stays the same whatever else the others bid.
+    A page for one bidder shows what is published and what is the bidder's own, as
+    docs/formats.md lists it; it stays the same whatever else the others bid. Of a statement
+    there is no other page.
     """
 
     journal: Journal
@@ -32,6 +33,16 @@ class View:
     def alone(self) -> bool:
         """Whether the page is for one bidder."""
         return self.bidder is not None
+
+    @property
+    def file(self) -> str:
+        """What kind of file the page is of."""
+        return "statement" if self.journal.of_statement else "journal"
+
+    @property
+    def judge(self) -> str:
+        """Who judges such a file."""
+        return "audit" if self.journal.of_statement else "checker"
 
     @property
     def made(self) -> str:
