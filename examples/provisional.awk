@@ -1,5 +1,6 @@
 # Writes the provisional set of each bidder, of the last settlement that goes on, and what the bidder buys (+) and sells (-) by it:
 # awk -f examples/provisional.awk JOURNAL
+# It is a tool for whoever holds the market: it shows the sets of all bidders, of which each may see its own alone.
 $1 == "good" || $1 == "exact" { good[goods++ + 0] = $2 }
 $1 == "bidder" { name[bidders++ + 0] = $2 }
 $1 == "node" {
