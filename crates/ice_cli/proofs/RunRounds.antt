@@ -29,7 +29,7 @@ use Rattle.ice_journal_laws.specs.ShowingSession.{closed_in, opening_in, going_i
 use Rattle.ice_journal_laws.specs.Positions.{Position, before_final, before_rival, before_provisional, before_without, position_records}
 use Rattle.ice_search.specs.Results.{proved_spent}
 use Rattle.ice_search.specs.declared.results.Spent.{Spent}
-use Rattle.ice_price.specs.Stages.{stage_of, limit_of}
+use Rattle.ice_defs.specs.PricingLimit.{stage_of, limit_of}
 use Rattle.ice_price.specs.declared.ends.PriceLimit.{PriceLimit}
 use Rattle.ice_round.specs.SessionAt.{SessionAt}
 use Rattle.ice_write_session.specs.Records.{member_record, spent_records, limit_records}

@@ -3,7 +3,9 @@ use Rattle.std.specs.Prelude.{ℕ, ℤ, List, map}
 use Rattle.arrayvec.specs.ArrayVec.{ArrayVec}
 use Rattle.ice_defs.specs.Fraction.{Fraction}
 use Rattle.ice_defs.specs.Round.{Submission}
-use Rattle.ice_defs.specs.PricingLimit as limits
+use Rattle.ice_defs.specs.PricingLimit.{Stage, LimitKind, stage_of, limit_of}
+use Rattle.ice_defs.specs.declared.PricingStage.{PricingStage}
+use Rattle.ice_defs.specs.declared.LimitKind.{LimitKind as CodeLimit}
 use Rattle.ice_defs.specs.Steps.{branch, leaf, dead}
 use Rattle.ice_journal.specs.Records as spec
 use Rattle.ice_journal.specs.Nodes.{node_record}
@@ -13,10 +15,6 @@ use Rattle.ice_journal.specs.declared.line.Kind.{Kind}
 use Rattle.ice_journal.specs.declared.line.Kind.TheVariants as kind
 use Rattle.ice_journal.specs.declared.line.EndWord.{EndWord}
 use Rattle.ice_journal.specs.declared.line.EndWord.TheVariants as ending
-use Rattle.ice_journal.specs.declared.line.Stage.{Stage}
-use Rattle.ice_journal.specs.declared.line.Stage.TheVariants as stage
-use Rattle.ice_journal.specs.declared.line.LimitKind.{LimitKind}
-use Rattle.ice_journal.specs.declared.line.LimitKind.TheVariants as limit
 use Rattle.ice_journal.specs.declared.line.Change.{Change}
 use Rattle.ice_journal.specs.declared.line.LowestFraction.{LowestFraction}
 use Rattle.ice_journal.specs.declared.line.Line.{Line}
@@ -43,16 +41,6 @@ end_of ending.Open = spec.open_end
 end_of ending.Spent = spec.spent_end
 end_of ending.Limit = spec.limit_end
 
-abbrev pub stage_of : Stage → limits.Stage
-stage_of stage.Accuracy = limits.accuracy_stage
-stage_of stage.Balance = limits.balance_stage
-
-abbrev pub limit_of : LimitKind → limits.LimitKind
-limit_of limit.Wide = limits.wide_limit
-limit_of limit.Pivots = limits.pivots_limit
-limit_of limit.Rows = limits.rows_limit
-limit_of limit.Den = limits.den_limit
-
 abbrev pub change_of : Change → spec.Change
 change_of c = record { good = c.good; multiplier = c.multiplier }
 
@@ -78,7 +66,7 @@ threshold_of found = (fraction_of found.0, fraction_of found.1)
 abbrev pub payment_of : List ℕ × ℤ × LowestFraction × LowestFraction → List ℕ × ℤ × Fraction × Fraction
 payment_of found = (found.0, found.1, fraction_of found.2, fraction_of found.3)
 
-abbrev pub limit_row_of : Stage × LimitKind × ℤ × ℕ → limits.Stage × limits.LimitKind × ℤ × ℕ
+abbrev pub limit_row_of : PricingStage × CodeLimit × ℤ × ℕ → Stage × LimitKind × ℤ × ℕ
 limit_row_of found = (stage_of found.0, limit_of found.1, found.2, found.3)
 
 abbrev pub refused_of : ℕ × ℕ × ArrayVec ℕ → ℕ × ℕ × List ℕ

@@ -7,10 +7,12 @@ ghost use Rattle.ice_defs.specs.Exchange.{IsBetween};
 ghost use Rattle.ice_journal.specs.Reading.{Finds};
 ghost use Rattle.ice_journal.specs.Ranges.{IsPlace, IsBits, IsViolationField, IsStageRecord};
 ghost use Rattle.ice_journal.specs.Spelling.{bits, bit_byte, version_word, kind_word, end_word, stage_word, limit_word};
-ghost use Rattle.ice_journal.specs.Lines.{version_of, kind_of, end_of, stage_of, limit_of};
+ghost use Rattle.ice_journal.specs.Lines.{version_of, kind_of, end_of};
+ghost use Rattle.ice_defs.specs.PricingLimit.{stage_of, limit_of};
 
-use crate::line::{EndWord, Kind, LimitKind, LowestFraction, Stage, Version};
+use crate::line::{EndWord, Kind, LowestFraction, Version};
 use arrayvec::ArrayVec;
+use ice_defs::{LimitKind, PricingStage};
 use ice_line::{Fields, integer, natural, number};
 use ice_set::NodeSet;
 use ice_terms::Name;
@@ -73,13 +75,13 @@ pub fn last_word(field: &[u8]) -> Option<EndWord>
 }
 
 /// The stage of a pricing run.
-pub fn pricing_stage(field: &[u8]) -> Option<Stage>
+pub fn pricing_stage(field: &[u8]) -> Option<PricingStage>
     ensures { Finds (option_map stage_of result) IsStageRecord stage_word field.now }
 {
     if field == b"accuracy".as_slice() {
-        Some(Stage::Accuracy)
+        Some(PricingStage::Accuracy)
     } else if field == b"balance".as_slice() {
-        Some(Stage::Balance)
+        Some(PricingStage::Balance)
     } else {
         None
     }

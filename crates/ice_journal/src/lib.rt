@@ -18,7 +18,7 @@ mod write_log;
 mod write_session;
 
 pub use laws::{bytes_tell_journals, packed_journals_come_back, texts_tell_records};
-pub use line::{Change, EndWord, Kind, LimitKind, Line, LowestFraction, Stage, Version};
+pub use line::{Change, EndWord, Kind, Line, LowestFraction, Version};
 pub use lines::{BadLine, LinesEnd, next_record, read_lines};
 pub use record::read_record;
 pub use write::write_record;

@@ -1,6 +1,6 @@
 //! What records say.
 use arrayvec::ArrayVec;
-use ice_defs::{NodeKind, Verdict};
+use ice_defs::{LimitKind, NodeKind, PricingStage, Verdict};
 use ice_set::NodeSet;
 use ice_terms::{Name, Prices, Settings};
 
@@ -47,28 +47,6 @@ pub enum EndWord {
     Spent,
     /// The pricing came to a limit.
     Limit,
-}
-
-/// Where a pricing run ended before its prices were found.
-#[derive(Clone, Copy, Debug, PartialEq, Eq)]
-pub enum Stage {
-    /// While the violation was made least.
-    Accuracy,
-    /// While the greatest price was made least.
-    Balance,
-}
-
-/// Why a pricing run ended before its prices were found.
-#[derive(Clone, Copy, Debug, PartialEq, Eq)]
-pub enum LimitKind {
-    /// A number didn't fit in 128 bits.
-    Wide,
-    /// More than 2,000 pivots would have been needed.
-    Pivots,
-    /// A set was to be added to 200.
-    Rows,
-    /// A denominator or a weight was above 2^32.
-    Den,
 }
 
 /// A multiplier that differs from the one of the leaf before it: its good, from 0 to 31, and its
@@ -206,7 +184,7 @@ pub enum Line {
     },
     /// `limit STAGE KIND X D`, with the limits of `Accuracy`.
     Limit {
-        stage: Stage,
+        stage: PricingStage,
         kind: LimitKind,
         violation: i128,
         den: u64,

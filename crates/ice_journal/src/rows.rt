@@ -13,10 +13,10 @@ use crate::items::{
     bound_number, file_place, journal_kind, last_word, limit_kind, node_bits, pricing_stage,
     version, violation_number,
 };
-use crate::line::{EndWord, Kind, LimitKind, LowestFraction, Stage, Version};
+use crate::line::{EndWord, Kind, LowestFraction, Version};
 use crate::lists::{amounts, integers};
 use arrayvec::ArrayVec;
-use ice_defs::Verdict;
+use ice_defs::{LimitKind, PricingStage, Verdict};
 use ice_line::{Fields, integer, natural};
 use ice_set::NodeSet;
 use ice_terms::{Name, Prices, Settings};
@@ -262,7 +262,7 @@ pub fn spent(mut fields: Fields<'_>) -> Option<(i64, i128)>
 }
 
 /// Stage, kind, violation and denominator.
-pub fn limit(mut fields: Fields<'_>) -> Option<(Stage, LimitKind, i128, u64)>
+pub fn limit(mut fields: Fields<'_>) -> Option<(PricingStage, LimitKind, i128, u64)>
     ensures { Finds (option_map limit_row_of result) (λ found. IsStageRecord found.0 × IsViolationField found.2 × IsDen found.3) (λ found. stage_word found.0 ∷ limit_word found.1 ∷ signed_decimal found.2 ∷ decimal found.3 ∷ []) fields.entry }
 {
     let stage = pricing_stage(fields.next()?)?;

@@ -6,11 +6,12 @@ ghost use Rattle.ice_line.specs.Writing.{with_field, with_fields};
 ghost use Rattle.ice_journal.specs.Records as line;
 ghost use Rattle.ice_journal.specs.Ranges.{IsValue};
 ghost use Rattle.ice_journal.specs.Spelling.{text_of, end_word, stage_word, limit_word, counted};
-ghost use Rattle.ice_journal.specs.Lines.{end_of, stage_of, limit_of, fraction_of};
+ghost use Rattle.ice_journal.specs.Lines.{end_of, fraction_of};
+ghost use Rattle.ice_defs.specs.PricingLimit.{stage_of, limit_of};
 
-use crate::line::{EndWord, LimitKind, LowestFraction, Stage};
+use crate::line::{EndWord, LowestFraction};
 use crate::write_fields::{put_fraction, put_integers, put_set};
-use ice_defs::Verdict;
+use ice_defs::{LimitKind, PricingStage, Verdict};
 use ice_line::LineWriter;
 use ice_set::NodeSet;
 use ice_terms::{Name, Prices};
@@ -31,13 +32,13 @@ fn end_text(word: EndWord) -> &'static [u8]
     }
 }
 
-fn stage_text(stage: Stage) -> &'static [u8]
+fn stage_text(stage: PricingStage) -> &'static [u8]
     ensures text { result.now ≡ stage_word (stage_of stage) }
     ensures short { length result.now ≤ 8 }
 {
     match stage {
-        Stage::Accuracy => b"accuracy",
-        Stage::Balance => b"balance",
+        PricingStage::Accuracy => b"accuracy",
+        PricingStage::Balance => b"balance",
     }
 }
 
@@ -185,7 +186,7 @@ pub(crate) fn put_spent(value: i64, bound: i128, to: &mut LineWriter)
 }
 
 pub(crate) fn put_limit(
-    stage: Stage,
+    stage: PricingStage,
     kind: LimitKind,
     violation: i128,
     den: u64,

@@ -22,8 +22,8 @@ use Rattle.ice_migrate.specs.declared.place.Place as declared
 use Rattle.ice_migrate.specs.declared.counts.Counts.{Counts}
 use Rattle.ice_journal.specs.declared.line.Line.{Line}
 use Rattle.ice_journal.specs.declared.line.Line.TheVariants as shown
-use Rattle.ice_journal.specs.declared.line.Stage.{Stage as ShownStage}
-use Rattle.ice_journal.specs.declared.line.LimitKind.{LimitKind as ShownLimit}
+use Rattle.ice_defs.specs.declared.PricingStage.{PricingStage}
+use Rattle.ice_defs.specs.declared.LimitKind.{LimitKind as CodeLimit}
 use Rattle.ice_journal.specs.Lines.{record_of}
 use Rattle.ice_defs.specs.declared.NodeKind.TheVariants.{Choose, Buy, Sell}
 
@@ -197,7 +197,7 @@ no_spent (shown.Node (Buy good units) children lo hi) none = refl
 no_spent (shown.Node (Sell good units) children lo hi) none = refl
 no_spent other none = refl
 
-pub no_limit : (l : Line) → ((stage : ShownStage) (kind : ShownLimit) (violation : ℤ) (den : ℕ) → l ≡ shown.Limit stage kind violation den → ⊥) → is_limit (record_of l) ≡ false
+pub no_limit : (l : Line) → ((stage : PricingStage) (kind : CodeLimit) (violation : ℤ) (den : ℕ) → l ≡ shown.Limit stage kind violation den → ⊥) → is_limit (record_of l) ≡ false
 no_limit (shown.Limit stage kind violation den) none = absurd (none stage kind violation den refl)
 no_limit (shown.Node (Choose least most) children lo hi) none = refl
 no_limit (shown.Node (Buy good units) children lo hi) none = refl

@@ -32,7 +32,7 @@ use Rattle.ice_terms.specs.Terms.{ArePriceTerms, is_numerator}
 use Rattle.ice_pricing.specs.Provisional.{ProvisionalTrade, IsProvisional}
 use Rattle.ice_price.specs.declared.ends.Stop.{Stop}
 use Rattle.ice_price.specs.declared.ends.Stop.TheVariants.{AtLimit, WithoutMemory}
-use Rattle.ice_price.specs.declared.ends.LimitKind.TheVariants as kind
+use Rattle.ice_defs.specs.declared.LimitKind.TheVariants as kind
 use Rattle.ice_price.specs.Ends.{IsStopped}
 use Rattle.ice_price.specs.Programs.{program_over, dual_factor}
 use Rattle.ice_price.specs.Runs.{IsState, IsSolved}

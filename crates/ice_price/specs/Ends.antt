@@ -7,7 +7,7 @@ use Rattle.ice_pricing.specs.Provisional.{ProvisionalTrade}
 use Rattle.ice_pricing.specs.Priced.{IsLimited, PassesTests, AreBalanced}
 use Rattle.ice_pricing.specs.declared.certificate.Pricing.{Pricing}
 use Rattle.ice_price.specs.Runs.{IsState, IsRunFrom, IsStageEnd}
-use Rattle.ice_price.specs.Stages.{stage_of, limit_of}
+use Rattle.ice_defs.specs.PricingLimit.{stage_of, limit_of}
 use Rattle.ice_price.specs.declared.ends.PriceLimit.{PriceLimit}
 use Rattle.ice_price.specs.declared.ends.PriceEnd.{PriceEnd}
 use Rattle.ice_price.specs.declared.ends.PriceEnd.TheVariants.{Limit, NoMemory}

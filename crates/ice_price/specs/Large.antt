@@ -8,7 +8,7 @@ use Rattle.ice_pricing_laws.specs.Weights.{certificate_with, nums_of}
 use Rattle.ice_pricing.specs.Priced.{IsLimited}
 use Rattle.ice_price.specs.declared.ends.Stop.{Stop}
 use Rattle.ice_price.specs.declared.ends.Stop.TheVariants.{AtLimit, WithoutMemory}
-use Rattle.ice_price.specs.declared.ends.LimitKind.TheVariants.{Den}
+use Rattle.ice_defs.specs.declared.LimitKind.TheVariants.{Den}
 
 -- the numerator or the denominator is above 2^32
 abbrev pub IsLarge : Fraction → Type 0

@@ -1,30 +1,9 @@
 //! How a pricing run ends without prices.
+use ice_defs::{LimitKind, PricingStage};
 use ice_tree::NodeSet;
 use std::alloc::{AllocError, AllocFailed};
 use std::marker::Model;
 use thiserror::Error;
-
-/// A stage of a pricing run.
-#[derive(Clone, Copy, Debug, PartialEq, Eq)]
-pub enum Stage {
-    /// The violation is made least.
-    Accuracy,
-    /// With that violation, the greatest price is made least.
-    Balance,
-}
-
-/// Why a pricing run has no prices.
-#[derive(Clone, Copy, Debug, PartialEq, Eq)]
-pub enum LimitKind {
-    /// The program of the pool has an operation whose result doesn't fit a `Frac`.
-    Wide,
-    /// The program takes more than 2,000 pivots.
-    Pivots,
-    /// The pool has 200 sets, and one more is to be added.
-    Rows,
-    /// The prices' common denominator is above 2^32, or the certificate's, or one of its weights.
-    Den,
-}
 
 /// A bidder and a satisfied set of it.
 #[derive(Debug, Drop)]
@@ -47,7 +26,7 @@ impl Model for PoolMember {
 #[derive(Debug, Drop)]
 pub struct PriceLimit {
     /// The stage.
-    pub stage: Stage,
+    pub stage: PricingStage,
     /// The limit.
     pub kind: LimitKind,
     /// In the balance stage the violation of the accuracy stage, times `den`; else 0.

@@ -13,7 +13,7 @@ mod turn;
 mod weighing;
 mod work;
 
-pub use ends::{LimitKind, PoolMember, PriceEnd, PriceLimit, Stage};
+pub use ends::{PoolMember, PriceEnd, PriceLimit};
 pub use ice_pricing::{Certificate, CertificateRow, Pricing};
 pub use pricing::{price, run_prices};
 pub use work::RunWork;

@@ -4,10 +4,11 @@ ghost use Rattle.ice_price.specs.Ends.{IsStopped};
 ghost use Rattle.ice_price.specs.Runs.{IsState, IsSolved};
 ghost use Rattle.ice_price.specs.Works.{IsMoreWork, HasTurns};
 
-use crate::ends::{LimitKind, PoolMember, Stop};
+use crate::ends::{PoolMember, Stop};
 use crate::program::stage_program;
 use crate::stages::StageAt;
 use crate::work::RunWork;
+use ice_defs::LimitKind;
 use ice_frac::Frac;
 use ice_lp::{LpAnswer, LpEnd, solve};
 use ice_pricing::Provisional;

@@ -5,9 +5,11 @@ ghost use Rattle.ice_defs.specs.PricingRun.{StageAt as RunStageAt, first_stage, 
 ghost use Rattle.ice_lp.specs.Limits.{IsNumber};
 ghost use Rattle.ice_pricing_laws.specs.Laws.{balance_at};
 ghost use Rattle.ice_price.specs.Programs.{no_price, dual_factor, allowed_excess, unit_factor, last_factor, member_least, good_least};
-ghost use Rattle.ice_price.specs.Stages.{IsSizedStage, stage_of};
+ghost use Rattle.ice_defs.specs.PricingLimit.{stage_of};
+ghost use Rattle.ice_price.specs.Stages.{IsSizedStage};
 
-use crate::ends::{LimitKind, PoolMember, PriceLimit, Stage};
+use crate::ends::{PoolMember, PriceLimit};
+use ice_defs::{LimitKind, PricingStage};
 use ice_frac::Frac;
 use ice_pricing::Certificate;
 use ice_terms::Prices;
@@ -18,7 +20,7 @@ use std::marker::Model;
 /// past.
 #[derive(Drop)]
 pub(crate) struct StageAt {
-    stage: Stage,
+    stage: PricingStage,
     delta: i128,
     den: u64,
 }
@@ -28,7 +30,8 @@ impl Model for StageAt {
 
     ghost Value = { RunStageAt };
 
-    ghost use Rattle.ice_price.specs.Stages.{IsSizedStage, stage_of};
+    ghost use Rattle.ice_defs.specs.PricingLimit.{stage_of};
+    ghost use Rattle.ice_price.specs.Stages.{IsSizedStage};
 
     ghost view = { λ s. record { stage = stage_of s.stage; delta = s.delta; den = s.den } };
 
@@ -103,7 +106,7 @@ impl StageAt {
         ensures { result ≡ first_stage }
     {
         StageAt {
-            stage: Stage::Accuracy,
+            stage: PricingStage::Accuracy,
             delta: 0,
             den: 1,
         }
@@ -116,7 +119,7 @@ impl StageAt {
         ensures { result ≡ balance_at delta den }
     {
         StageAt {
-            stage: Stage::Balance,
+            stage: PricingStage::Balance,
             delta,
             den,
         }
@@ -148,8 +151,8 @@ impl StageAt {
         ensures high { result ≤ℤ pos 0 }
     {
         match self.stage {
-            Stage::Accuracy => -i128::from(cap),
-            Stage::Balance => 0,
+            PricingStage::Accuracy => -i128::from(cap),
+            PricingStage::Balance => 0,
         }
     }
 
@@ -161,8 +164,8 @@ impl StageAt {
         ensures sized { IfOk result (λ made. All IsNumber made.items) }
     {
         match self.stage {
-            Stage::Accuracy => zeros(alloc, goods),
-            Stage::Balance => last_alone(alloc, goods),
+            PricingStage::Accuracy => zeros(alloc, goods),
+            PricingStage::Balance => last_alone(alloc, goods),
         }
     }
 
@@ -172,8 +175,8 @@ impl StageAt {
         ensures high { result ≤ 100 * 2 ^ 32 }
     {
         match self.stage {
-            Stage::Accuracy => 100,
-            Stage::Balance => 100 * self.den,
+            PricingStage::Accuracy => 100,
+            PricingStage::Balance => 100 * self.den,
         }
     }
 
@@ -184,8 +187,8 @@ impl StageAt {
         ensures high { result ≤ℤ pos 1 }
     {
         match self.stage {
-            Stage::Accuracy => 1,
-            Stage::Balance => 0,
+            PricingStage::Accuracy => 1,
+            PricingStage::Balance => 0,
         }
     }
 
@@ -198,8 +201,8 @@ impl StageAt {
         ensures high { result ≤ℤ pos (2 ^ 82) }
     {
         match self.stage {
-            Stage::Accuracy => worth,
-            Stage::Balance => scaled_less(self.den, worth, self.delta),
+            PricingStage::Accuracy => worth,
+            PricingStage::Balance => scaled_less(self.den, worth, self.delta),
         }
     }
 
@@ -209,8 +212,8 @@ impl StageAt {
         ensures high { result ≤ 100 * 2 ^ 32 }
     {
         match self.stage {
-            Stage::Accuracy => 1,
-            Stage::Balance => 100 * self.den,
+            PricingStage::Accuracy => 1,
+            PricingStage::Balance => 100 * self.den,
         }
     }
 
@@ -225,8 +228,8 @@ impl StageAt {
     {
         let _lowest = last.num();
         match self.stage {
-            Stage::Accuracy => *last,
-            Stage::Balance => over(self.delta, self.den),
+            PricingStage::Accuracy => *last,
+            PricingStage::Balance => over(self.delta, self.den),
         }
     }
 }

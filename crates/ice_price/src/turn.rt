@@ -10,13 +10,14 @@ ghost use Rattle.ice_price.specs.Large.{AreLarge, IsStoppedBy};
 ghost use Rattle.ice_price.specs.Runs.{IsState, IsRunFrom, IsTurn, IsEndWith, IsStageEnd};
 ghost use Rattle.ice_price.specs.Works.{IsMoreWork, HasTurns};
 
-use crate::ends::{LimitKind, PoolMember, Stop};
+use crate::ends::{PoolMember, Stop};
 use crate::fractions::{common_den, prices_over};
 use crate::scan::{Scan, scan_bidders};
 use crate::solution::solve_stage;
 use crate::stages::{StageAt, StageEnd};
 use crate::weighing::certified;
 use crate::work::RunWork;
+use ice_defs::LimitKind;
 use ice_frac::Frac;
 use ice_pricing::{Provisional, Scratch};
 use ice_terms::Prices;

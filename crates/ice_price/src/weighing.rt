@@ -7,8 +7,9 @@ ghost use Rattle.ice_defs.specs.PricingRun.{common_den, num_over};
 ghost use Rattle.ice_pricing_laws.specs.Weights.{lowest_of, weights_of_duals, rows_with, nums_of};
 ghost use Rattle.ice_price.specs.Large.{IsLarge, AreLarge, IsStoppedBy, AreFitting, IsCertificate};
 
-use crate::ends::{LimitKind, PoolMember, Stop};
+use crate::ends::{PoolMember, Stop};
 use crate::fractions::{LARGEST, common_den, num_over};
+use ice_defs::LimitKind;
 use ice_frac::{Frac, Wide};
 use ice_pricing::{Certificate, CertificateRow};
 use std::alloc::Global;

@@ -19,7 +19,7 @@ use Rattle.ice_bound.proofs.Modest.{weighted_modest}
 use Rattle.ice_search.specs.Results.{proved_found}
 use Rattle.ice_search.specs.declared.results.Found.{Found}
 use Rattle.ice_regret.specs.declared.lead.Regret.{Regret}
-use Rattle.ice_price.specs.Stages.{stage_of, limit_of}
+use Rattle.ice_defs.specs.PricingLimit.{stage_of, limit_of}
 use Rattle.ice_price.specs.Ends.{stage_at}
 use Rattle.ice_price.specs.declared.ends.PriceLimit.{PriceLimit}
 use Rattle.ice_vickrey.specs.declared.marginal.Marginal.{Marginal}

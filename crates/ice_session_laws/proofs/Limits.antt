@@ -26,7 +26,8 @@ use Rattle.ice_pricing_laws.proofs.Lists.{all-each, all-at}
 use Rattle.ice_pricing_laws.proofs.Pools.{run_pool_is_proper}
 use Rattle.ice_pricing_laws.proofs.Traces.{traces_solve}
 use Rattle.ice_pricing.specs.Provisional.{ProvisionalTrade, IsProvisional}
-use Rattle.ice_price.specs.Stages.{IsSizedStage, limit_of}
+use Rattle.ice_defs.specs.PricingLimit.{limit_of}
+use Rattle.ice_price.specs.Stages.{IsSizedStage}
 use Rattle.ice_price.specs.Ends.{stage_at}
 use Rattle.ice_price.specs.declared.ends.PriceLimit.{PriceLimit}
 use Rattle.ice_write_session.specs.Writable.{IsWritableMember, IsWritableLimit}

@@ -1,8 +1,6 @@
 //! What records are read as.
-use ice_defs::{NodeKind, Verdict};
-use ice_journal::{
-    Change, EndWord, Kind, LimitKind, Line, LowestFraction, Stage, Version, read_record,
-};
+use ice_defs::{LimitKind, NodeKind, PricingStage, Verdict};
+use ice_journal::{Change, EndWord, Kind, Line, LowestFraction, Version, read_record};
 use ice_set::NodeSet;
 use ice_terms::Settings;
 use std::process::Abort;
@@ -29,22 +27,46 @@ const ENDS: [(&str, EndWord); 8] = [
 ];
 
 const LIMITS: [(&str, Stage, LimitKind); 8] = [
-    ("limit accuracy wide 0 1", Stage::Accuracy, LimitKind::Wide),
+    (
+        "limit accuracy wide 0 1",
+        PricingStage::Accuracy,
+        LimitKind::Wide,
+    ),
     (
         "limit accuracy pivots 0 1",
-        Stage::Accuracy,
+        PricingStage::Accuracy,
         LimitKind::Pivots,
     ),
-    ("limit accuracy rows 0 1", Stage::Accuracy, LimitKind::Rows),
-    ("limit accuracy den 0 1", Stage::Accuracy, LimitKind::Den),
-    ("limit balance wide 0 1", Stage::Balance, LimitKind::Wide),
+    (
+        "limit accuracy rows 0 1",
+        PricingStage::Accuracy,
+        LimitKind::Rows,
+    ),
+    (
+        "limit accuracy den 0 1",
+        PricingStage::Accuracy,
+        LimitKind::Den,
+    ),
+    (
+        "limit balance wide 0 1",
+        PricingStage::Balance,
+        LimitKind::Wide,
+    ),
     (
         "limit balance pivots 0 1",
-        Stage::Balance,
+        PricingStage::Balance,
         LimitKind::Pivots,
     ),
-    ("limit balance rows 0 1", Stage::Balance, LimitKind::Rows),
-    ("limit balance den 0 1", Stage::Balance, LimitKind::Den),
+    (
+        "limit balance rows 0 1",
+        PricingStage::Balance,
+        LimitKind::Rows,
+    ),
+    (
+        "limit balance den 0 1",
+        PricingStage::Balance,
+        LimitKind::Den,
+    ),
 ];
 
 const VERDICTS: [(&str, Verdict); 8] = [

@@ -19,9 +19,9 @@ use Rattle.ice_search.specs.declared.results.Spent.{Spent}
 use Rattle.ice_regret.specs.Regretted.{proved_rival}
 use Rattle.ice_regret.specs.declared.lead.Regret.{Regret}
 use Rattle.ice_price.specs.declared.ends.PriceLimit.{PriceLimit}
-use Rattle.ice_price.specs.Stages.{stage_of, limit_of}
-use Rattle.ice_price.specs.declared.ends.Stage.{Stage}
-use Rattle.ice_price.specs.declared.ends.Stage.TheVariants.{Accuracy, Balance}
+use Rattle.ice_defs.specs.PricingLimit.{stage_of, limit_of}
+use Rattle.ice_defs.specs.declared.PricingStage.{PricingStage}
+use Rattle.ice_defs.specs.declared.PricingStage.TheVariants.{Accuracy, Balance}
 use Rattle.ice_vickrey.specs.Marginals.{proved_without}
 use Rattle.ice_vickrey.specs.declared.marginal.Marginal.{Marginal}
 use Rattle.ice_settled.specs.Shown.{settlement_of, closed_of}
@@ -122,7 +122,7 @@ halt_are_records h may =
     (withouts_are (length (exact_of h.exchange)) 0 h.marginals.items (omega (arith, may.withouts.few)) may.withouts.each))
     (found_provisional_are h.exchange h.provisional may.provisional)
 
-stage_is : (stage : Stage) → IsStageRecord (stage_of stage)
+stage_is : (stage : PricingStage) → IsStageRecord (stage_of stage)
 stage_is Accuracy = tt
 stage_is Balance = tt
 

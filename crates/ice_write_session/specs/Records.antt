@@ -12,7 +12,7 @@ use Rattle.ice_search.specs.declared.results.Found.{Found}
 use Rattle.ice_search.specs.declared.results.Spent.{Spent}
 use Rattle.ice_regret.specs.Regretted.{proved_rival}
 use Rattle.ice_regret.specs.declared.lead.Regret.{Regret}
-use Rattle.ice_price.specs.Stages.{stage_of, limit_of}
+use Rattle.ice_defs.specs.PricingLimit.{stage_of, limit_of}
 use Rattle.ice_price.specs.declared.ends.PriceLimit.{PriceLimit}
 use Rattle.ice_vickrey.specs.Marginals.{proved_without}
 use Rattle.ice_vickrey.specs.declared.marginal.Marginal.{Marginal}

@@ -1,13 +1,12 @@
 //! A settlement that was halted: as far as it came, and where a pricing run ended.
 ghost use Rattle.std.specs.Prelude.{◌≡◌, ◌∷◌, [], IfSome, length, map};
 ghost use Rattle.ice_defs.specs.Exchange.{exact_of};
+ghost use Rattle.ice_defs.specs.PricingLimit.{limit_of, stage_of};
 ghost use Rattle.std.specs.List.{AllByRecursion};
 ghost use Rattle.ice_edge.specs.Puts.{IsPut};
 ghost use Rattle.ice_journal.specs.Records as line;
 ghost use Rattle.ice_journal.specs.Journal.{bytes_of};
 ghost use Rattle.ice_journal.specs.Spelling.{line_of};
-ghost use Rattle.ice_journal.specs.Lines as journal;
-ghost use Rattle.ice_price.specs.Stages as price;
 ghost use Rattle.ice_search.specs.Results.{proved_found};
 ghost use Rattle.ice_write_session.specs.Records.{member_record, found_final, found_regret, found_provisional, halt_records, limit_records};
 ghost use Rattle.ice_write_session.specs.Writable.{IsWritable, IsWritableRegret, IsWritableHalt, IsWritableMember, IsWritableLimit};
@@ -17,7 +16,7 @@ use crate::record::{put_end, put_line, put_settle};
 use crate::regret::put_regret;
 use crate::without::put_withouts;
 use ice_edge::{Sink, SinkFault};
-use ice_journal::{EndWord, LimitKind, Line, Stage};
+use ice_journal::{EndWord, Line};
 use ice_price::{PoolMember, PriceLimit};
 use ice_regret::Regret;
 use ice_search::Found;
@@ -91,37 +90,17 @@ pub fn put_halt<K: Sink>(halt: &Halt, out: &mut K) -> Result<(), SinkFault>
     put_found_provisional(exchange, &halt.provisional, out)
 }
 
-fn stage_of(stage: ice_price::Stage) -> Stage
-    ensures { journal.stage_of result ≡ price.stage_of stage }
-{
-    match stage {
-        ice_price::Stage::Accuracy => Stage::Accuracy,
-        ice_price::Stage::Balance => Stage::Balance,
-    }
-}
-
-fn kind_of(kind: ice_price::LimitKind) -> LimitKind
-    ensures { journal.limit_of result ≡ price.limit_of kind }
-{
-    match kind {
-        ice_price::LimitKind::Wide => LimitKind::Wide,
-        ice_price::LimitKind::Pivots => LimitKind::Pivots,
-        ice_price::LimitKind::Rows => LimitKind::Rows,
-        ice_price::LimitKind::Den => LimitKind::Den,
-    }
-}
-
 /// Puts the stage and the limit, with the violation and its denominator.
 fn put_stage<K: Sink>(limit: &PriceLimit, out: &mut K) -> Result<(), SinkFault>
     requires { IsWritableLimit limit.now }
     ensures { IsPut
-        (bytes_of (line.limit (price.stage_of limit.now.stage) (price.limit_of limit.now.kind)
+        (bytes_of (line.limit (stage_of limit.now.stage) (limit_of limit.now.kind)
         limit.now.delta limit.now.den ∷ [])) result
         (K.written out.old) (K.written out.new) (K.faults out.old) (K.faults out.new) }
 {
     let line = Line::Limit {
-        stage: stage_of(limit.stage),
-        kind: kind_of(limit.kind),
+        stage: limit.stage,
+        kind: limit.kind,
         violation: limit.delta,
         den: limit.den,
     };

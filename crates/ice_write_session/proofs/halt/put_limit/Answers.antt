@@ -3,7 +3,7 @@ use Rattle.std.proofs.lemmas.Result.{err_from_is_err_and}
 use Rattle.ice_journal.specs.Records.{Record}
 use Rattle.ice_journal.specs.Records as line
 use Rattle.ice_journal.specs.Records.{limit_end}
-use Rattle.ice_price.specs.Stages.{stage_of, limit_of}
+use Rattle.ice_defs.specs.PricingLimit.{stage_of, limit_of}
 use Rattle.ice_write_session.specs.Records.{member_record}
 use Rattle.ice_write_session.proofs.Puts.{fails_first, fails_then, takes_then, put_last, put_failed, takes_of, fails_of}
 use Rattle.ice_write_session.proofs.halt.put_limit.Goals as goal
