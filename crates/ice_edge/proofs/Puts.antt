@@ -1,12 +1,12 @@
 -- Puts one after another, seen as one put of the whole text.
-use Rattle.std.proofs.Common.{◌≡◌, ◌∙◌, ap, sym, refl, subst, ℕ, ◌+◌, ◌<◌, ◌≤◌, List, [], ◌∷◌, ◌++◌, length, get_or, take, drop, Option, Some, None, Result, Ok, Err, OnOk, OnErr, append_assoc, length-append, arith}
+use Rattle.std.proofs.Common.{◌≡◌, ◌∙◌, ap, sym, refl, subst, ℕ, ◌+◌, ◌<◌, ◌≤◌, List, [], ◌∷◌, ◌++◌, length, get_or, take, drop, Option, Some, None, append_assoc, length-append, arith}
 use Rattle.std.proofs.lemmas.List.{append-nil, take-append-le, take-append-drop, take_more}
 use Rattle.std.proofs.lemmas.List.Concat.{flat_map-append}
 use Rattle.std.specs.List.{flat_map}
 use Rattle.std.proofs.Math.Seq.{take-append-add}
 use Rattle.ice_edge.specs.Edge.{Rose, Appends, AppendsFront}
-use Rattle.ice_edge.specs.declared.sink.SinkFault.{SinkFault}
-use Rattle.ice_edge.specs.Puts.{Takes, FailsIn, IsPut, TakesAllBut}
+use Rattle.ice_edge.specs.Puts.{Takes, FailsIn, TakesAllBut}
+use Rattle.ice_edge.specs.Taken.{Taken}
 
 pub Appends-nothing : (old : Option (List ℕ)) → Appends old [] old
 Appends-nothing None = tt
@@ -37,6 +37,9 @@ rose-later a b c rose le h = omega (arith, rose)
 pub rose-sooner : (a b c : ℕ) → a ≤ b → Rose b c → Rose a c
 rose-sooner a b c le rose h = omega (arith, rose h)
 
+pub rose-kept : (a b c : ℕ) → b ≡ a → Rose b c → Rose a c
+rose-kept a b c same rose h = omega (arith, same, rose h)
+
 -- ---- the text of a list, piece by piece
 
 pub text_more : {X : Type 0} (f : X → List ℕ) (xs : List X) (i : ℕ) (x : X) → i < length xs → x ≡ get_or xs i x → flat_map f (take (i + 1) xs) ≡ flat_map f (take i xs) ++ f x
@@ -51,52 +54,45 @@ text_split f xs i x h is =
 
 -- ---- what is left of a whole text
 
-pub takes_nothing : (old : Option (List ℕ)) (faults : ℕ) → Takes [] old old faults faults
-takes_nothing old faults = record { appends = Appends-nothing old; later = omega arith }
+pub takes_nothing : (old : Taken) → Takes [] old old
+takes_nothing old = record { appends = Appends-nothing old.written; kept = refl }
 
-pub takes_join : (t u : List ℕ) (old mid new : Option (List ℕ)) (f g h : ℕ) → Takes t old mid f g → Takes u mid new g h → Takes (t ++ u) old new f h
-takes_join t u old mid new f g h a b = record { appends = Appends-append old mid new t u a.appends b.appends; later = omega (arith, a.later, b.later) }
+pub takes_join : (t u : List ℕ) (old mid new : Taken) → Takes t old mid → Takes u mid new → Takes (t ++ u) old new
+takes_join t u old mid new a b = record { appends = Appends-append old.written mid.written new.written t u a.appends b.appends; kept = b.kept ∙ a.kept }
 
-pub all_left : (whole : List ℕ) (old : Option (List ℕ)) (faults : ℕ) → TakesAllBut whole whole old old faults faults
-all_left whole old faults = record { front = []; takes = takes_nothing old faults; split = refl }
+pub all_left : (whole : List ℕ) (old : Taken) → TakesAllBut whole whole old old
+all_left whole old = record { front = []; takes = takes_nothing old; split = refl }
 
 -- one more piece
-pub less_left : (piece rest whole : List ℕ) (old mid new : Option (List ℕ)) (f g h : ℕ) → TakesAllBut (piece ++ rest) whole old mid f g → Takes piece mid new g h → TakesAllBut rest whole old new f h
-less_left piece rest whole old mid new f g h so b = record {
+pub less_left : (piece rest whole : List ℕ) (old mid new : Taken) → TakesAllBut (piece ++ rest) whole old mid → Takes piece mid new → TakesAllBut rest whole old new
+less_left piece rest whole old mid new so b = record {
   front = so.front ++ piece;
-  takes = takes_join so.front piece old mid new f g h so.takes b;
+  takes = takes_join so.front piece old mid new so.takes b;
   split = so.split ∙ sym (append_assoc so.front piece rest);
 }
 
 -- the sink fails in the next piece
-pub fails_next : (piece rest whole : List ℕ) (old mid new : Option (List ℕ)) (f g h : ℕ) → TakesAllBut (piece ++ rest) whole old mid f g → FailsIn piece mid new g h → FailsIn whole old new f h
-fails_next piece rest whole old mid new f g h so b =
-    let P : List ℕ → Type 0 = λ all. AppendsFront old all new in
+pub fails_next : (piece rest whole : List ℕ) (old mid new : Taken) → TakesAllBut (piece ++ rest) whole old mid → FailsIn piece mid new → FailsIn whole old new
+fails_next piece rest whole old mid new so b =
+    let P : List ℕ → Type 0 = λ all. AppendsFront old.written all new.written in
     record {
-      front = subst P (sym (so.split ∙ sym (append_assoc so.front piece rest))) (front-append old new (so.front ++ piece) rest (append-front old mid new so.front piece so.takes.appends b.front));
-      rose = rose-sooner f g h so.takes.later b.rose;
-      later = omega (arith, so.takes.later, b.later);
+      front = subst P (sym (so.split ∙ sym (append_assoc so.front piece rest))) (front-append old.written new.written (so.front ++ piece) rest (append-front old.written mid.written new.written so.front piece so.takes.appends b.front));
+      rose = rose-kept old.faults mid.faults new.faults so.takes.kept b.rose;
+      later = omega (arith, so.takes.kept, b.later);
     }
 
 -- and in the last one
-pub fails_last : (piece whole : List ℕ) (old mid new : Option (List ℕ)) (f g h : ℕ) → TakesAllBut piece whole old mid f g → FailsIn piece mid new g h → FailsIn whole old new f h
-fails_last piece whole old mid new f g h so b =
-    let P : List ℕ → Type 0 = λ rest. TakesAllBut rest whole old mid f g in
-    fails_next piece [] whole old mid new f g h (subst P (sym (append-nil piece)) so) b
+pub fails_last : (piece whole : List ℕ) (old mid new : Taken) → TakesAllBut piece whole old mid → FailsIn piece mid new → FailsIn whole old new
+fails_last piece whole old mid new so b =
+    let P : List ℕ → Type 0 = λ rest. TakesAllBut rest whole old mid in
+    fails_next piece [] whole old mid new (subst P (sym (append-nil piece)) so) b
 
-pub none_left : (whole : List ℕ) (old new : Option (List ℕ)) (f g : ℕ) → TakesAllBut [] whole old new f g → Takes whole old new f g
-none_left whole old new f g so =
-    let P : List ℕ → Type 0 = λ t. Takes t old new f g in
+pub none_left : (whole : List ℕ) (old new : Taken) → TakesAllBut [] whole old new → Takes whole old new
+none_left whole old new so =
+    let P : List ℕ → Type 0 = λ t. Takes t old new in
     subst P (sym (so.split ∙ append-nil so.front)) so.takes
 
-pub last_taken : (piece whole : List ℕ) (old mid new : Option (List ℕ)) (f g h : ℕ) → TakesAllBut piece whole old mid f g → Takes piece mid new g h → Takes whole old new f h
-last_taken piece whole old mid new f g h so b =
-    let P : List ℕ → Type 0 = λ t. Takes t old new f h in
-    subst P (sym so.split) (takes_join so.front piece old mid new f g h so.takes b)
-
--- ---- one put
-
-pub put_is : (text : List ℕ) (put : Result (Unit {0}) SinkFault) (old new : Option (List ℕ)) (f g : ℕ) → OnOk put (Appends old text new) → OnErr put (AppendsFront old text new) → OnErr put (Rose f g) → f ≤ g
-    → IsPut text put old new f g
-put_is text (Ok done) old new f g ok err failed later = record { appends = ok; later = later }
-put_is text (Err fault) old new f g ok err failed later = record { front = err; rose = failed; later = later }
+pub last_taken : (piece whole : List ℕ) (old mid new : Taken) → TakesAllBut piece whole old mid → Takes piece mid new → Takes whole old new
+last_taken piece whole old mid new so b =
+    let P : List ℕ → Type 0 = λ t. Takes t old new in
+    subst P (sym so.split) (takes_join so.front piece old mid new so.takes b)

@@ -1,5 +1,6 @@
 pub mod Edge
 pub mod Told
+pub mod Taken
 pub mod Status
 pub mod MemoryShelf
 pub mod MemorySink

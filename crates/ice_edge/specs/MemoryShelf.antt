@@ -11,7 +11,8 @@ pub record File : Type 0 where
   pub name : List ℕ
   pub bytes : List ℕ
 
--- the files, the latest first, the numbers of the fetches that are to fail, how many fetches there were, and the counts of its faults
+-- the files, the latest first, the numbers of the fetches that are to fail, how many fetches there
+-- were, and the counts of its faults
 pub record ShelfState : Type 0 where
   pub files : List File
   pub failing : List ℕ

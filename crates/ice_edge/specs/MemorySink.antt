@@ -1,15 +1,21 @@
 -- A sink in memory: what it has taken, and what a put does.
 use Rattle.std.specs.Prelude.{ℕ, ◌==◌, ◌-◌, min, nat_lt, Bool, false, ◌||◌, List, [], ◌++◌, length, take, Option, Some, None, if◌then◌else◌}
 use Rattle.ice_edge.specs.Edge.{one_more}
+use Rattle.ice_edge.specs.Taken.{Taken}
 use Rattle.ice_edge.specs.declared.memory_sink.PlannedFault.{PlannedFault}
 
--- the bytes it has taken, how many it has room for, the put that is to fail, how many puts there were, and the count of its faults
+-- the bytes it has taken, how many it has room for, the put that is to fail, how many puts there
+-- were, and the count of its faults
 pub record SinkState : Type 0 where
   pub bytes : List ℕ
   pub room : ℕ
   pub planned : Option PlannedFault
   pub calls : ℕ
   pub faults : ℕ
+
+-- it tells of all that it has taken
+abbrev pub told_of : SinkState → Taken
+told_of sink = record { written = Some sink.bytes; faults = sink.faults }
 
 abbrev pub empty_sink : ℕ → SinkState
 empty_sink room = record { bytes = []; room = room; planned = None; calls = 0; faults = 0 }

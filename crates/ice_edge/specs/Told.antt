@@ -2,7 +2,8 @@
 use Rattle.std.specs.Prelude.{◌≡◌, ℕ, ◌<◌, ◌≤◌, List, length, Option, Some, IfSome, IsSomeAnd}
 use Rattle.ice_edge.specs.Edge.{Rose}
 
--- what is told at one time: of each name nothing, or that no file has it, or its bytes; how often a fetch of it failed; and how often its file was longer than a limit
+-- what is told at one time: of each name nothing, or that no file has it, or its bytes; how often a
+-- fetch of it failed; and how often its file was longer than a limit
 pub record Told : Type 0 where
   pub holds : List ℕ → Option (Option (List ℕ))
   pub faults : List ℕ → ℕ

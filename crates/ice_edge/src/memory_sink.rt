@@ -1,7 +1,7 @@
 //! A sink that keeps in memory what it takes.
-ghost use Rattle.std.specs.Prelude.{◌≡◌, ◌≤◌, ◌↔◌, ◌++◌, length, IfOk, OnOk, OnErr, IsErr, IsTrue, Some};
-ghost use Rattle.ice_edge.specs.Edge.{Rose, AppendsFront};
-ghost use Rattle.ice_edge.specs.MemorySink.{taken_of, is_due as due, empty_sink, with_planned, is_next_failing, after_put};
+ghost use Rattle.std.specs.Prelude.{◌≡◌, ◌↔◌, length, IfOk, IsErr, IsTrue};
+ghost use Rattle.ice_edge.specs.Puts.{IsPut};
+ghost use Rattle.ice_edge.specs.MemorySink.{told_of, taken_of, is_due as due, empty_sink, with_planned, is_next_failing, after_put};
 
 use crate::{NoMemory, Sink, SinkFault};
 use std::alloc::Global;
@@ -95,15 +95,10 @@ impl MemSink {
 }
 
 impl Sink for MemSink {
-    ghost written = { λ sink. Some sink.bytes };
-
-    ghost faults = { λ sink. sink.faults };
+    ghost taken = { told_of };
 
     fn put(&mut self, piece: &[u8]) -> Result<(), SinkFault>
-        ensures ok { OnOk result (self.new.bytes ≡ self.old.bytes ++ piece.now) }
-        ensures err { OnErr result (AppendsFront (Some self.old.bytes) piece.now (Some self.new.bytes)) }
-        ensures failed { OnErr result (Rose self.old.faults self.new.faults) }
-        ensures later { self.old.faults ≤ self.new.faults }
+        ensures put { IsPut piece.now result (told_of self.old) (told_of self.new) }
 
         // It takes what fits and is not planned to fail, and fails exactly where it is told to, or
         // where that is not the whole piece. It takes no memory.

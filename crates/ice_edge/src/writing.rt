@@ -38,9 +38,7 @@ impl<W: Write> WriterSink<W> {
 }
 
 impl<W: Write> Sink for WriterSink<W> {
-    ghost written = { λ sink. W.contents sink.to };
-
-    ghost faults = { λ sink. sink.faults };
+    ghost taken = { λ sink. record { written = W.contents sink.to; faults = sink.faults } };
 
     fn put(&mut self, piece: &[u8]) -> Result<(), SinkFault> {
         let written = write_piece(&mut self.to, piece);
