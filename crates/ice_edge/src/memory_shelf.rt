@@ -110,13 +110,18 @@ impl Shelf for MemShelf {
     ghost told = { told_of };
 
     fn fetch(&mut self, alloc: Global, name: &str, limit: usize) -> Result<Vec<u8>, FetchFault>
+        // The bytes that are had, or are too many.
         ensures bytes { IfOk result (λ v. AreTold (told_of self.old) name.now v.items) }
         ensures within { IfOk result (λ v. length v.items ≤ limit) }
         ensures too_long { IsErrOf result FetchFault.TooLong → IsLonger (told_of self.old) name.now limit }
+
+        // The counts that rise.
         ensures failed { IsErrOf result FetchFault.Failed
             → FaultRose (told_of self.old) (told_of self.new) name.now }
         ensures overlong { IsErrOf result FetchFault.TooLong
             → OverlongRose (told_of self.old) (told_of self.new) name.now limit }
+
+        // What stays the same.
         ensures kept { OnOk result (told_of self.new ≡ told_of self.old) }
         ensures kept_in_want { IsErrOf result FetchFault.NoMemory → told_of self.new ≡ told_of self.old }
         ensures later { IsLater (told_of self.old) (told_of self.new) }

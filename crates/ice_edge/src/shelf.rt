@@ -38,15 +38,18 @@ pub trait Shelf {
     /// not be read; each raises a count. `NoMemory` is free. Where the bytes are had, and where
     /// memory is wanting, all that is told stays the same, each count among it.
     fn fetch(&mut self, alloc: Global, name: &str, limit: usize) -> Result<Vec<u8>, FetchFault>
+        // The bytes that are had, or are too many.
         ensures bytes { IfOk result (λ v. AreTold (told self.old) name.now v.items) }
         ensures within { IfOk result (λ v. length v.items ≤ limit) }
         ensures too_long { IsErrOf result FetchFault.TooLong → IsLonger (told self.old) name.now limit }
 
+        // The counts that rise.
         ensures failed { IsErrOf result FetchFault.Failed
             → FaultRose (told self.old) (told self.new) name.now }
         ensures overlong { IsErrOf result FetchFault.TooLong
             → OverlongRose (told self.old) (told self.new) name.now limit }
 
+        // What stays the same.
         ensures kept { OnOk result (told self.new ≡ told self.old) }
         ensures kept_in_want { IsErrOf result FetchFault.NoMemory → told self.new ≡ told self.old }
         ensures later { IsLater (told self.old) (told self.new) };
