@@ -1,51 +1,52 @@
 -- Texts that are put piece by piece, and lists element by element.
-use Rattle.std.proofs.Common.{◌≡◌, ◌∙◌, refl, ap, sym, subst, ℕ, zero, suc, ◌+◌, ◌<◌, ◌≤◌, List, [], ◌∷◌, ◌++◌, length, map, drop, get_or, Option, Result, Ok, Err, arith, add-one, drop-cons}
+use Rattle.std.proofs.Common.{◌≡◌, ◌∙◌, refl, ap, sym, subst, ℕ, zero, suc, ◌+◌, ◌<◌, ◌≤◌, List, [], ◌∷◌, ◌++◌, length, map, drop, get_or, Result, Ok, Err, arith, add-one, drop-cons}
 use Rattle.std.specs.List.{AllByRecursion, flat_map}
 use Rattle.std.proofs.lemmas.List.{drop_all}
 use Rattle.std.proofs.lemmas.List.Concat.{flat_map-cons, flat_map-append}
 use Rattle.std.proofs.lemmas.List.Folds.{flat_map-map}
 use Rattle.ice_edge.specs.declared.sink.SinkFault.{SinkFault}
 use Rattle.ice_edge.specs.Puts.{Takes, FailsIn, IsPut, TakesAllBut}
-use Rattle.ice_edge.proofs.Puts.{takes_join, front-append, append-front, rose-sooner, less_left, fails_next, none_left}
+use Rattle.ice_edge.proofs.Puts.{takes_join, front-append, append-front, rose-kept, less_left, fails_next, none_left}
+use Rattle.ice_edge.specs.Taken.{Taken}
 use Rattle.ice_journal.specs.Records.{Record}
 use Rattle.ice_journal.specs.Journal.{bytes_of}
 use Rattle.ice_journal.specs.Spelling.{line_of}
 
 -- the same text in other words
-pub fails_as : {old new : Option (List ℕ)} {f g : ℕ} (text whole : List ℕ) (put : Result (Unit {0}) SinkFault) (fault : SinkFault) → put ≡ Err fault → text ≡ whole → FailsIn whole old new f g → IsPut text put old new f g
-fails_as {old = old} {new = new} {f = f} {g = g} text whole put fault is same fails =
-    subst (λ r. IsPut text r old new f g) (sym is) (subst (λ (t : List ℕ). FailsIn t old new f g) (sym same) fails)
+pub fails_as : {old new : Taken} (text whole : List ℕ) (put : Result (Unit {0}) SinkFault) (fault : SinkFault) → put ≡ Err fault → text ≡ whole → FailsIn whole old new → IsPut text put old new
+fails_as {old = old} {new = new} text whole put fault is same fails =
+    subst (λ r. IsPut text r old new) (sym is) (subst (λ (t : List ℕ). FailsIn t old new) (sym same) fails)
 
-pub takes_as : {old new : Option (List ℕ)} {f g : ℕ} (text whole : List ℕ) → text ≡ whole → Takes whole old new f g → Takes text old new f g
-takes_as {old = old} {new = new} {f = f} {g = g} text whole same takes = subst (λ (t : List ℕ). Takes t old new f g) (sym same) takes
+pub takes_as : {old new : Taken} (text whole : List ℕ) → text ≡ whole → Takes whole old new → Takes text old new
+takes_as {old = old} {new = new} text whole same takes = subst (λ (t : List ℕ). Takes t old new) (sym same) takes
 
-pub put_as : (text whole : List ℕ) (put : Result (Unit {0}) SinkFault) (old new : Option (List ℕ)) (f g : ℕ) → text ≡ whole → IsPut whole put old new f g → IsPut text put old new f g
-put_as text whole put old new f g same is = subst (λ (t : List ℕ). IsPut t put old new f g) (sym same) is
+pub put_as : (text whole : List ℕ) (put : Result (Unit {0}) SinkFault) (old new : Taken) → text ≡ whole → IsPut whole put old new → IsPut text put old new
+put_as text whole put old new same is = subst (λ (t : List ℕ). IsPut t put old new) (sym same) is
 
 module _ {X : Type 0} (f : X → List ℕ) (xs : List X) (i : ℕ) (x : X) (there : i < length xs) (is : get_or xs i x ≡ x) where
   opened : flat_map f (drop i xs) ≡ f x ++ flat_map f (drop (i + 1) xs)
   opened = rw (drop-cons xs i x there, is, add-one i) (flat_map-cons f x (drop (suc i) xs))
 
   module _ (piece whole : List ℕ) (same : piece ≡ f x) where
-    next_left : {old mid : Option (List ℕ)} {faults later : ℕ} → TakesAllBut (flat_map f (drop i xs)) whole old mid faults later → TakesAllBut (piece ++ flat_map f (drop (i + 1) xs)) whole old mid faults later
-    next_left {old = old} {mid = mid} {faults = faults} {later = later} left =
-        subst (λ (t : List ℕ). TakesAllBut t whole old mid faults later) (opened ∙ ap (λ (t : List ℕ). t ++ flat_map f (drop (i + 1) xs)) (sym same)) left
+    next_left : {old mid : Taken} → TakesAllBut (flat_map f (drop i xs)) whole old mid → TakesAllBut (piece ++ flat_map f (drop (i + 1) xs)) whole old mid
+    next_left {old = old} {mid = mid} left =
+        subst (λ (t : List ℕ). TakesAllBut t whole old mid) (opened ∙ ap (λ (t : List ℕ). t ++ flat_map f (drop (i + 1) xs)) (sym same)) left
 
     -- the next one is put
-    pub one_more : {old mid new : Option (List ℕ)} {faults later last : ℕ} → TakesAllBut (flat_map f (drop i xs)) whole old mid faults later → Takes piece mid new later last → TakesAllBut (flat_map f (drop (i + 1) xs)) whole old new faults last
-    one_more {old = old} {mid = mid} {new = new} {faults = faults} {later = later} {last = last} left takes =
-        less_left piece (flat_map f (drop (i + 1) xs)) whole old mid new faults later last (next_left left) takes
+    pub one_more : {old mid new : Taken} → TakesAllBut (flat_map f (drop i xs)) whole old mid → Takes piece mid new → TakesAllBut (flat_map f (drop (i + 1) xs)) whole old new
+    one_more {old = old} {mid = mid} {new = new} left takes =
+        less_left piece (flat_map f (drop (i + 1) xs)) whole old mid new (next_left left) takes
 
     -- or the sink fails in it
-    pub one_fails : {old mid new : Option (List ℕ)} {faults later last : ℕ} → TakesAllBut (flat_map f (drop i xs)) whole old mid faults later → FailsIn piece mid new later last → FailsIn whole old new faults last
-    one_fails {old = old} {mid = mid} {new = new} {faults = faults} {later = later} {last = last} left fails =
-        fails_next piece (flat_map f (drop (i + 1) xs)) whole old mid new faults later last (next_left left) fails
+    pub one_fails : {old mid new : Taken} → TakesAllBut (flat_map f (drop i xs)) whole old mid → FailsIn piece mid new → FailsIn whole old new
+    one_fails {old = old} {mid = mid} {new = new} left fails =
+        fails_next piece (flat_map f (drop (i + 1) xs)) whole old mid new (next_left left) fails
 
 -- all of them are put
-pub all_put : {X : Type 0} {old new : Option (List ℕ)} {faults later : ℕ} (f : X → List ℕ) (xs : List X) (n : ℕ) (whole : List ℕ) → length xs ≤ n
-    → TakesAllBut (flat_map f (drop n xs)) whole old new faults later → Takes whole old new faults later
-all_put {old = old} {new = new} {faults = faults} {later = later} f xs n whole all left =
-    none_left whole old new faults later (subst (λ l. TakesAllBut (flat_map f l) whole old new faults later) (drop_all n xs all) left)
+pub all_put : {X : Type 0} {old new : Taken} (f : X → List ℕ) (xs : List X) (n : ℕ) (whole : List ℕ) → length xs ≤ n
+    → TakesAllBut (flat_map f (drop n xs)) whole old new → Takes whole old new
+all_put {old = old} {new = new} f xs n whole all left =
+    none_left whole old new (subst (λ l. TakesAllBut (flat_map f l) whole old new) (drop_all n xs all) left)
 
 -- the bytes of one record for each element, and of several
 pub bytes_map : {X : Type 0} (r : X → Record) (xs : List X) → bytes_of (map r xs) ≡ flat_map (λ x. line_of (r x)) xs
@@ -76,29 +77,29 @@ next_all P xs i d there all =
 
 -- ---- two pieces
 
-pub first_fails : {old new : Option (List ℕ)} {f g : ℕ} (piece rest : List ℕ) → FailsIn piece old new f g → FailsIn (piece ++ rest) old new f g
-first_fails {old = old} {new = new} {f = f} {g = g} piece rest fails = record { front = front-append old new piece rest fails.front; rose = fails.rose; later = fails.later }
+pub first_fails : {old new : Taken} (piece rest : List ℕ) → FailsIn piece old new → FailsIn (piece ++ rest) old new
+first_fails {old = old} {new = new} piece rest fails = record { front = front-append old.written new.written piece rest fails.front; rose = fails.rose; later = fails.later }
 
-pub then_fails : {old mid new : Option (List ℕ)} {f g h : ℕ} (piece rest : List ℕ) → Takes piece old mid f g → FailsIn rest mid new g h → FailsIn (piece ++ rest) old new f h
-then_fails {old = old} {mid = mid} {new = new} {f = f} {g = g} {h = h} piece rest takes fails = record {
-  front = append-front old mid new piece rest takes.appends fails.front;
-  rose = rose-sooner f g h takes.later fails.rose;
-  later = omega (arith, takes.later, fails.later);
+pub then_fails : {old mid new : Taken} (piece rest : List ℕ) → Takes piece old mid → FailsIn rest mid new → FailsIn (piece ++ rest) old new
+then_fails {old = old} {mid = mid} {new = new} piece rest takes fails = record {
+  front = append-front old.written mid.written new.written piece rest takes.appends fails.front;
+  rose = rose-kept old.faults mid.faults new.faults takes.kept fails.rose;
+  later = omega (arith, takes.kept, fails.later);
 }
 
-pub takes_both : {old mid new : Option (List ℕ)} {f g h : ℕ} (piece rest : List ℕ) → Takes piece old mid f g → Takes rest mid new g h → Takes (piece ++ rest) old new f h
-takes_both {old = old} {mid = mid} {new = new} {f = f} {g = g} {h = h} piece rest a b = takes_join piece rest old mid new f g h a b
+pub takes_both : {old mid new : Taken} (piece rest : List ℕ) → Takes piece old mid → Takes rest mid new → Takes (piece ++ rest) old new
+takes_both {old = old} {mid = mid} {new = new} piece rest a b = takes_join piece rest old mid new a b
 
-pub then_put : {old mid : Option (List ℕ)} {f g : ℕ} (piece rest : List ℕ) (put : Result (Unit {0}) SinkFault) (new : Option (List ℕ)) (h : ℕ) → Takes piece old mid f g → IsPut rest put mid new g h → IsPut (piece ++ rest) put old new f h
-then_put piece rest (Ok done) new h takes is = takes_both piece rest takes is
-then_put piece rest (Err fault) new h takes is = then_fails piece rest takes is
+pub then_put : {old mid : Taken} (piece rest : List ℕ) (put : Result (Unit {0}) SinkFault) (new : Taken) → Takes piece old mid → IsPut rest put mid new → IsPut (piece ++ rest) put old new
+then_put piece rest (Ok done) new takes is = takes_both piece rest takes is
+then_put piece rest (Err fault) new takes is = then_fails piece rest takes is
 
 -- ---- the next piece of a text that is spelled in other words
 
-pub next_fails : {old mid new : Option (List ℕ)} {f g h : ℕ} (piece rest text whole : List ℕ) → text ≡ piece ++ rest → TakesAllBut text whole old mid f g → FailsIn piece mid new g h → FailsIn whole old new f h
-next_fails {old = old} {mid = mid} {new = new} {f = f} {g = g} {h = h} piece rest text whole is left fails =
-    fails_next piece rest whole old mid new f g h (subst (λ (t : List ℕ). TakesAllBut t whole old mid f g) is left) fails
+pub next_fails : {old mid new : Taken} (piece rest text whole : List ℕ) → text ≡ piece ++ rest → TakesAllBut text whole old mid → FailsIn piece mid new → FailsIn whole old new
+next_fails {old = old} {mid = mid} {new = new} piece rest text whole is left fails =
+    fails_next piece rest whole old mid new (subst (λ (t : List ℕ). TakesAllBut t whole old mid) is left) fails
 
-pub next_taken : {old mid new : Option (List ℕ)} {f g h : ℕ} (piece rest text whole : List ℕ) → text ≡ piece ++ rest → TakesAllBut text whole old mid f g → Takes piece mid new g h → TakesAllBut rest whole old new f h
-next_taken {old = old} {mid = mid} {new = new} {f = f} {g = g} {h = h} piece rest text whole is left takes =
-    less_left piece rest whole old mid new f g h (subst (λ (t : List ℕ). TakesAllBut t whole old mid f g) is left) takes
+pub next_taken : {old mid new : Taken} (piece rest text whole : List ℕ) → text ≡ piece ++ rest → TakesAllBut text whole old mid → Takes piece mid new → TakesAllBut rest whole old new
+next_taken {old = old} {mid = mid} {new = new} piece rest text whole is left takes =
+    less_left piece rest whole old mid new (subst (λ (t : List ℕ). TakesAllBut t whole old mid) is left) takes

@@ -6,7 +6,8 @@ use Rattle.ice_defs.specs.Steps.{Step}
 use Rattle.ice_refute.specs.Code.{CountsGoods}
 use Rattle.ice_journal.specs.Ranges.{IsBits, IsStepRecord}
 
--- sets of at most 40 bidders, and a log whose leaves have a multiplier for each of at most 32 goods; all numbers are in the ranges of their records
+-- sets of at most 40 bidders, and a log whose leaves have a multiplier for each of at most 32
+-- goods; all numbers are in the ranges of their records
 pub record AreWritable (goods : ℕ) (sets : Assignment) (log : List Step) : Type 0 where
   pub few_bidders : length sets ≤ 40
   pub few_goods : goods ≤ 32

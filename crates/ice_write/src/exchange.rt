@@ -36,7 +36,7 @@ fn good_line(name: Name, exact: bool) -> Line
 /// Puts the goods.
 fn put_goods<K: Sink>(exchange: &Exchange, out: &mut K) -> Result<(), SinkFault>
     ensures { IsPut (bytes_of (map good_record exchange.now.goods)) result
-        (K.written out.old) (K.written out.new) (K.faults out.old) (K.faults out.new) }
+        (K.taken out.old) (K.taken out.new) }
 {
     for good in 0..exchange.goods() {
         let name = exchange.good_name(good).copy();
@@ -67,6 +67,7 @@ fn node_line(tree: &Tree, bounds: &Bounds, node: u16) -> Line
         (length (children_of tree.now node)) (weight_of bounds.now.lo node) (weight_of bounds.now.hi node) }
     ensures record { IsRecord (record_of result) }
 {
+    // How many nodes a tree has at most, and in which range values are.
     let _nodes = tree.nodes();
     let _values = bounds.len();
     Line::Node {
@@ -81,7 +82,7 @@ fn node_line(tree: &Tree, bounds: &Bounds, node: u16) -> Line
 fn put_nodes<K: Sink>(tree: &Tree, bounds: &Bounds, out: &mut K) -> Result<(), SinkFault>
     requires { length bounds.now.lo ≡ length tree.now }
     ensures { IsPut (bytes_of (node_records (with_tree tree.now bounds.now))) result
-        (K.written out.old) (K.written out.new) (K.faults out.old) (K.faults out.new) }
+        (K.taken out.old) (K.taken out.new) }
 {
     for node in 0..tree.nodes() {
         put_record(&node_line(tree, bounds, node), out)?;
@@ -93,7 +94,7 @@ fn put_nodes<K: Sink>(tree: &Tree, bounds: &Bounds, out: &mut K) -> Result<(), S
 fn put_bidder<K: Sink>(exchange: &Exchange, bidder: u8, out: &mut K) -> Result<(), SinkFault>
     requires { bidder < length exchange.now.bidders }
     ensures { IsPut (bytes_of (bidder_records (bidder_of exchange.now bidder))) result
-        (K.written out.old) (K.written out.new) (K.faults out.old) (K.faults out.new) }
+        (K.taken out.old) (K.taken out.new) }
 {
     let tree = &exchange.trees()[bidder as usize];
     let bounds = &exchange.bounds()[bidder as usize];
@@ -108,7 +109,7 @@ fn put_bidder<K: Sink>(exchange: &Exchange, bidder: u8, out: &mut K) -> Result<(
 /// Puts the bidders.
 fn put_bidders<K: Sink>(exchange: &Exchange, out: &mut K) -> Result<(), SinkFault>
     ensures { IsPut (bytes_of (flat_map bidder_records exchange.now.bidders)) result
-        (K.written out.old) (K.written out.new) (K.faults out.old) (K.faults out.new) }
+        (K.taken out.old) (K.taken out.new) }
 {
     for bidder in 0..exchange.bidders() {
         put_bidder(exchange, bidder, out)?;
@@ -120,7 +121,7 @@ fn put_bidders<K: Sink>(exchange: &Exchange, out: &mut K) -> Result<(), SinkFaul
 /// nodes in preorder. It takes no memory.
 pub fn put_section<K: Sink>(exchange: &Exchange, out: &mut K) -> Result<(), SinkFault>
     ensures { IsPut (bytes_of (section_records exchange.now)) result
-        (K.written out.old) (K.written out.new) (K.faults out.old) (K.faults out.new) }
+        (K.taken out.old) (K.taken out.new) }
 {
     put_record(&Line::Settings(exchange.settings()), out)?;
     put_goods(exchange, out)?;

@@ -25,8 +25,7 @@ use ice_tree::Assignment;
 fn put_sets<K: Sink>(sets: &Assignment, out: &mut K) -> Result<(), SinkFault>
     requires few { length sets.now ≤ 40 }
     requires sets { AllByRecursion IsBits sets.now }
-    ensures { IsPut (bytes_of (map line.set sets.now)) result
-        (K.written out.old) (K.written out.new) (K.faults out.old) (K.faults out.new) }
+    ensures { IsPut (bytes_of (map line.set sets.now)) result (K.taken out.old) (K.taken out.new) }
 {
     for bidder in 0..sets.len() as u8 {
         put_record(&Line::Set(*sets.of(bidder)), out)?;
@@ -66,7 +65,7 @@ fn put_steps<K: Sink>(log: &Log, goods: u8, out: &mut K) -> Result<(), SinkFault
     requires counts { AllByRecursion (CountsGoods goods) log.now }
     requires steps { AllByRecursion IsStepRecord log.now }
     ensures { IsPut (bytes_of (step_records version_2 (all_zero goods) log.now)) result
-        (K.written out.old) (K.written out.new) (K.faults out.old) (K.faults out.new) }
+        (K.taken out.old) (K.taken out.new) }
 {
     let mut multipliers = Multipliers::zero(goods);
     for step in log.steps() {
@@ -92,7 +91,7 @@ pub fn put_group<K: Sink>(
     requires written { AreWritable goods sets.now log.now }
     ensures { IsPut (bytes_of (record_of head.now ∷ map line.set sets.now
         ++ step_records version_2 (all_zero goods) log.now)) result
-        (K.written out.old) (K.written out.new) (K.faults out.old) (K.faults out.new) }
+        (K.taken out.old) (K.taken out.new) }
 {
     put_record(head, out)?;
     put_sets(sets, out)?;

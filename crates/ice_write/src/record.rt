@@ -11,8 +11,7 @@ use ice_line::LineWriter;
 /// Puts the line of a record, whose numbers are in their ranges. It takes no memory.
 pub fn put_record<K: Sink>(line: &Line, out: &mut K) -> Result<(), SinkFault>
     requires { IsRecord (record_of line.now) }
-    ensures { IsPut (line_of (record_of line.now)) result
-        (K.written out.old) (K.written out.new) (K.faults out.old) (K.faults out.new) }
+    ensures { IsPut (line_of (record_of line.now)) result (K.taken out.old) (K.taken out.new) }
 {
     let mut writer = LineWriter::new();
     write_record(line, &mut writer);

@@ -33,7 +33,7 @@ returns g c =
     let bounds = c.index-bounds-bidder.result in
     let first = line.bidder c.copy.result c.own_of.result.items in
     let nodes = node_records (with_tree tree bounds) in
-    put_as (bytes_of (bidder_records (bidder_of c.args.exchange.now c.args.bidder))) (bytes_of (first ∷ nodes)) c.put_nodes.result (g.K.Sink.written c.args.out.now) (g.K.Sink.written c.put_nodes.new.out) (g.K.Sink.faults c.args.out.now) (g.K.Sink.faults c.put_nodes.new.out)
+    put_as (bytes_of (bidder_records (bidder_of c.args.exchange.now c.args.bidder))) (bytes_of (first ∷ nodes)) c.put_nodes.result (g.K.Sink.taken c.args.out.now) (g.K.Sink.taken c.put_nodes.new.out)
     (ap bytes_of (bidder_is c.args.exchange.now c.args.bidder c.copy.result c.own_of.result.items tree bounds c.requires (c.copy.ensures.copy ∙ c.bidder_name.ensures) c.own_of.ensures.own
     (c.index-trees-bidder.is ∙ ap (λ l. get_or l c.args.bidder tree) c.trees.ensures.value) (c.index-bounds-bidder.is ∙ ap (λ l. get_or l c.args.bidder bounds) c.bounds.ensures.value)))
-    (then_put (line_of first) (bytes_of nodes) c.put_nodes.result (g.K.Sink.written c.put_nodes.new.out) (g.K.Sink.faults c.put_nodes.new.out) c.in_ok-put_record.ensures c.put_nodes.ensures)
+    (then_put (line_of first) (bytes_of nodes) c.put_nodes.result (g.K.Sink.taken c.put_nodes.new.out) c.in_ok-put_record.ensures c.put_nodes.ensures)

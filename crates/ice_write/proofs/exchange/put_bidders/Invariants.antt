@@ -6,5 +6,4 @@ use Rattle.ice_write.proofs.exchange.put_bidders.Given as goal
 
 abbrev pub invariant-loop-bidder : goal.invariant-loop-bidder
 invariant-loop-bidder g l =
-    TakesAllBut (flat_map bidder_text (drop l.bidder l.exchange.bidders)) (flat_map bidder_text l.exchange.bidders) (g.K.Sink.written l.initial.out) (g.K.Sink.written l.out)
-    (g.K.Sink.faults l.initial.out) (g.K.Sink.faults l.out)
+    TakesAllBut (flat_map bidder_text (drop l.bidder l.exchange.bidders)) (flat_map bidder_text l.exchange.bidders) (g.K.Sink.taken l.initial.out) (g.K.Sink.taken l.out)

@@ -6,5 +6,4 @@ use Rattle.ice_write.proofs.exchange.put_goods.Given as goal
 
 abbrev pub invariant-loop-good : goal.invariant-loop-good
 invariant-loop-good g l =
-    TakesAllBut (flat_map good_text (drop l.good l.exchange.goods)) (flat_map good_text l.exchange.goods) (g.K.Sink.written l.initial.out) (g.K.Sink.written l.out)
-    (g.K.Sink.faults l.initial.out) (g.K.Sink.faults l.out)
+    TakesAllBut (flat_map good_text (drop l.good l.exchange.goods)) (flat_map good_text l.exchange.goods) (g.K.Sink.taken l.initial.out) (g.K.Sink.taken l.out)

@@ -1,4 +1,4 @@
-use Rattle.std.proofs.Common.{◌<◌, ap, length, get_or, arith}
+use Rattle.std.proofs.Common.{◌<◌, ap, length, arith}
 use Rattle.std.specs.List.{flat_map}
 use Rattle.std.proofs.lemmas.Result.{err_from_is_err_and}
 use Rattle.ice_defs.specs.Sum.{numbers_below}

@@ -7,5 +7,4 @@ use Rattle.ice_write.proofs.exchange.put_nodes.Given as goal
 
 abbrev pub invariant-loop-node : goal.invariant-loop-node
 invariant-loop-node g l =
-    TakesAllBut (flat_map (node_text l.tree l.bounds) (drop l.node (numbers_below (length l.tree)))) (flat_map (node_text l.tree l.bounds) (numbers_below (length l.tree))) (g.K.Sink.written l.initial.out) (g.K.Sink.written l.out)
-    (g.K.Sink.faults l.initial.out) (g.K.Sink.faults l.out)
+    TakesAllBut (flat_map (node_text l.tree l.bounds) (drop l.node (numbers_below (length l.tree)))) (flat_map (node_text l.tree l.bounds) (numbers_below (length l.tree))) (g.K.Sink.taken l.initial.out) (g.K.Sink.taken l.out)

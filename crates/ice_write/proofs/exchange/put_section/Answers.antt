@@ -36,6 +36,6 @@ returns g c =
     let first = line.settings c.settings.result in
     let goods = map good_record ex.goods in
     let bidders = flat_map bidder_records ex.bidders in
-    put_as (bytes_of (section_records ex)) (bytes_of (first ∷ goods) ++ bytes_of bidders) c.put_bidders.result (g.K.Sink.written c.args.out.now) (g.K.Sink.written c.put_bidders.new.out) (g.K.Sink.faults c.args.out.now) (g.K.Sink.faults c.put_bidders.new.out)
+    put_as (bytes_of (section_records ex)) (bytes_of (first ∷ goods) ++ bytes_of bidders) c.put_bidders.result (g.K.Sink.taken c.args.out.now) (g.K.Sink.taken c.put_bidders.new.out)
     (ap (λ (x : Settings). bytes_of ((line.settings x ∷ goods) ++ bidders)) (sym c.settings.ensures) ∙ bytes_append (first ∷ goods) bidders)
-    (then_put (bytes_of (first ∷ goods)) (bytes_of bidders) c.put_bidders.result (g.K.Sink.written c.put_bidders.new.out) (g.K.Sink.faults c.put_bidders.new.out) (takes_both (line_of first) (bytes_of goods) c.in_ok-put_record.ensures c.in_ok-put_goods.ensures) c.put_bidders.ensures)
+    (then_put (bytes_of (first ∷ goods)) (bytes_of bidders) c.put_bidders.result (g.K.Sink.taken c.put_bidders.new.out) (takes_both (line_of first) (bytes_of goods) c.in_ok-put_record.ensures c.in_ok-put_goods.ensures) c.put_bidders.ensures)

@@ -33,6 +33,6 @@ returns g c =
     let first = record_of c.args.head.now in
     let sets = map line.set c.args.sets.now in
     let steps = step_records version_2 (all_zero c.args.goods) c.args.log.now in
-    put_as (bytes_of ((first ∷ sets) ++ steps)) (bytes_of (first ∷ sets) ++ bytes_of steps) c.put_steps.result (g.K.Sink.written c.args.out.now) (g.K.Sink.written c.put_steps.new.out) (g.K.Sink.faults c.args.out.now) (g.K.Sink.faults c.put_steps.new.out)
+    put_as (bytes_of ((first ∷ sets) ++ steps)) (bytes_of (first ∷ sets) ++ bytes_of steps) c.put_steps.result (g.K.Sink.taken c.args.out.now) (g.K.Sink.taken c.put_steps.new.out)
     (bytes_append (first ∷ sets) steps)
-    (then_put (bytes_of (first ∷ sets)) (bytes_of steps) c.put_steps.result (g.K.Sink.written c.put_steps.new.out) (g.K.Sink.faults c.put_steps.new.out) (takes_both (line_of first) (bytes_of sets) c.in_ok-put_record.ensures c.in_ok-put_sets.ensures) c.put_steps.ensures)
+    (then_put (bytes_of (first ∷ sets)) (bytes_of steps) c.put_steps.result (g.K.Sink.taken c.put_steps.new.out) (takes_both (line_of first) (bytes_of sets) c.in_ok-put_record.ensures c.in_ok-put_sets.ensures) c.put_steps.ensures)

@@ -8,6 +8,5 @@ use Rattle.ice_write.proofs.group.put_sets.Given as goal
 abbrev pub invariant-loop-bidder : goal.invariant-loop-bidder
 invariant-loop-bidder g l = record {
   bits : AllByRecursion IsBits (drop l.bidder l.sets);
-  left : TakesAllBut (flat_map set_text (drop l.bidder l.sets)) (flat_map set_text l.sets) (g.K.Sink.written l.initial.out) (g.K.Sink.written l.out)
-      (g.K.Sink.faults l.initial.out) (g.K.Sink.faults l.out);
+  left : TakesAllBut (flat_map set_text (drop l.bidder l.sets)) (flat_map set_text l.sets) (g.K.Sink.taken l.initial.out) (g.K.Sink.taken l.out);
 }

@@ -73,7 +73,7 @@ loop-step-preserved g c =
       counts = both.1;
       steps = (next_all IsStepRecord log i x there c.loop-step.invariant.steps).1;
       left = subst
-          (λ (l : List ℤ). TakesAllBut (bytes_of (step_records version_2 l (drop (i + 1) log))) whole (g.K.Sink.written c.args.out.now) (g.K.Sink.written c.put_record.new.out) (g.K.Sink.faults c.args.out.now) (g.K.Sink.faults c.put_record.new.out))
+          (λ (l : List ℤ). TakesAllBut (bytes_of (step_records version_2 l (drop (i + 1) log))) whole (g.K.Sink.taken c.args.out.now) (g.K.Sink.taken c.put_record.new.out))
           (sym c.after-multipliers.ensures)
           (next_taken (line_of (record_of c.step_line.result)) rest (bytes_of (step_records version_2 m (drop i log))) whole
           (step_opens log i x m there is ∙ ap (λ (r : Record). line_of r ++ rest) (sym c.step_line.ensures)) c.loop-step.invariant.left c.in_ok-put_record.ensures);

@@ -15,5 +15,5 @@ invariant-loop-step g l = record {
   counts : AllByRecursion (CountsGoods l.goods) (drop l.step-index l.log);
   steps : AllByRecursion IsStepRecord (drop l.step-index l.log);
   left : TakesAllBut (bytes_of (step_records version_2 l.multipliers (drop l.step-index l.log))) (bytes_of (step_records version_2 (all_zero l.goods) l.log))
-      (g.K.Sink.written l.initial.out) (g.K.Sink.written l.out) (g.K.Sink.faults l.initial.out) (g.K.Sink.faults l.out);
+      (g.K.Sink.taken l.initial.out) (g.K.Sink.taken l.out);
 }
