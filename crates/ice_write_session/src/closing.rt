@@ -19,7 +19,7 @@ use ice_settled::Closing;
 pub fn put_closing<K: Sink>(closing: &Closing, out: &mut K) -> Result<(), SinkFault>
     requires { IsWritableClosing closing.now }
     ensures { IsPut (bytes_of (closing_records closing.now)) result
-        (K.written out.old) (K.written out.new) (K.faults out.old) (K.faults out.new) }
+        (K.taken out.old) (K.taken out.new) }
 {
     let exchange = &closing.exchange;
     put_settlement(

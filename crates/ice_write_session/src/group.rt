@@ -23,7 +23,7 @@ use ice_write::put_group;
 pub fn put_final<K: Sink>(exchange: &Exchange, found: &Found, out: &mut K) -> Result<(), SinkFault>
     requires { IsWritable (length (exact_of exchange.now)) (proved_found found.now) }
     ensures { IsPut (bytes_of (final_records exchange.now found.now)) result
-        (K.written out.old) (K.written out.new) (K.faults out.old) (K.faults out.new) }
+        (K.taken out.old) (K.taken out.new) }
 {
     let head = Line::Final {
         value: found.value as i64,
@@ -39,7 +39,7 @@ pub fn put_rival<K: Sink>(
 ) -> Result<(), SinkFault>
     requires { IsWritable (length (exact_of exchange.now)) (proved_rival regret.now) }
     ensures { IsPut (bytes_of (rival_records exchange.now regret.now)) result
-        (K.written out.old) (K.written out.new) (K.faults out.old) (K.faults out.new) }
+        (K.taken out.old) (K.taken out.new) }
 {
     let head = Line::Rival {
         value: regret.value as i64,
@@ -66,7 +66,7 @@ pub fn put_provisional<K: Sink>(
 ) -> Result<(), SinkFault>
     requires { IsWritable (length (exact_of exchange.now)) (proved_found found.now) }
     ensures { IsPut (bytes_of (provisional_records exchange.now found.now)) result
-        (K.written out.old) (K.written out.new) (K.faults out.old) (K.faults out.new) }
+        (K.taken out.old) (K.taken out.new) }
 {
     let head = provisional_line(found);
     put_group(&head, &found.best, &found.log, exchange.goods(), out)
@@ -80,7 +80,7 @@ fn put_spent_group<K: Sink>(
 ) -> Result<(), SinkFault>
     requires { IsWritable (length (exact_of exchange.now)) (proved_spent spent.now) }
     ensures put { IsPut (bytes_of (spent_group exchange.now spent.now)) result
-        (K.written out.old) (K.written out.new) (K.faults out.old) (K.faults out.new) }
+        (K.taken out.old) (K.taken out.new) }
     ensures record { IsRecord (line.spent spent.now.value spent.now.bound) }
 {
     let head = Line::Spent {
@@ -94,7 +94,7 @@ fn put_spent_group<K: Sink>(
 pub fn put_spent<K: Sink>(exchange: &Exchange, spent: &Spent, out: &mut K) -> Result<(), SinkFault>
     requires { IsWritable (length (exact_of exchange.now)) (proved_spent spent.now) }
     ensures put { IsPut (bytes_of (spent_records exchange.now spent.now)) result
-        (K.written out.old) (K.written out.new) (K.faults out.old) (K.faults out.new) }
+        (K.taken out.old) (K.taken out.new) }
     ensures record { IsRecord (line.spent spent.now.value spent.now.bound) }
 {
     put_spent_group(exchange, spent, out)?;

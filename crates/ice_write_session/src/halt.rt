@@ -33,7 +33,7 @@ fn put_found_final<K: Sink>(
     requires { IfSome best.now
         (λ best. IsWritable (length (exact_of exchange.now)) (proved_found best)) }
     ensures { IsPut (bytes_of (found_final exchange.now best.now)) result
-        (K.written out.old) (K.written out.new) (K.faults out.old) (K.faults out.new) }
+        (K.taken out.old) (K.taken out.new) }
 {
     match best {
         Some(best) => put_final(exchange, best, out),
@@ -49,7 +49,7 @@ fn put_found_regret<K: Sink>(
 ) -> Result<(), SinkFault>
     requires { IfSome regret.now (IsWritableRegret (length (exact_of exchange.now))) }
     ensures { IsPut (bytes_of (found_regret exchange.now regret.now)) result
-        (K.written out.old) (K.written out.new) (K.faults out.old) (K.faults out.new) }
+        (K.taken out.old) (K.taken out.new) }
 {
     match regret {
         Some(regret) => put_regret(exchange, regret, out),
@@ -66,7 +66,7 @@ fn put_found_provisional<K: Sink>(
     requires { IfSome provisional.now
         (λ p. IsWritable (length (exact_of exchange.now)) (proved_found p)) }
     ensures { IsPut (bytes_of (found_provisional exchange.now provisional.now)) result
-        (K.written out.old) (K.written out.new) (K.faults out.old) (K.faults out.new) }
+        (K.taken out.old) (K.taken out.new) }
 {
     match provisional {
         Some(provisional) => put_provisional(exchange, provisional, out),
@@ -79,8 +79,7 @@ fn put_found_provisional<K: Sink>(
 /// All numbers are in the ranges of their records. It takes no memory.
 pub fn put_halt<K: Sink>(halt: &Halt, out: &mut K) -> Result<(), SinkFault>
     requires { IsWritableHalt halt.now }
-    ensures { IsPut (bytes_of (halt_records halt.now)) result
-        (K.written out.old) (K.written out.new) (K.faults out.old) (K.faults out.new) }
+    ensures { IsPut (bytes_of (halt_records halt.now)) result (K.taken out.old) (K.taken out.new) }
 {
     let exchange = &halt.exchange;
     put_settle(halt.number, out)?;
@@ -95,8 +94,7 @@ fn put_stage<K: Sink>(limit: &PriceLimit, out: &mut K) -> Result<(), SinkFault>
     requires { IsWritableLimit limit.now }
     ensures { IsPut
         (bytes_of (line.limit (stage_of limit.now.stage) (limit_of limit.now.kind)
-        limit.now.delta limit.now.den ∷ [])) result
-        (K.written out.old) (K.written out.new) (K.faults out.old) (K.faults out.new) }
+        limit.now.delta limit.now.den ∷ [])) result (K.taken out.old) (K.taken out.new) }
 {
     let line = Line::Limit {
         stage: limit.stage,
@@ -111,7 +109,7 @@ fn put_stage<K: Sink>(limit: &PriceLimit, out: &mut K) -> Result<(), SinkFault>
 fn put_member<K: Sink>(member: &PoolMember, out: &mut K) -> Result<(), SinkFault>
     requires { IsWritableMember member.now }
     ensures { IsPut (line_of (member_record member.now)) result
-        (K.written out.old) (K.written out.new) (K.faults out.old) (K.faults out.new) }
+        (K.taken out.old) (K.taken out.new) }
 {
     let line = Line::Pool {
         bidder: member.bidder,
@@ -124,7 +122,7 @@ fn put_member<K: Sink>(member: &PoolMember, out: &mut K) -> Result<(), SinkFault
 fn put_pool<K: Sink>(pool: &[PoolMember], out: &mut K) -> Result<(), SinkFault>
     requires { AllByRecursion IsWritableMember pool.now }
     ensures { IsPut (bytes_of (map member_record pool.now)) result
-        (K.written out.old) (K.written out.new) (K.faults out.old) (K.faults out.new) }
+        (K.taken out.old) (K.taken out.new) }
 {
     for member in pool {
         put_member(member, out)?;
@@ -137,7 +135,7 @@ fn put_pool<K: Sink>(pool: &[PoolMember], out: &mut K) -> Result<(), SinkFault>
 pub fn put_limit<K: Sink>(limit: &PriceLimit, out: &mut K) -> Result<(), SinkFault>
     requires { IsWritableLimit limit.now }
     ensures { IsPut (bytes_of (limit_records limit.now)) result
-        (K.written out.old) (K.written out.new) (K.faults out.old) (K.faults out.new) }
+        (K.taken out.old) (K.taken out.new) }
 {
     put_stage(limit, out)?;
     put_pool(&limit.pool, out)?;

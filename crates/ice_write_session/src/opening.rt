@@ -22,8 +22,7 @@ use ice_trade::Exchange;
 fn put_offer<K: Sink>(exchange: &Exchange, opening: &Opening, out: &mut K) -> Result<(), SinkFault>
     requires { IsWritableOpening (length (exact_of exchange.now)) opening.now }
     ensures { IsPut (bytes_of (opening_in version_2 (length (exact_of exchange.now))
-        (going_of opening.now []))) result
-        (K.written out.old) (K.written out.new) (K.faults out.old) (K.faults out.new) }
+        (going_of opening.now []))) result (K.taken out.old) (K.taken out.new) }
 {
     put_provisional(exchange, &opening.provisional, out)?;
     put_accuracy(&opening.pricing, out)?;
@@ -41,9 +40,10 @@ pub fn put_opening<K: Sink>(
 ) -> Result<(), SinkFault>
     requires { IsWritableOpening (length (exact_of exchange.now)) opening.now }
     ensures put { IsPut (bytes_of (opening_records exchange.now opening.now)) result
-        (K.written out.old) (K.written out.new) (K.faults out.old) (K.faults out.new) }
+        (K.taken out.old) (K.taken out.new) }
     ensures prices { IsRecord (line.prices opening.now.pricing.prices) }
 {
+    // Prices are terms that a record may have.
     let _den = opening.pricing.prices.den();
     put_settlement(
         exchange,

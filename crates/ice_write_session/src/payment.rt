@@ -25,8 +25,7 @@ fn put_threshold<K: Sink>(closing: &Closing, out: &mut K) -> Result<(), SinkFaul
     requires { IsWritableClosing closing.now }
     ensures { IsPut
         (bytes_of (line.threshold closing.now.payments.cut closing.now.payments.surplus ∷ []))
-        result
-        (K.written out.old) (K.written out.new) (K.faults out.old) (K.faults out.new) }
+        result (K.taken out.old) (K.taken out.new) }
 {
     let line = Line::Threshold {
         cut: lowest_fraction(&closing.payments.cut),
@@ -79,7 +78,7 @@ fn put_payments<K: Sink>(closing: &Closing, out: &mut K) -> Result<(), SinkFault
     requires { IsWritableClosing closing.now }
     ensures { IsPut
         (bytes_of (map payment_record (closed_of closing.now.exchange closing.now).payments)) result
-        (K.written out.old) (K.written out.new) (K.faults out.old) (K.faults out.new) }
+        (K.taken out.old) (K.taken out.new) }
 {
     for bidder in 0..closing.exchange.bidders() {
         put_record(&payment_line(closing, bidder), out)?;
@@ -92,7 +91,7 @@ pub(crate) fn put_charges<K: Sink>(closing: &Closing, out: &mut K) -> Result<(),
     requires { IsWritableClosing closing.now }
     ensures { IsPut (bytes_of (line.threshold closing.now.payments.cut closing.now.payments.surplus
         ∷ map payment_record (closed_of closing.now.exchange closing.now).payments)) result
-        (K.written out.old) (K.written out.new) (K.faults out.old) (K.faults out.new) }
+        (K.taken out.old) (K.taken out.new) }
 {
     put_threshold(closing, out)?;
     put_payments(closing, out)

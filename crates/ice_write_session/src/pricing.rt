@@ -19,8 +19,9 @@ use ice_write::put_record;
 /// Puts the prices.
 fn put_prices<K: Sink>(prices: &Prices, out: &mut K) -> Result<(), SinkFault>
     ensures { IsPut (bytes_of (line.prices prices.now ∷ [])) result
-        (K.written out.old) (K.written out.new) (K.faults out.old) (K.faults out.new) }
+        (K.taken out.old) (K.taken out.new) }
 {
+    // Prices are terms that a record may have.
     let _den = prices.den();
     put_line(&Line::Prices(prices.copy()), out)
 }
@@ -28,8 +29,7 @@ fn put_prices<K: Sink>(prices: &Prices, out: &mut K) -> Result<(), SinkFault>
 /// Puts a row of a certificate.
 fn put_row<K: Sink>(row: &CertificateRow, out: &mut K) -> Result<(), SinkFault>
     requires { IsWritableRow row.now }
-    ensures { IsPut (line_of (row_record row.now)) result
-        (K.written out.old) (K.written out.new) (K.faults out.old) (K.faults out.new) }
+    ensures { IsPut (line_of (row_record row.now)) result (K.taken out.old) (K.taken out.new) }
 {
     let line = Line::Row {
         bidder: row.bidder,
@@ -43,7 +43,7 @@ fn put_row<K: Sink>(row: &CertificateRow, out: &mut K) -> Result<(), SinkFault>
 fn put_each_row<K: Sink>(rows: &[CertificateRow], out: &mut K) -> Result<(), SinkFault>
     requires { AllByRecursion IsWritableRow rows.now }
     ensures { IsPut (bytes_of (map row_record rows.now)) result
-        (K.written out.old) (K.written out.new) (K.faults out.old) (K.faults out.new) }
+        (K.taken out.old) (K.taken out.new) }
 {
     for row in rows {
         put_row(row, out)?;
@@ -55,7 +55,7 @@ fn put_each_row<K: Sink>(rows: &[CertificateRow], out: &mut K) -> Result<(), Sin
 fn put_rows<K: Sink>(certificate: &Certificate, out: &mut K) -> Result<(), SinkFault>
     requires { AllByRecursion IsWritableRow certificate.now.rows }
     ensures { IsPut (bytes_of (map row_record certificate.now.rows)) result
-        (K.written out.old) (K.written out.new) (K.faults out.old) (K.faults out.new) }
+        (K.taken out.old) (K.taken out.new) }
 {
     put_each_row(&certificate.rows, out)
 }
@@ -71,8 +71,7 @@ fn put_violation<K: Sink>(pricing: &Pricing, out: &mut K) -> Result<(), SinkFaul
     requires violation { IsViolationField pricing.now.delta }
     requires den { IsDen pricing.now.accuracy.den }
     ensures { IsPut (bytes_of (line.accuracy pricing.now.delta pricing.now.accuracy.den ∷ []))
-        result
-        (K.written out.old) (K.written out.new) (K.faults out.old) (K.faults out.new) }
+        result (K.taken out.old) (K.taken out.new) }
 {
     let line = Line::Accuracy {
         violation: pricing.delta,
@@ -85,7 +84,7 @@ fn put_violation<K: Sink>(pricing: &Pricing, out: &mut K) -> Result<(), SinkFaul
 fn put_balance_den<K: Sink>(balance: &Certificate, out: &mut K) -> Result<(), SinkFault>
     requires { IsDen balance.now.den }
     ensures { IsPut (bytes_of (line.balance balance.now.den ∷ [])) result
-        (K.written out.old) (K.written out.new) (K.faults out.old) (K.faults out.new) }
+        (K.taken out.old) (K.taken out.new) }
 {
     let line = Line::Balance {
         den: den_of(balance),
@@ -99,8 +98,7 @@ pub(crate) fn put_accuracy<K: Sink>(pricing: &Pricing, out: &mut K) -> Result<()
     requires certificate { IsWritableCertificate pricing.now.accuracy }
     ensures { IsPut (bytes_of (line.prices pricing.now.prices
         ∷ line.accuracy pricing.now.delta pricing.now.accuracy.den
-        ∷ map row_record pricing.now.accuracy.rows)) result
-        (K.written out.old) (K.written out.new) (K.faults out.old) (K.faults out.new) }
+        ∷ map row_record pricing.now.accuracy.rows)) result (K.taken out.old) (K.taken out.new) }
 {
     put_prices(&pricing.prices, out)?;
     put_violation(pricing, out)?;
@@ -111,8 +109,7 @@ pub(crate) fn put_accuracy<K: Sink>(pricing: &Pricing, out: &mut K) -> Result<()
 pub(crate) fn put_balance<K: Sink>(balance: &Certificate, out: &mut K) -> Result<(), SinkFault>
     requires { IsWritableCertificate balance.now }
     ensures { IsPut (bytes_of (line.balance balance.now.den ∷ map row_record balance.now.rows))
-        result
-        (K.written out.old) (K.written out.new) (K.faults out.old) (K.faults out.new) }
+        result (K.taken out.old) (K.taken out.new) }
 {
     put_balance_den(balance, out)?;
     put_rows(balance, out)

@@ -14,7 +14,7 @@ use ice_write::put_record;
 pub(crate) fn put_line<K: Sink>(line: &Line, out: &mut K) -> Result<(), SinkFault>
     requires { IsRecord (record_of line.now) }
     ensures { IsPut (bytes_of (record_of line.now ∷ [])) result
-        (K.written out.old) (K.written out.new) (K.faults out.old) (K.faults out.new) }
+        (K.taken out.old) (K.taken out.new) }
 {
     put_record(line, out)
 }
@@ -23,7 +23,7 @@ pub(crate) fn put_line<K: Sink>(line: &Line, out: &mut K) -> Result<(), SinkFaul
 pub(crate) fn put_settle<K: Sink>(number: u8, out: &mut K) -> Result<(), SinkFault>
     requires { number ≤ 20 }
     ensures { IsPut (bytes_of (line.settle number ∷ [])) result
-        (K.written out.old) (K.written out.new) (K.faults out.old) (K.faults out.new) }
+        (K.taken out.old) (K.taken out.new) }
 {
     put_line(&Line::Settle { number }, out)
 }
@@ -31,7 +31,7 @@ pub(crate) fn put_settle<K: Sink>(number: u8, out: &mut K) -> Result<(), SinkFau
 /// Puts the end of a journal.
 pub(crate) fn put_end<K: Sink>(word: EndWord, out: &mut K) -> Result<(), SinkFault>
     ensures { IsPut (bytes_of (line.end (end_of word) ∷ [])) result
-        (K.written out.old) (K.written out.new) (K.faults out.old) (K.faults out.new) }
+        (K.taken out.old) (K.taken out.new) }
 {
     put_line(&Line::End(word), out)
 }

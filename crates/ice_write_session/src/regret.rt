@@ -20,7 +20,7 @@ use ice_trade::Exchange;
 fn put_amount<K: Sink>(regret: &Regret, out: &mut K) -> Result<(), SinkFault>
     requires { IsBetween (pos 0) (pos 400000000000000) regret.now.amount }
     ensures { IsPut (bytes_of (line.regret regret.now.amount ∷ [])) result
-        (K.written out.old) (K.written out.new) (K.faults out.old) (K.faults out.new) }
+        (K.taken out.old) (K.taken out.new) }
 {
     let amount = regret.amount as i64;
     put_line(&Line::Regret { amount }, out)
@@ -35,8 +35,7 @@ pub fn put_regret<K: Sink>(
     requires { IsWritableRegret (length (exact_of exchange.now)) regret.now }
     ensures { IsPut
         (bytes_of (rival_records exchange.now regret.now ++ line.regret regret.now.amount ∷ []))
-        result
-        (K.written out.old) (K.written out.new) (K.faults out.old) (K.faults out.new) }
+        result (K.taken out.old) (K.taken out.new) }
 {
     put_rival(exchange, regret, out)?;
     put_amount(regret, out)
@@ -56,7 +55,7 @@ pub(crate) fn put_settlement<K: Sink>(
         (settlement_of best.now regret.now) }
     ensures { IsPut
         (bytes_of (line.settle number ∷ regret_records exchange.now best.now regret.now)) result
-        (K.written out.old) (K.written out.new) (K.faults out.old) (K.faults out.new) }
+        (K.taken out.old) (K.taken out.new) }
 {
     put_settle(number, out)?;
     put_final(exchange, best, out)?;

@@ -29,7 +29,7 @@ fn narrowed(values: &[i64]) -> ArrayVec<i32, 200>
 /// Puts a bid.
 fn put_bid<K: Sink>(bid: &Bid, out: &mut K) -> Result<(), SinkFault>
     ensures put { IsPut (bytes_of (line.submit bid.now ∷ [])) result
-        (K.written out.old) (K.written out.new) (K.faults out.old) (K.faults out.new) }
+        (K.taken out.old) (K.taken out.new) }
     ensures record { IsRecord (line.submit bid.now) }
 {
     let line = Line::Submit {
@@ -46,7 +46,7 @@ pub fn put_judged<K: Sink>(bid: &Bid, verdict: Verdict, out: &mut K) -> Result<(
     ensures put { IsPut (bytes_of (judged_records (record {
       submission = bid.now;
       verdict = verdict;
-    }))) result (K.written out.old) (K.written out.new) (K.faults out.old) (K.faults out.new) }
+    }))) result (K.taken out.old) (K.taken out.new) }
     ensures submission { IsRecord (line.submit bid.now) }
 {
     put_bid(bid, out)?;

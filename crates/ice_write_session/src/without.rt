@@ -28,7 +28,7 @@ fn put_without<K: Sink>(
     requires written { IsWritable (length (exact_of exchange.now)) (proved_without marginal.now) }
     ensures { IsPut (bytes_of (group_records version_2 (length (exact_of exchange.now))
         (line.without bidder marginal.now.without) (proved_without marginal.now))) result
-        (K.written out.old) (K.written out.new) (K.faults out.old) (K.faults out.new) }
+        (K.taken out.old) (K.taken out.new) }
 {
     let head = Line::Without {
         bidder,
@@ -51,7 +51,7 @@ pub(crate) fn put_withouts<K: Sink>(
 ) -> Result<(), SinkFault>
     requires { AreWritableWithout (length (exact_of exchange.now)) marginals.now }
     ensures { IsPut (bytes_of (without_records exchange.now marginals.now)) result
-        (K.written out.old) (K.written out.new) (K.faults out.old) (K.faults out.new) }
+        (K.taken out.old) (K.taken out.new) }
 {
     for bidder in 0..marginals.len() as u8 {
         put_without(exchange, bidder, &marginals[usize::from(bidder)], out)?;

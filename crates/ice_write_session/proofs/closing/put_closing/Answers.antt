@@ -46,4 +46,4 @@ returns g c =
     let second : List Record = without_records cl.exchange cl.marginals.items in
     let third : List Record = line.threshold cl.payments.cut cl.payments.surplus ∷ map payment_record (closed_of cl.exchange cl).payments in
     let fourth : List Record = line.end closed_end ∷ [] in
-    put_last ((first ++ second) ++ third) fourth c.put_end.result (g.K.Sink.written c.put_end.new.out) (g.K.Sink.faults c.put_end.new.out) (takes_then (first ++ second) third (takes_then first second c.in_ok-put_settlement.ensures (takes_of (without_records cl.exchange) c.deref.result.now cl.marginals.items c.deref.ensures.value c.in_ok-put_withouts.ensures)) c.in_ok-put_charges.ensures) c.put_end.ensures
+    put_last ((first ++ second) ++ third) fourth c.put_end.result (g.K.Sink.taken c.put_end.new.out) (takes_then (first ++ second) third (takes_then first second c.in_ok-put_settlement.ensures (takes_of (without_records cl.exchange) c.deref.result.now cl.marginals.items c.deref.ensures.value c.in_ok-put_withouts.ensures)) c.in_ok-put_charges.ensures) c.put_end.ensures

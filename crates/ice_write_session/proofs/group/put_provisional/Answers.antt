@@ -14,8 +14,8 @@ returns g c =
     let f = c.args.found.now in
     let same : c.goods.result ≡ length (exact_of c.args.exchange.now) = c.goods.ensures.value ∙ sym (length-map c.args.exchange.now.goods (λ (x : Good). x.exact)) in
     subst
-    (λ (first : Record). IsPut (bytes_of (group_records version_2 (length (exact_of c.args.exchange.now)) first (proved_found f))) c.put_group.result (g.K.Sink.written c.args.out.now) (g.K.Sink.written c.put_group.new.out) (g.K.Sink.faults c.args.out.now) (g.K.Sink.faults c.put_group.new.out))
+    (λ (first : Record). IsPut (bytes_of (group_records version_2 (length (exact_of c.args.exchange.now)) first (proved_found f))) c.put_group.result (g.K.Sink.taken c.args.out.now) (g.K.Sink.taken c.put_group.new.out))
     c.provisional_line-head.ensures.line
     (subst
-    (λ (goods : ℕ). IsPut (bytes_of (group_records version_2 goods (record_of c.provisional_line-head.result) (proved_found f))) c.put_group.result (g.K.Sink.written c.args.out.now) (g.K.Sink.written c.put_group.new.out) (g.K.Sink.faults c.args.out.now) (g.K.Sink.faults c.put_group.new.out))
+    (λ (goods : ℕ). IsPut (bytes_of (group_records version_2 goods (record_of c.provisional_line-head.result) (proved_found f))) c.put_group.result (g.K.Sink.taken c.args.out.now) (g.K.Sink.taken c.put_group.new.out))
     same c.put_group.ensures)

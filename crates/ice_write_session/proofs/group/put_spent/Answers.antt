@@ -20,4 +20,4 @@ returns-clause-put g c =
     let ex = c.args.exchange.now in
     let first : List Record = spent_group ex c.args.spent.now in
     let second : List Record = line.end spent_end ∷ [] in
-    put_last first second c.put_end.result (g.K.Sink.written c.put_end.new.out) (g.K.Sink.faults c.put_end.new.out) c.in_ok-put_spent_group.ensures.put c.put_end.ensures
+    put_last first second c.put_end.result (g.K.Sink.taken c.put_end.new.out) c.in_ok-put_spent_group.ensures.put c.put_end.ensures

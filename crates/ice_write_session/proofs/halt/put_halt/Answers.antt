@@ -58,4 +58,4 @@ returns g c =
     let third : List Record = found_regret h.exchange h.regret in
     let fourth : List Record = without_records h.exchange h.marginals.items in
     let fifth : List Record = found_provisional h.exchange h.provisional in
-    put_last (((first ++ second) ++ third) ++ fourth) fifth c.put_found_provisional.result (g.K.Sink.written c.put_found_provisional.new.out) (g.K.Sink.faults c.put_found_provisional.new.out) (takes_then ((first ++ second) ++ third) fourth (takes_then (first ++ second) third (takes_then first second c.in_ok-put_settle.ensures c.in_ok-put_found_final.ensures) c.in_ok-put_found_regret.ensures) (takes_of (without_records h.exchange) c.deref.result.now h.marginals.items c.deref.ensures.value c.in_ok-put_withouts.ensures)) c.put_found_provisional.ensures
+    put_last (((first ++ second) ++ third) ++ fourth) fifth c.put_found_provisional.result (g.K.Sink.taken c.put_found_provisional.new.out) (takes_then ((first ++ second) ++ third) fourth (takes_then (first ++ second) third (takes_then first second c.in_ok-put_settle.ensures c.in_ok-put_found_final.ensures) c.in_ok-put_found_regret.ensures) (takes_of (without_records h.exchange) c.deref.result.now h.marginals.items c.deref.ensures.value c.in_ok-put_withouts.ensures)) c.put_found_provisional.ensures

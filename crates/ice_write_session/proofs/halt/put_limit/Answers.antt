@@ -32,4 +32,4 @@ returns g c =
     let first : List Record = line.limit (stage_of l.stage) (limit_of l.kind) l.delta l.den ∷ [] in
     let second : List Record = map member_record l.pool.items in
     let third : List Record = line.end limit_end ∷ [] in
-    put_last (first ++ second) third c.put_end.result (g.K.Sink.written c.put_end.new.out) (g.K.Sink.faults c.put_end.new.out) (takes_then first second c.in_ok-put_stage.ensures (takes_of (map member_record) c.deref.result.now l.pool.items c.deref.ensures.value c.in_ok-put_pool.ensures)) c.put_end.ensures
+    put_last (first ++ second) third c.put_end.result (g.K.Sink.taken c.put_end.new.out) (takes_then first second c.in_ok-put_stage.ensures (takes_of (map member_record) c.deref.result.now l.pool.items c.deref.ensures.value c.in_ok-put_pool.ensures)) c.put_end.ensures

@@ -8,6 +8,5 @@ use Rattle.ice_write_session.proofs.halt.put_pool.Given as goal
 abbrev pub invariant-loop-member : goal.invariant-loop-member
 invariant-loop-member g l = record {
   pool : AllByRecursion IsWritableMember (drop l.member-index l.pool);
-  left : TakesAllBut (flat_map member_text (drop l.member-index l.pool)) (flat_map member_text l.pool) (g.K.Sink.written l.initial.out) (g.K.Sink.written l.out)
-      (g.K.Sink.faults l.initial.out) (g.K.Sink.faults l.out);
+  left : TakesAllBut (flat_map member_text (drop l.member-index l.pool)) (flat_map member_text l.pool) (g.K.Sink.taken l.initial.out) (g.K.Sink.taken l.out);
 }

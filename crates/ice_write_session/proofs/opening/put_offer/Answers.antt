@@ -34,4 +34,4 @@ returns g c =
     let first : List Record = provisional_records ex o.provisional in
     let second : List Record = line.prices o.pricing.prices ∷ line.accuracy o.pricing.delta o.pricing.accuracy.den ∷ map row_record o.pricing.accuracy.rows in
     let third : List Record = line.balance o.pricing.balance.den ∷ map row_record o.pricing.balance.rows in
-    put_last (first ++ second) third c.put_balance.result (g.K.Sink.written c.put_balance.new.out) (g.K.Sink.faults c.put_balance.new.out) (takes_then first second c.in_ok-put_provisional.ensures c.in_ok-put_accuracy.ensures) c.put_balance.ensures
+    put_last (first ++ second) third c.put_balance.result (g.K.Sink.taken c.put_balance.new.out) (takes_then first second c.in_ok-put_provisional.ensures c.in_ok-put_accuracy.ensures) c.put_balance.ensures

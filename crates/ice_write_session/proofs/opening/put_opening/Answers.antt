@@ -26,7 +26,7 @@ returns-clause-put g c =
     let o = c.args.opening.now in
     let first : List Record = line.settle o.number ∷ regret_records ex o.best o.regret in
     let second : List Record = opening_in version_2 (length (exact_of ex)) (going_of o []) in
-    put_last first second c.put_offer.result (g.K.Sink.written c.put_offer.new.out) (g.K.Sink.faults c.put_offer.new.out) c.in_ok-put_settlement.ensures c.put_offer.ensures
+    put_last first second c.put_offer.result (g.K.Sink.taken c.put_offer.new.out) c.in_ok-put_settlement.ensures c.put_offer.ensures
 
 pub returns-in_err-put_settlement-clause-prices : goal.returns-in_err-put_settlement-clause-prices
 returns-in_err-put_settlement-clause-prices g c = prices_are c.args.opening.now.pricing.prices c.den-den.ensures.limits

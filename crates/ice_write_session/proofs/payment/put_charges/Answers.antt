@@ -20,4 +20,4 @@ returns g c =
     let cl = c.args.closing.now in
     let first : List Record = line.threshold cl.payments.cut cl.payments.surplus ∷ [] in
     let second : List Record = map payment_record (closed_of cl.exchange cl).payments in
-    put_last first second c.put_payments.result (g.K.Sink.written c.put_payments.new.out) (g.K.Sink.faults c.put_payments.new.out) c.in_ok-put_threshold.ensures c.put_payments.ensures
+    put_last first second c.put_payments.result (g.K.Sink.taken c.put_payments.new.out) c.in_ok-put_threshold.ensures c.put_payments.ensures

@@ -8,4 +8,4 @@ use Rattle.ice_write_session.proofs.payment.put_payments.Given as goal
 abbrev pub invariant-loop-bidder : goal.invariant-loop-bidder
 invariant-loop-bidder g l =
     TakesAllBut (flat_map payment_text (drop l.bidder (closed_of l.closing.exchange l.closing).payments)) (flat_map payment_text (closed_of l.closing.exchange l.closing).payments)
-    (g.K.Sink.written l.initial.out) (g.K.Sink.written l.out) (g.K.Sink.faults l.initial.out) (g.K.Sink.faults l.out)
+    (g.K.Sink.taken l.initial.out) (g.K.Sink.taken l.out)

@@ -30,4 +30,4 @@ returns g c =
     let first : List Record = line.prices q.prices ∷ [] in
     let second : List Record = line.accuracy q.delta q.accuracy.den ∷ [] in
     let third : List Record = map row_record q.accuracy.rows in
-    put_last (first ++ second) third c.put_rows.result (g.K.Sink.written c.put_rows.new.out) (g.K.Sink.faults c.put_rows.new.out) (takes_then first second c.in_ok-put_prices.ensures c.in_ok-put_violation.ensures) c.put_rows.ensures
+    put_last (first ++ second) third c.put_rows.result (g.K.Sink.taken c.put_rows.new.out) (takes_then first second c.in_ok-put_prices.ensures c.in_ok-put_violation.ensures) c.put_rows.ensures

@@ -19,4 +19,4 @@ returns g c =
     let q = c.args.balance.now in
     let first : List Record = line.balance q.den ∷ [] in
     let second : List Record = map row_record q.rows in
-    put_last first second c.put_rows.result (g.K.Sink.written c.put_rows.new.out) (g.K.Sink.faults c.put_rows.new.out) c.in_ok-put_balance_den.ensures c.put_rows.ensures
+    put_last first second c.put_rows.result (g.K.Sink.taken c.put_rows.new.out) c.in_ok-put_balance_den.ensures c.put_rows.ensures

@@ -8,6 +8,5 @@ use Rattle.ice_write_session.proofs.pricing.put_each_row.Given as goal
 abbrev pub invariant-loop-row : goal.invariant-loop-row
 invariant-loop-row g l = record {
   rows : AllByRecursion IsWritableRow (drop l.row-index l.rows);
-  left : TakesAllBut (flat_map row_text (drop l.row-index l.rows)) (flat_map row_text l.rows) (g.K.Sink.written l.initial.out) (g.K.Sink.written l.out)
-      (g.K.Sink.faults l.initial.out) (g.K.Sink.faults l.out);
+  left : TakesAllBut (flat_map row_text (drop l.row-index l.rows)) (flat_map row_text l.rows) (g.K.Sink.taken l.initial.out) (g.K.Sink.taken l.out);
 }

@@ -4,5 +4,5 @@ use Rattle.ice_write_session.proofs.record.put_line.Goals as goal
 
 pub returns : goal.returns
 returns g c =
-    put_one (record_of c.args.line.now) c.put_record.result (g.K.Sink.written c.args.out.now) (g.K.Sink.written c.put_record.new.out) (g.K.Sink.faults c.args.out.now) (g.K.Sink.faults c.put_record.new.out)
+    put_one (record_of c.args.line.now) c.put_record.result (g.K.Sink.taken c.args.out.now) (g.K.Sink.taken c.put_record.new.out)
     c.put_record.ensures

@@ -19,4 +19,4 @@ returns g c =
     let ex = c.args.exchange.now in
     let first : List Record = rival_records ex c.args.regret.now in
     let second : List Record = line.regret c.args.regret.now.amount ∷ [] in
-    put_last first second c.put_amount.result (g.K.Sink.written c.put_amount.new.out) (g.K.Sink.faults c.put_amount.new.out) c.in_ok-put_rival.ensures c.put_amount.ensures
+    put_last first second c.put_amount.result (g.K.Sink.taken c.put_amount.new.out) c.in_ok-put_rival.ensures c.put_amount.ensures

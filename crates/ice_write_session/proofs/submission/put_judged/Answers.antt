@@ -16,4 +16,4 @@ pub returns-clause-put : goal.returns-clause-put
 returns-clause-put g c =
     let first : List Record = line.submit c.args.bid.now ∷ [] in
     let second : List Record = line.verdict c.args.verdict ∷ [] in
-    put_last first second c.put_line.result (g.K.Sink.written c.put_line.new.out) (g.K.Sink.faults c.put_line.new.out) c.in_ok-put_bid.ensures.put c.put_line.ensures
+    put_last first second c.put_line.result (g.K.Sink.taken c.put_line.new.out) c.in_ok-put_bid.ensures.put c.put_line.ensures

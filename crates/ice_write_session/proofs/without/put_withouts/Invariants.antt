@@ -11,5 +11,5 @@ abbrev pub invariant-loop-bidder : goal.invariant-loop-bidder
 invariant-loop-bidder g l = record {
   each : AllByRecursion (λ m. IsWritable (length (exact_of l.exchange)) (proved_without m)) (drop l.bidder l.marginals);
   left : TakesAllBut (groups_from (length (exact_of l.exchange)) l.bidder (drop l.bidder l.marginals)) (groups_from (length (exact_of l.exchange)) 0 l.marginals)
-      (g.K.Sink.written l.initial.out) (g.K.Sink.written l.out) (g.K.Sink.faults l.initial.out) (g.K.Sink.faults l.out);
+      (g.K.Sink.taken l.initial.out) (g.K.Sink.taken l.out);
 }
