@@ -186,10 +186,10 @@ end_answers = end_is_answer section_is_lawful section_records_are
 pub ok_same : (j k : List Record) → (let a : Result (List Record) LinesFault = Ok j in a) ≡ Ok k → j ≡ k
 ok_same j k e = cc
 
-ok_err : (j : List Record) (fault : LinesFault) → (let a : Result (List Record) LinesFault = Ok j in a) ≡ Err fault → ⊥
+pub ok_err : (j : List Record) (fault : LinesFault) → (let a : Result (List Record) LinesFault = Ok j in a) ≡ Err fault → ⊥
 ok_err j fault e = cc
 
-err_same : (f g : LinesFault) → (let a : Result (List Record) LinesFault = Err f in a) ≡ Err g → f ≡ g
+pub err_same : (f g : LinesFault) → (let a : Result (List Record) LinesFault = Err f in a) ≡ Err g → f ≡ g
 err_same f g e = cc
 
 pub one_answer_of_bytes : OneAnswer

@@ -1,12 +1,13 @@
 -- Records that lead on are joined, and a journal of them passes, ends early or stops.
-use Rattle.std.proofs.Common.{◌≡◌, ◌≢◌, ℕ, suc, true, List, [], ◌∷◌, ◌++◌, refl, ◌∙◌, ap, subst, arith}
-use Rattle.std.specs.Prelude.{Option, Some, None, option_and_then}
+use Rattle.std.proofs.Common.{◌≡◌, ◌≢◌, ℕ, suc, true, List, [], ◌∷◌, ◌++◌, refl, ◌∙◌, ap, subst, ◌⊎◌, inl, inr, arith}
+use Rattle.std.specs.Prelude.{Option, Some, None, option_and_then, option_map}
+use Rattle.std.proofs.lemmas.Option.{none-some}
 use Rattle.std.proofs.lemmas.List.{append-nil}
 use Rattle.ice_journal.specs.Records.{Record, Version, Kind}
 use Rattle.ice_journal.specs.Records as line
 use Rattle.ice_journal_laws.specs.declared.rule.Rule.TheVariants as rule
-use Rattle.ice_journal_laws.specs.State.{done, State, begun}
-use Rattle.ice_journal_laws.specs.Next.{to_line, after_all}
+use Rattle.ice_journal_laws.specs.State.{Place, done, State, begun}
+use Rattle.ice_journal_laws.specs.Next.{next_at, next, to_line, after_all}
 use Rattle.ice_journal_laws.specs.Tests.{IsStop}
 use Rattle.ice_journal_laws.specs.Checks.{Tested, passes, is_short, fails, is_checked, Checks}
 use Rattle.ice_journal_laws.specs.Progress.{Progress, passing, TakesOn, passes_on, fails_at, list_fails_at, EndsList, Leads, stays, goes}
@@ -19,10 +20,10 @@ pub leads_join : (p q end : Progress) (a b : List Record) → Leads p a q → Le
 leads_join p q end [] b stays l = l
 leads_join p q end (r ∷ a) b (goes {q = mid} h k) l = goes h (leads_join mid q end a b k l)
 
--- from a state, where each state passes on, the front of the records leads to a state
-pub leads_front : (s t : State) (a b : List Record) → Leads (passing s) (a ++ b) (passing t) → (u : State) × Leads (passing s) a (passing u)
-leads_front s t [] b l = (s, stays)
-leads_front s t (r ∷ a) b (goes (passes_on {after = after} list none holds is) l) = let (u, h) = leads_front after t a b l in (u, goes (passes_on list none holds is) h)
+-- from a state, where each state passes on, the front of the records leads to a state, and the others lead on from it
+pub leads_front : (s t : State) (a b : List Record) → Leads (passing s) (a ++ b) (passing t) → (u : State) × Leads (passing s) a (passing u) × Leads (passing u) b (passing t)
+leads_front s t [] b l = (s, stays, l)
+leads_front s t (r ∷ a) b (goes (passes_on {after = after} list none holds is) l) = let (u, h, k) = leads_front after t a b l in (u, goes (passes_on list none holds is) h, k)
 leads_front s t (r ∷ a) b (goes (fails_at list f) l) = absurd (failed_passes _ (a ++ b) t l)
 leads_front s t (r ∷ a) b (goes (list_fails_at e n) l) = absurd (failed_passes _ (a ++ b) t l)
 
@@ -80,6 +81,25 @@ carries_stopped version kind before rest r t h list stop =
     let (m, l) = h.leads 2 in
     (m, leads_tested (begun version kind) (to_line m t) before (r ∷ rest) _ l (fails (list m) (stop m, λ other least f. absurd (omega (arith, least)))))
 
--- each front of records that lead on leads on
-pub carries_front : (version : Version) (kind : Kind) (a b : List Record) (t : State) → Carries (begun version kind) (a ++ b) t → (u : State) × Leads (passing (begun version kind)) a (passing u)
-carries_front version kind a b t h = let (m, l) = h.leads 2 in leads_front (begun version kind) (to_line m t) a b l
+-- each front of records that lead on leads on, to where the others lead on
+pub carries_front : (version : Version) (kind : Kind) (a b : List Record) (t : State) → Carries (begun version kind) (a ++ b) t
+    → (u : State) × Leads (passing (begun version kind)) a (passing u) × ((m : ℕ) × Leads (passing u) b (passing (to_line m t)))
+carries_front version kind a b t h = let (m, l) = h.leads 2 in let (u, front, others) = leads_front (begun version kind) (to_line m t) a b l in (u, front, (m, others))
+
+-- ---- where a record comes, the journal has no end yet
+
+pub stands_open : (s after : State) (r : Record) → next s r ≡ Some after → s.place ≢ done
+stands_open s after r is e = none-some after (subst (λ (p : Place). option_map (to_line (suc s.line)) (next_at s p r) ≡ Some after) e is)
+
+pub takes_open : (s t : State) (r : Record) → TakesTo s r t → s.place ≢ done
+takes_open s t r h = by (h 0)
+  where
+    by : TakesOn (to_line 0 s) r (passing (to_line 1 t)) → s.place ≢ done
+    by (passes_on list none holds is) = stands_open (to_line 0 s) (to_line 1 t) r is
+
+pub leads_open : (u t : State) (b : List Record) → Leads (passing u) b (passing t) → (b ≢ []) ⊎ (t.place ≢ done) → u.place ≢ done
+leads_open u t [] stays (inl more) = absurd (more refl)
+leads_open u t [] stays (inr open_end) = open_end
+leads_open u t (r ∷ rest) (goes (passes_on {after = after} list none holds is) l) h = stands_open u after r is
+leads_open u t (r ∷ rest) (goes (fails_at list f) l) h = absurd (failed_passes _ rest t l)
+leads_open u t (r ∷ rest) (goes (list_fails_at e n) l) h = absurd (failed_passes _ rest t l)

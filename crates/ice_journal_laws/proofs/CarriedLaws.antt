@@ -16,7 +16,7 @@ pub session_is_written : DescribedAreTaken → SessionIsWritten
 session_is_written taken s is = (session_records_check taken s is, λ v. session_checks taken v s is, session_says s is)
 
 pub front_is_so_far : FrontIsSoFar
-front_is_so_far kind a b t h lawful = let x = front_so_far kind a b t h lawful in (x.so_far, x.unstopped)
+front_is_so_far = front_so_far
 
 pub carried_are_joined : CarriedAreJoined
 carried_are_joined = carries_join

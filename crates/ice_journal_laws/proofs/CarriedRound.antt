@@ -1,5 +1,5 @@
 -- The submissions of a round with their verdicts, and the next settlement.
-use Rattle.std.proofs.Common.{◌≡◌, suc, Bool, false, cond, List, [], ◌∷◌, ◌++◌, refl, sym, ◌∙◌, ap, subst, append_assoc}
+use Rattle.std.proofs.Common.{◌≡◌, ◌≢◌, suc, Bool, false, cond, List, [], ◌∷◌, ◌++◌, refl, sym, ◌∙◌, ap, subst, append_assoc}
 use Rattle.std.specs.Prelude.{Some, None, option_map}
 use Rattle.std.specs.List.{flat_map}
 use Rattle.std.proofs.lemmas.Bool.{false≢true, eq-eqb}
@@ -13,7 +13,7 @@ use Rattle.ice_journal.specs.Records.{Record}
 use Rattle.ice_journal.specs.Records as line
 use Rattle.ice_journal_laws.specs.declared.rule.Rule.{Rule}
 use Rattle.ice_journal_laws.specs.declared.rule.Rule.TheVariants as rule
-use Rattle.ice_journal_laws.specs.State.{Place, at_balance_rows, at_round, at_verdict, State, exchange_at, settings_at}
+use Rattle.ice_journal_laws.specs.State.{Place, at_balance_rows, done, at_round, at_verdict, State, exchange_at, settings_at}
 use Rattle.ice_journal_laws.specs.Next.{next, to_line, or_stop, with_row, settled}
 use Rattle.ice_journal_laws.specs.Tests.{Fails, BalanceHolds}
 use Rattle.ice_journal_laws.specs.Progress.{passes_on}
@@ -29,6 +29,10 @@ resting c (j ∷ later) = at_round
 
 abbrev pub resting_at : Certificate → List Judged → State → State
 resting_at c judged s = record s { place = resting c judged; judged = judged }
+
+pub resting_open : (c : Certificate) (judged : List Judged) → resting c judged ≢ done
+resting_open c [] = λ e. cc
+resting_open c (j ∷ later) = λ e. cc
 
 rests : (c : Certificate) (judged : List Judged) (j : Judged) → resting c (judged ++ j ∷ []) ≡ at_round
 rests c [] j = refl

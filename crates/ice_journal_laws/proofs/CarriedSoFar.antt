@@ -16,7 +16,7 @@ use Rattle.ice_journal_laws.specs.Progress.{passing, EndsList, Leads}
 use Rattle.ice_journal_laws.specs.Carrying.{Carries}
 use Rattle.ice_journal_laws.specs.SoFar.{IsUnfinished, IsUnstopped, IsSoFar, Orders}
 use Rattle.ice_journal_laws.proofs.Leading.{leads_tested}
-use Rattle.ice_journal_laws.proofs.Carried.{leads_ordered, carries_front, carries_stopped}
+use Rattle.ice_journal_laws.proofs.Carried.{leads_ordered, carries_front, carries_stopped, leads_open}
 
 -- ---- records in order
 
@@ -74,44 +74,53 @@ is_done (at_spent_log n) = inr (λ e. cc)
 is_done at_pool = inr (λ e. cc)
 is_done (at_end word) = inr (λ e. cc)
 
--- what the tests find of records that lead on
-pub leads_found : (s t : State) (records : List Record) → Leads (passing s) records (passing t) → (end : Option Failure) × Tested s records end × IsUnstopped end
-leads_found s t records l = by (is_done t.place)
-  where
-    by : (t.place ≡ done) ⊎ (t.place ≢ done) → (end : Option Failure) × Tested s records end × IsUnstopped end
-    by (inl e) = (None, subst (λ (rs : List Record). Tested s rs None) (append-nil records) (leads_tested s t records [] None l (passes e)), tt)
-    by (inr ne) = (Some (record { line = t.line; rule = rule.Short }), subst (λ (rs : List Record). Tested s rs (Some (record { line = t.line; rule = rule.Short }))) (append-nil records) (leads_tested s t records [] _ l (is_short ne)), refl)
-
-unfinished : (end : Option Failure) → IsUnstopped end → IsUnfinished end
-unfinished None h = tt
-unfinished (Some failure) h = inl h
-
--- and no stop stands in it
+-- it isn't whole, and no stop stands in it
 pub record IsSoFarUnstopped (kind : Kind) (journal : List Record) : Type 0 where
   pub so_far : IsSoFar kind journal
   pub unstopped : IsUnstopped so_far.end
 
+-- what the tests find of records that lead on
+pub leads_found : (s t : State) (records : List Record) → Leads (passing s) records (passing t)
+    → (end : Option Failure) × Tested s records end × IsUnfinished end × (t.place ≢ done → IsUnstopped end)
+leads_found s t records l = by (is_done t.place)
+  where
+    by : (t.place ≡ done) ⊎ (t.place ≢ done) → (end : Option Failure) × Tested s records end × IsUnfinished end × (t.place ≢ done → IsUnstopped end)
+    by (inl e) = (None, subst (λ (rs : List Record). Tested s rs None) (append-nil records) (leads_tested s t records [] None l (passes e)), tt, λ ne. absurd (ne e))
+    by (inr ne) = (
+      Some (record { line = t.line; rule = rule.Short }),
+      subst (λ (rs : List Record). Tested s rs (Some (record { line = t.line; rule = rule.Short }))) (append-nil records) (leads_tested s t records [] _ l (is_short ne)),
+      inl refl,
+      λ other. refl,
+    )
+
 -- each front of records that lead on
-pub front_so_far : (kind : Kind) (a b : List Record) (t : State) → Carries (begun version_2 kind) (a ++ b) t → AllByRecursion IsRecord (line.head version_2 kind ∷ a) → IsSoFarUnstopped kind (line.head version_2 kind ∷ a)
+pub front_so_far : (kind : Kind) (a b : List Record) (t : State) → Carries (begun version_2 kind) (a ++ b) t → AllByRecursion IsRecord (line.head version_2 kind ∷ a)
+    → (so_far : IsSoFar kind (line.head version_2 kind ∷ a)) × ((b ≢ []) ⊎ (t.place ≢ done) → IsUnstopped so_far.end)
 front_so_far kind a b t h lawful =
-    let (u, l) = carries_front version_2 kind a b t h in
-    let (end, tested, unstopped) = leads_found (begun version_2 kind) u a l in
-    record {
-      so_far = record {
-        lawful = lawful;
-        rest = a;
-        headed = refl;
-        ordered = subst (λ (o : Option State). IsSome o) (sym (leads_ordered (begun version_2 kind) u a l)) refl;
-        end = end;
-        tested = tested;
-        unfinished = unfinished end unstopped;
-      };
-      unstopped = unstopped;
-    }
+    let (u, l, others) = carries_front version_2 kind a b t h in
+    let (end, tested, unfinished, unstopped) = leads_found (begun version_2 kind) u a l in
+    let so_far : IsSoFar kind (line.head version_2 kind ∷ a) = record {
+      lawful = lawful;
+      rest = a;
+      headed = refl;
+      ordered = subst (λ (o : Option State). IsSome o) (sym (leads_ordered (begun version_2 kind) u a l)) refl;
+      end = end;
+      tested = tested;
+      unfinished = unfinished;
+    } in
+    (so_far, λ more. unstopped (leads_open u (to_line others.0 t) b others.1 more))
 
 -- all of them
-pub whole_so_far : (kind : Kind) (records : List Record) (t : State) → Carries (begun version_2 kind) records t → AllByRecursion IsRecord (line.head version_2 kind ∷ records) → IsSoFarUnstopped kind (line.head version_2 kind ∷ records)
-whole_so_far kind records t h lawful = front_so_far kind records [] t (subst (λ (rs : List Record). Carries (begun version_2 kind) rs t) (sym (append-nil records)) h) lawful
+module _ (kind : Kind) (records : List Record) (t : State) (h : Carries (begun version_2 kind) records t) (lawful : AllByRecursion IsRecord (line.head version_2 kind ∷ records)) where
+  with_none : Carries (begun version_2 kind) (records ++ []) t
+  with_none = subst (λ (rs : List Record). Carries (begun version_2 kind) rs t) (sym (append-nil records)) h
+
+  pub whole_so_far : IsSoFar kind (line.head version_2 kind ∷ records)
+  whole_so_far = (front_so_far kind records [] t with_none lawful).0
+
+  -- and where they don't lead to the end
+  pub whole_unstopped : t.place ≢ done → IsSoFarUnstopped kind (line.head version_2 kind ∷ records)
+  whole_unstopped ne = let (so_far, unstopped) = front_so_far kind records [] t with_none lawful in record { so_far = so_far; unstopped = unstopped (inr ne) }
 
 -- ---- a stop behind records that lead on
 

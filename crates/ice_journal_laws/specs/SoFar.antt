@@ -14,12 +14,13 @@ abbrev pub IsUnfinished : Option Failure → Type 0
 IsUnfinished None = Unit {0}
 IsUnfinished (Some failure) = (failure.rule ≡ rule.Short) ⊎ (failure.rule ≡ rule.Closed)
 
--- no test fails, but that the records end early: no stop stands in them
+-- the first failed test is that the records end early: no stop stands in them, and they aren't whole
 abbrev pub IsUnstopped : Option Failure → Type 0
-IsUnstopped None = Unit {0}
+IsUnstopped None = ⊥
 IsUnstopped (Some failure) = failure.rule ≡ rule.Short
 
--- a journal of this kind in version 2 as far as it is written: each record may stand in its place, and passes its tests
+-- a journal of this kind in version 2 as far as it is written: each record may stand in its place,
+-- and passes its tests
 pub record IsSoFar (kind : Kind) (journal : List Record) : Type 0 where
   pub lawful : AllByRecursion IsRecord journal
   pub rest : List Record

@@ -114,7 +114,8 @@ pub fn session_is_written()
     ensures { SessionIsWritten }
 {}
 
-/// Each front of records that lead on is a journal so far.
+/// Each front of records that lead on is a journal so far. It isn't whole, and no stop stands in
+/// it, where there are more records, or they don't lead to the end.
 pub fn front_is_so_far()
     ensures { FrontIsSoFar }
 {}

@@ -1,4 +1,5 @@
--- What the journal of a session is, as far as it has come, where it closes, and where it stops in a round.
+-- What the journal of a session is, as far as it has come, where it closes, and where it stops in a
+-- round.
 use Rattle.std.proofs.Common.{◌≡◌, ◌+◌, ℕ, suc, true, List, [], ◌∷◌, ◌++◌, length, arith, sym, subst, ◌∙◌, ap, append_assoc}
 use Rattle.std.specs.List.{AllByRecursion}
 use Rattle.ice_defs.specs.Bounds.{Bounds}
@@ -10,17 +11,21 @@ use Rattle.ice_defs.specs.Right.{bounds_after_round, bounds_after_rounds, IsRigh
 use Rattle.ice_defs.proofs.Lists.{all-append}
 use Rattle.ice_headline_laws.proofs.Promised.{right_gives_headline}
 use Rattle.ice_journal.specs.Records.{Record, Version, version_2, session_kind}
+use Rattle.ice_journal.specs.Records as line
 use Rattle.ice_journal.specs.Ranges.{IsRecord}
 use Rattle.ice_section.specs.Described.{section_records}
 use Rattle.ice_section.proofs.Describing.{described_are_records, described_are_taken}
-use Rattle.ice_journal_laws.specs.State.{begun}
+use Rattle.ice_defs.specs.declared.Group.TheVariants.{Final}
+use Rattle.ice_journal_laws.specs.State.{at_group, begun}
+use Rattle.ice_journal_laws.specs.Next.{go_to}
 use Rattle.ice_journal_laws.specs.ShowingSession.{closed_in, settlements_in, session_in, going_in, goings_in, IsShownClosed, AreShownGoing, AreShownFrom, IsShownSession}
 use Rattle.ice_journal_laws.proofs.Past.{IsPast, past_closed}
-use Rattle.ice_journal_laws.proofs.Carried.{carries_tested}
+use Rattle.ice_journal_laws.proofs.Carried.{carries_tested, takes_open}
+use Rattle.ice_journal_laws.proofs.CarriedGoing.{settling}
 use Rattle.ice_journal_laws.proofs.CarriedComing.{Comes, session_comes}
 use Rattle.ice_journal_laws.proofs.CarriedSession.{session_carries}
 use Rattle.ice_journal_laws.proofs.CarriedSays.{session_says}
-use Rattle.ice_journal_laws.proofs.CarriedSoFar.{whole_so_far}
+use Rattle.ice_journal_laws.proofs.CarriedSoFar.{whole_so_far, whole_unstopped}
 use Rattle.ice_round.specs.SessionAt.{SessionAt}
 use Rattle.ice_settled.specs.Shown.{closed_of}
 use Rattle.ice_round.specs.Shown.{IsClosing}
@@ -50,7 +55,9 @@ module _ (going : List Going) (s : SessionAt) (run : IsRunning going s) where
 
   pub run_is_unended : IsUnended (run_records s.exchange going)
   run_is_unended =
-      let found = whole_so_far session_kind (section_records s.exchange ++ goings) run_comes.rest run_comes.earns.carries run_are in
+      let found =
+          whole_unstopped session_kind (section_records s.exchange ++ goings) run_comes.rest run_comes.earns.carries run_are
+          (takes_open run_comes.rest (go_to (at_group Final) (settling run_comes.state)) (line.settle run_comes.state.number) run_comes.settles) in
       record { so_far = found.so_far; unstopped = found.unstopped }
 
   -- ---- where it closes
@@ -111,7 +118,7 @@ module _ (going : List Going) (s : SessionAt) (run : IsRunning going s) where
         let carries = session_carries described_are_taken version_2 (closed_session going s c) session_shown in
         subst (λ (j : List Record). IsClosedJournal j (closed_session going s c)) (sym journal_is) (record {
           says = session_says (closed_session going s c) session_shown;
-          so_far = (whole_so_far session_kind (section_records s.exchange ++ settlements_in version_2 (length (exact_of s.exchange)) 0 going (closed_of s.exchange c)) carries.after carries.carries (session_are records)).so_far;
+          so_far = whole_so_far session_kind (section_records s.exchange ++ settlements_in version_2 (length (exact_of s.exchange)) 0 going (closed_of s.exchange c)) carries.after carries.carries (session_are records);
           right = session_right;
           passes = carries_tested version_2 session_kind (section_records s.exchange ++ settlements_in version_2 (length (exact_of s.exchange)) 0 going (closed_of s.exchange c)) carries.after carries.carries carries.ends;
           headline = right_gives_headline (closed_session going s c) session_right;

@@ -1,4 +1,5 @@
--- The journal of a session in version 2, as far as it has come, and what it is where the session ends.
+-- The journal of a session in version 2, as far as it has come, and what it is where the session
+-- ends.
 use Rattle.std.specs.Prelude.{List, ◌∷◌, ◌++◌, length, None}
 use Rattle.ice_defs.specs.Exchange.{Exchange, exact_of}
 use Rattle.ice_defs.specs.Session.{Going, Session}
@@ -30,7 +31,7 @@ run_records ex going = begun_records ex ++ goings_in version_2 (length (exact_of
 abbrev pub round_records : SessionAt → List Going → Going → List Record
 round_records s going last = run_records s.exchange going ++ going_in version_2 (length (exact_of s.exchange)) s.number last
 
--- no stop stands in it
+-- it isn't whole, and no stop stands in it
 pub record IsUnended (journal : List Record) : Type 0 where
   pub so_far : IsSoFar session_kind journal
   pub unstopped : IsUnstopped so_far.end
