@@ -58,7 +58,8 @@ stopped_order s (r ∷ records) f (goes (list_fails_at {x = x} ends not) l) clos
     let same : f.rule ≡ x = same_rule f _ (stays_failed _ records (failed f) l) in
     absurd (list_stops s.place r x ends (sym same ∙ closed))
 
--- where the tests stand behind these records: each passed, or the first that failed is that of a stop
+-- where the tests stand behind these records: each passed, or the first that failed is that of a
+-- stop
 pub data Stood (s : State) (records : List Record) : Progress → Type 0 where
   all_passed : {t : State} → after_all s records ≡ Some t → Stood s records (passing t)
   has_stopped : {f : Failure} → f.rule ≡ rule.Closed → ((t : State) → after_all s records ≡ Some t → is_stopped t.place ≡ true) → Stood s records (failed f)

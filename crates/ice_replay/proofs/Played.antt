@@ -1,4 +1,5 @@
--- The bytes that are read so far: their records, where the tests of them have come, and what is known of a settlement.
+-- The bytes that are read so far: their records, where the tests of them have come, and what is
+-- known of a settlement.
 use Rattle.std.proofs.Common.{◌≡◌, ◌+◌, ℕ, suc, List, [], ◌∷◌, ◌++◌, length, refl, sym, ◌∙◌, ap, arith, length-append, append_assoc}
 use Rattle.std.specs.List.{AllByRecursion}
 use Rattle.std.proofs.lemmas.List.{append-nil}

@@ -17,7 +17,8 @@ use Rattle.ice_replay.specs.declared.watch.Watch.{Watch}
 use Rattle.ice_replay.specs.Replays.{ReplaysBytes}
 use Rattle.ice_replay.specs.Watching.{IsWatched}
 
--- the records of the bytes are read: the tests have come so far, and this is known of the settlement
+-- the records of the bytes are read: the tests have come so far, and this is known of the
+-- settlement
 pub record IsRead (bytes : List ℕ) (number : ℕ) (c : Checking) (w : Watch) : Type 0 where
   pub journal : List Record
   pub spelled : IsJournal bytes journal
@@ -64,5 +65,7 @@ pub data IsAbsence (found : Result Answer CheckEnd) : ReplayEnd → Type 0 where
 
 -- what is known of the settlement, and the checker's answer, make this the answer
 abbrev pub Concludes : Watch → Result Answer CheckEnd → Result Replay ReplayEnd → Type 0
-Concludes w found result = (bytes : List ℕ) (number : ℕ) (journal : List Record) (p : Progress) → IsJournal bytes journal → Leads nothing journal p → EndsWith p found → IsWatched number w p journal
+Concludes w found result =
+    (bytes : List ℕ) (number : ℕ) (journal : List Record) (p : Progress) → IsJournal bytes journal
+    → Leads nothing journal p → EndsWith p found → IsWatched number w p journal
     → ReplaysBytes bytes number result

@@ -36,6 +36,7 @@ price_lines (Some p) = line_of (line.prices p)
 abbrev pub last_line : List ℕ
 last_line = codes "end replay" ++ 10 ∷ []
 
--- the number, the bounds of each bidder, the final value, the regret, the prices where they stand, and an end
+-- the number, the bounds of each bidder, the final value, the regret, the prices where they stand,
+-- and an end
 abbrev pub replay_lines : Replay → List ℕ
 replay_lines x = opening_lines x ++ amount_lines x ++ price_lines x.prices ++ last_line

@@ -34,12 +34,15 @@ pub record IsReplay (number : ℕ) (replay : Replay) (s : State) (records : List
   pub told : Tells number replay s records
   pub prices : replay.prices ≡ prices_of told.settles
 
--- the least line at fault comes first, then another kind, then the first failed test but that of a stop, then that the settlement isn't there; want of memory is free
+-- the least line at fault comes first, then another kind, then the first failed test but that of a
+-- stop, then that the settlement isn't there; want of memory is free
 abbrev pub ReplaysBytes : List ℕ → ℕ → Result Replay ReplayEnd → Type 0
 ReplaysBytes bytes number (Ok replay) = OfJournal bytes (λ journal. IsReplayable journal × OfSession (IsReplay number replay) journal)
 ReplaysBytes bytes number (Err (Grammar line)) = IsLinesFault bytes (grammar line)
 ReplaysBytes bytes number (Err (Unended line)) = IsLinesFault bytes (unended line)
 ReplaysBytes bytes number (Err OtherKind) = OfJournal bytes (λ journal. ¬ IsSession journal)
-ReplaysBytes bytes number (Err (No line test)) = OfJournal bytes (λ journal. IsSession journal × FirstFailure journal (Some (record { line = line; rule = test })) × (test ≢ rule.Closed))
-ReplaysBytes bytes number (Err NoSettlement) = OfJournal bytes (λ journal. IsReplayable journal × OfSession (λ s records. ¬ Settles number s records) journal)
+ReplaysBytes bytes number (Err (No line test)) =
+    OfJournal bytes (λ journal. IsSession journal × FirstFailure journal (Some (record { line = line; rule = test })) × (test ≢ rule.Closed))
+ReplaysBytes bytes number (Err NoSettlement) =
+    OfJournal bytes (λ journal. IsReplayable journal × OfSession (λ s records. ¬ Settles number s records) journal)
 ReplaysBytes bytes number (Err NoMemory) = Unit {0}

@@ -10,7 +10,8 @@ use Rattle.ice_journal_laws.specs.Next.{next, after_all}
 use Rattle.ice_journal_laws.specs.Checks.{FirstFailure}
 use Rattle.ice_check_records.specs.Due.{is_prices_place}
 
--- the journal is one of a session, and this holds of the state behind its head and the records from there on
+-- the journal is one of a session, and this holds of the state behind its head and the records
+-- from there on
 abbrev pub OfSession : (State → List Record → Type 0) → List Record → Type 0
 OfSession P (line.head version session_kind ∷ rest) = P (begun version session_kind) rest
 OfSession P other = ⊥
@@ -27,7 +28,8 @@ pub data IsReplayable (journal : List Record) : Type 0 where
   passes : FirstFailure journal None → IsReplayable journal
   stops : (number : ℕ) → FirstFailure journal (Some (record { line = number; rule = rule.Closed })) → IsReplayable journal
 
--- from this state on the records lead to the settlement with this number, where it states its regret
+-- from this state on the records lead to the settlement with this number, where it states its
+-- regret
 pub record Settles (number : ℕ) (s : State) (records : List Record) : Type 0 where
   pub before : List Record
   pub amount : ℤ
@@ -41,7 +43,8 @@ pub record Settles (number : ℕ) (s : State) (records : List Record) : Type 0 w
 -- the first prices from this state on
 abbrev pub prices_from : State → List Record → Option Prices
 prices_from s [] = None
-prices_from s (r ∷ rest) = if is_prices_place s.place then prices_in (goods_at s) r else option_and_then (λ after. prices_from after rest) (next s r)
+prices_from s (r ∷ rest) =
+    if is_prices_place s.place then prices_in (goods_at s) r else option_and_then (λ after. prices_from after rest) (next s r)
 
 -- those behind the settlement's regret
 abbrev pub prices_of : {number : ℕ} {s : State} {records : List Record} → Settles number s records → Option Prices

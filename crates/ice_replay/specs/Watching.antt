@@ -64,4 +64,6 @@ pub record IsStated (due : DueRegret) (amount : ℤ) (replay : Replay) : Type 0 
 
 -- a record more, which the checker is yet to take
 abbrev pub WatchesOn : ℕ → Watch → Checking → Record → Watch → Type 0
-WatchesOn number w c r after = (records : List Record) (p q : Progress) → Leads nothing records p → HasCome c p → IsAfter p r q → IsWatched number w p records → IsWatched number after q (records ++ r ∷ [])
+WatchesOn number w c r after =
+    (records : List Record) (p q : Progress) → Leads nothing records p → HasCome c p → IsAfter p r q
+    → IsWatched number w p records → IsWatched number after q (records ++ r ∷ [])

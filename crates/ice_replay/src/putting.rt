@@ -14,8 +14,7 @@ use ice_write::put_record;
 
 /// Puts the line of a settlement's number.
 fn put_settle<K: Sink>(number: u8, out: &mut K) -> Result<(), SinkFault>
-    ensures { IsPut (line_of (line.settle number)) result
-        (K.written out.old) (K.written out.new) (K.faults out.old) (K.faults out.new) }
+    ensures { IsPut (line_of (line.settle number)) result (K.taken out.old) (K.taken out.new) }
 {
     let mut writer = LineWriter::new();
     out.put(write_settle(number, &mut writer))
@@ -23,8 +22,7 @@ fn put_settle<K: Sink>(number: u8, out: &mut K) -> Result<(), SinkFault>
 
 /// Puts the line of a bidder's bounds.
 fn put_bidder<K: Sink>(bidder: &BidderBounds, out: &mut K) -> Result<(), SinkFault>
-    ensures { IsPut (bidder_line bidder.now) result
-        (K.written out.old) (K.written out.new) (K.faults out.old) (K.faults out.new) }
+    ensures { IsPut (bidder_line bidder.now) result (K.taken out.old) (K.taken out.new) }
 {
     let mut writer = LineWriter::new();
     out.put(write_bidder(bidder, &mut writer))
@@ -32,8 +30,7 @@ fn put_bidder<K: Sink>(bidder: &BidderBounds, out: &mut K) -> Result<(), SinkFau
 
 /// Puts the lines of the bidders' bounds.
 fn put_bidders<K: Sink>(bidders: &[BidderBounds], out: &mut K) -> Result<(), SinkFault>
-    ensures { IsPut (bidder_lines bidders.now) result
-        (K.written out.old) (K.written out.new) (K.faults out.old) (K.faults out.new) }
+    ensures { IsPut (bidder_lines bidders.now) result (K.taken out.old) (K.taken out.new) }
 {
     for bidder in bidders {
         put_bidder(bidder, out)?;
@@ -43,8 +40,7 @@ fn put_bidders<K: Sink>(bidders: &[BidderBounds], out: &mut K) -> Result<(), Sin
 
 /// Puts the number and the bounds.
 fn put_opening<K: Sink>(replay: &Replay, out: &mut K) -> Result<(), SinkFault>
-    ensures { IsPut (opening_lines replay.now) result
-        (K.written out.old) (K.written out.new) (K.faults out.old) (K.faults out.new) }
+    ensures { IsPut (opening_lines replay.now) result (K.taken out.old) (K.taken out.new) }
 {
     put_settle(replay.number, out)?;
     put_bidders(&replay.bidders, out)
@@ -53,7 +49,7 @@ fn put_opening<K: Sink>(replay: &Replay, out: &mut K) -> Result<(), SinkFault>
 /// Puts the line of the final value.
 fn put_final<K: Sink>(replay: &Replay, out: &mut K) -> Result<(), SinkFault>
     ensures { IsPut (line_of (line.final replay.now.final_value)) result
-        (K.written out.old) (K.written out.new) (K.faults out.old) (K.faults out.new) }
+        (K.taken out.old) (K.taken out.new) }
 {
     let mut writer = LineWriter::new();
     out.put(write_final(replay, &mut writer))
@@ -62,7 +58,7 @@ fn put_final<K: Sink>(replay: &Replay, out: &mut K) -> Result<(), SinkFault>
 /// Puts the line of the regret.
 fn put_regret<K: Sink>(replay: &Replay, out: &mut K) -> Result<(), SinkFault>
     ensures { IsPut (line_of (line.regret replay.now.regret)) result
-        (K.written out.old) (K.written out.new) (K.faults out.old) (K.faults out.new) }
+        (K.taken out.old) (K.taken out.new) }
 {
     let mut writer = LineWriter::new();
     out.put(write_regret(replay, &mut writer))
@@ -70,8 +66,7 @@ fn put_regret<K: Sink>(replay: &Replay, out: &mut K) -> Result<(), SinkFault>
 
 /// Puts the final value and the regret.
 fn put_amounts<K: Sink>(replay: &Replay, out: &mut K) -> Result<(), SinkFault>
-    ensures { IsPut (amount_lines replay.now) result
-        (K.written out.old) (K.written out.new) (K.faults out.old) (K.faults out.new) }
+    ensures { IsPut (amount_lines replay.now) result (K.taken out.old) (K.taken out.new) }
 {
     put_final(replay, out)?;
     put_regret(replay, out)
@@ -79,11 +74,11 @@ fn put_amounts<K: Sink>(replay: &Replay, out: &mut K) -> Result<(), SinkFault>
 
 /// Puts the line of prices, where there are any.
 fn put_prices<K: Sink>(prices: &Option<Prices>, out: &mut K) -> Result<(), SinkFault>
-    ensures { IsPut (price_lines prices.now) result
-        (K.written out.old) (K.written out.new) (K.faults out.old) (K.faults out.new) }
+    ensures { IsPut (price_lines prices.now) result (K.taken out.old) (K.taken out.new) }
 {
     match prices {
         Some(prices) => {
+            // Prices are terms that a record may have.
             let _den = prices.den();
             put_record(&Line::Prices(prices.copy()), out)
         }
@@ -93,8 +88,7 @@ fn put_prices<K: Sink>(prices: &Option<Prices>, out: &mut K) -> Result<(), SinkF
 
 /// Puts the last line.
 fn put_end<K: Sink>(out: &mut K) -> Result<(), SinkFault>
-    ensures { IsPut last_line result
-        (K.written out.old) (K.written out.new) (K.faults out.old) (K.faults out.new) }
+    ensures { IsPut last_line result (K.taken out.old) (K.taken out.new) }
 {
     out.put(b"end replay\n")
 }
@@ -103,8 +97,7 @@ fn put_end<K: Sink>(out: &mut K) -> Result<(), SinkFault>
 /// NAME LO HI ..` with the two values of each node, `final V`, `regret A`, the record of the prices
 /// where there are any, and `end replay`. It takes no memory.
 pub fn put_replay<K: Sink>(replay: &Replay, out: &mut K) -> Result<(), SinkFault>
-    ensures { IsPut (replay_lines replay.now) result
-        (K.written out.old) (K.written out.new) (K.faults out.old) (K.faults out.new) }
+    ensures { IsPut (replay_lines replay.now) result (K.taken out.old) (K.taken out.new) }
 {
     put_opening(replay, out)?;
     put_amounts(replay, out)?;

@@ -15,4 +15,4 @@ returns-in_err-put_final g c =
 pub returns : goal.returns
 returns g c =
     let x = c.args.replay.now in
-    then_put (line_of (line.final x.final_value)) (line_of (line.regret x.regret)) c.put_regret.result (g.K.Sink.written c.put_regret.new.out) (g.K.Sink.faults c.put_regret.new.out) c.in_ok-put_final.ensures c.put_regret.ensures
+    then_put (line_of (line.final x.final_value)) (line_of (line.regret x.regret)) c.put_regret.result (g.K.Sink.taken c.put_regret.new.out) c.in_ok-put_final.ensures c.put_regret.ensures

@@ -6,4 +6,4 @@ use Rattle.ice_replay.proofs.putting.put_bidders.Given as goal
 
 abbrev pub invariant-loop-bidder : goal.invariant-loop-bidder
 invariant-loop-bidder g l =
-    TakesAllBut (flat_map bidder_line (drop l.bidder-index l.bidders)) (flat_map bidder_line l.bidders) (g.K.Sink.written l.initial.out) (g.K.Sink.written l.out) (g.K.Sink.faults l.initial.out) (g.K.Sink.faults l.out)
+    TakesAllBut (flat_map bidder_line (drop l.bidder-index l.bidders)) (flat_map bidder_line l.bidders) (g.K.Sink.taken l.initial.out) (g.K.Sink.taken l.out)

@@ -18,5 +18,5 @@ pub returns : goal.returns
 returns g c =
     let x = c.args.replay.now in
     let put = c.put_bidders.result in
-    let last = subst (λ (l : List BidderBounds). IsPut (bidder_lines l) put (g.K.Sink.written c.put_settle.new.out) (g.K.Sink.written c.put_bidders.new.out) (g.K.Sink.faults c.put_settle.new.out) (g.K.Sink.faults c.put_bidders.new.out)) c.deref.ensures.value c.put_bidders.ensures in
-    then_put (line_of (line.settle x.number)) (bidder_lines x.bidders.items) put (g.K.Sink.written c.put_bidders.new.out) (g.K.Sink.faults c.put_bidders.new.out) c.in_ok-put_settle.ensures last
+    let last = subst (λ (l : List BidderBounds). IsPut (bidder_lines l) put (g.K.Sink.taken c.put_settle.new.out) (g.K.Sink.taken c.put_bidders.new.out)) c.deref.ensures.value c.put_bidders.ensures in
+    then_put (line_of (line.settle x.number)) (bidder_lines x.bidders.items) put (g.K.Sink.taken c.put_bidders.new.out) c.in_ok-put_settle.ensures last

@@ -30,5 +30,5 @@ returns-in_err-put_prices g c =
 pub returns : goal.returns
 returns g c =
     let x = c.args.replay.now in
-    then_put (opening_lines x ++ amount_lines x ++ price_lines x.prices) last_line c.put_end.result (g.K.Sink.written c.put_end.new.out) (g.K.Sink.faults c.put_end.new.out)
+    then_put (opening_lines x ++ amount_lines x ++ price_lines x.prices) last_line c.put_end.result (g.K.Sink.taken c.put_end.new.out)
     (takes_both (opening_lines x ++ amount_lines x) (price_lines x.prices) (takes_both (opening_lines x) (amount_lines x) c.in_ok-put_opening.ensures c.in_ok-put_amounts.ensures) c.in_ok-put_prices.ensures) c.put_end.ensures
