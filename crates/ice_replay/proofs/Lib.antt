@@ -12,5 +12,7 @@ pub mod Played
 pub mod Listed
 -- a session states the regret of each settlement once
 pub mod Once
--- bytes have one replay of a settlement
+-- a journal has one replay of a settlement
 pub mod Same
+-- bytes have one replay of a settlement, or one reason why there is none
+pub mod Deciding

@@ -1,16 +1,13 @@
--- Bytes have one replay of a settlement.
-use Rattle.std.proofs.Common.{◌≡◌, ℕ, List, ◌∷◌, ℤ, sym, ◌∙◌, ap, subst}
-use Rattle.std.specs.Prelude.{Ok}
+-- A journal has one replay of a settlement.
+use Rattle.std.proofs.Common.{◌≡◌, ℕ, List, ◌∷◌, ℤ, sym, ◌∙◌, ap}
 use Rattle.ice_defs.specs.Exchange.{names_of}
 use Rattle.ice_journal.specs.Records.{Record, session_kind}
 use Rattle.ice_journal.specs.Records as line
-use Rattle.ice_journal.proofs.Journals.{one_answer as bytes_tell}
-use Rattle.ice_journal_laws.proofs.Answered.{ok_same}
 use Rattle.ice_journal_laws.specs.State.{State, begun, exchange_at}
 use Rattle.ice_replay.specs.declared.settlement.Replay.{Replay}
 use Rattle.ice_replay.specs.Settlements.{OfSession, Settles, prices_from, prices_of}
 use Rattle.ice_replay.specs.Replays.{IsReplay}
-use Rattle.ice_replay.specs.Laws.{SaySame, OneReplay}
+use Rattle.ice_replay.specs.Laws.{SaySame}
 use Rattle.ice_replay.proofs.Once.{AreSame, one_settlement}
 
 same_prices : (number : ℕ) (s : State) (records : List Record) (x y : Settles number s records) → AreSame x y → prices_of x ≡ prices_of y
@@ -31,10 +28,6 @@ say_same number one other s records h k =
       prices = h.prices ∙ same_prices number s records h.told.settles k.told.settles same ∙ sym k.prices;
     }
 
-of_session : (number : ℕ) (one other : Replay) (journal : List Record) → OfSession (IsReplay number one) journal → OfSession (IsReplay number other) journal → SaySame one other
+pub of_session : (number : ℕ) (one other : Replay) (journal : List Record) → OfSession (IsReplay number one) journal → OfSession (IsReplay number other) journal → SaySame one other
 of_session number one other (line.head v session_kind ∷ rest) h k = say_same number one other (begun v session_kind) rest h k
 of_session number one other others h k = absurd h
-
-pub one_replay : OneReplay
-one_replay bytes number one other (j, is, (replayable, h)) (k, is', (replayable', h')) =
-    of_session number one other k (subst (OfSession (IsReplay number one)) (ok_same j k (bytes_tell bytes (Ok j) (Ok k) is is')) h) h'

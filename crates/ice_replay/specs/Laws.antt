@@ -1,6 +1,8 @@
 -- Laws of replays.
-use Rattle.std.specs.Prelude.{ℕ, ◌≡◌, List, Ok}
+use Rattle.std.specs.Prelude.{ℕ, ◌≡◌, ◌≢◌, List, Result, Ok, Err}
 use Rattle.ice_replay.specs.declared.settlement.Replay.{Replay}
+use Rattle.ice_replay.specs.declared.settlement.ReplayEnd.{ReplayEnd}
+use Rattle.ice_replay.specs.declared.settlement.ReplayEnd.TheVariants.{NoMemory}
 use Rattle.ice_replay.specs.Replays.{names_in, bounds_in, ReplaysBytes}
 
 -- two replays say the same
@@ -12,6 +14,14 @@ pub record SaySame (one other : Replay) : Type 0 where
   pub regret : one.regret ≡ other.regret
   pub prices : one.prices ≡ other.prices
 
--- bytes have one replay of a settlement
-abbrev pub OneReplay : Type 0
-OneReplay = (bytes : List ℕ) (number : ℕ) (one other : Replay) → ReplaysBytes bytes number (Ok one) → ReplaysBytes bytes number (Ok other) → SaySame one other
+-- so do two answers: both are such replays, or the same reason why there is none
+abbrev pub AnswerTheSame : Result Replay ReplayEnd → Result Replay ReplayEnd → Type 0
+AnswerTheSame (Ok one) (Ok other) = SaySame one other
+AnswerTheSame (Err one) (Err other) = one ≡ other
+AnswerTheSame one other = ⊥
+
+-- but for want of memory, bytes have one replay of a settlement, or one reason why there is none
+abbrev pub OneReplayAnswer : Type 0
+OneReplayAnswer =
+    (bytes : List ℕ) (number : ℕ) (one other : Result Replay ReplayEnd) → ReplaysBytes bytes number one → ReplaysBytes bytes number other
+    → one ≢ Err NoMemory → other ≢ Err NoMemory → AnswerTheSame one other
