@@ -1,12 +1,13 @@
 -- The records behind a head, put one after another.
 use Rattle.std.proofs.Common.{◌≡◌, ◌∙◌, ℕ, true, List, [], ◌∷◌, ◌++◌, refl, sym, ap, subst}
-use Rattle.std.specs.Prelude.{Option, Some, None, Result, Err}
+use Rattle.std.specs.Prelude.{Some, None, Result, Err}
 use Rattle.std.specs.Borrow.{Bor}
 use Rattle.std.proofs.lemmas.List.{append-nil}
 use Rattle.std.proofs.lemmas.Bool.{false≢true}
 use Rattle.ice_edge.specs.declared.sink.SinkFault.{SinkFault}
 use Rattle.ice_edge.specs.Puts.{Takes, FailsIn, IsPut, TakesAllBut}
 use Rattle.ice_edge.proofs.Puts.{all_left}
+use Rattle.ice_edge.specs.Taken.{Taken}
 use Rattle.ice_defs.specs.Bound.{Multipliers}
 use Rattle.ice_defs.specs.Steps.{branch, leaf, dead}
 use Rattle.ice_journal.specs.declared.line.Line.{Line}
@@ -29,10 +30,10 @@ use Rattle.ice_migrate.proofs.Coming as coming
 use Rattle.ice_migrate.proofs.Gathering.{next_gathered, next_fails, rest_put}
 
 -- all is put but what is gathered, and the records of the bytes behind it
-pub record IsPutSoFar (goods : ℕ) (p : Packing) (gathered bytes : List ℕ) (all : List Record) (old new : Option (List ℕ)) (faults faults_after : ℕ) : Type 0 where
+pub record IsPutSoFar (goods : ℕ) (p : Packing) (gathered bytes : List ℕ) (all : List Record) (old new : Taken) : Type 0 where
   pub rest : List Record
   pub journal : IsJournal bytes rest
-  pub left : TakesAllBut (gathered ++ bytes_of (packed_records goods (before_of p) rest)) (bytes_of (packed_records goods (all_zero goods) all)) old new faults faults_after
+  pub left : TakesAllBut (gathered ++ bytes_of (packed_records goods (before_of p) rest)) (bytes_of (packed_records goods (all_zero goods) all)) old new
 
 -- ---- a record in version 2
 
@@ -45,17 +46,17 @@ packed_cons goods m other rest = refl
 
 -- ---- one after another
 
-pub nothing_put : (goods : ℕ) (p : Packing) (gathered bytes : List ℕ) (all : List Record) (old : Option (List ℕ)) (faults : ℕ) → before_of p ≡ all_zero goods → gathered ≡ [] → IsJournal bytes all → IsPutSoFar goods p gathered bytes all old old faults faults
-nothing_put goods p gathered bytes all old faults zero none is =
+pub nothing_put : (goods : ℕ) (p : Packing) (gathered bytes : List ℕ) (all : List Record) (old : Taken) → before_of p ≡ all_zero goods → gathered ≡ [] → IsJournal bytes all → IsPutSoFar goods p gathered bytes all old old
+nothing_put goods p gathered bytes all old zero none is =
     let whole = bytes_of (packed_records goods (all_zero goods) all) in
     let same : gathered ++ bytes_of (packed_records goods (before_of p) all) ≡ whole = rw (none, zero) refl in
     record {
       rest = all;
       journal = is;
-      left = subst (λ (t : List ℕ). TakesAllBut t whole old old faults faults) (sym same) (all_left whole old faults);
+      left = subst (λ (t : List ℕ). TakesAllBut t whole old old) (sym same) (all_left whole old);
     }
 
-module _ (goods : ℕ) (p q : Packing) (gathered bytes after : List ℕ) (text : Bor (List ℕ)) (all : List Record) (old mid new : Option (List ℕ)) (f g h : ℕ) (x : IsPutSoFar goods p gathered bytes all old mid f g)
+module _ (goods : ℕ) (p q : Packing) (gathered bytes after : List ℕ) (text : Bor (List ℕ)) (all : List Record) (old mid new : Taken) (x : IsPutSoFar goods p gathered bytes all old mid)
     (starts : (left : List Record) → IsJournal bytes left → HasLine left (Some text) after) (same : p.goods ≡ goods)
     (moves : (r : Record) → IsRecord r → text.now ≡ line_of r → before_of q ≡ packed_after p.goods (before_of p) r) where
   more : coming.HasNext text.now after x.rest
@@ -81,25 +82,25 @@ module _ (goods : ℕ) (p q : Packing) (gathered bytes after : List ℕ) (text :
   whole = bytes_of (packed_records goods (all_zero goods) all)
 
   -- a record more is gathered
-  pub one_gathered : (later : List ℕ) → ((r : Record) → IsRecord r → text.now ≡ line_of r → TakesAllBut later (gathered ++ line_of (packed_record (before_of p) r)) mid new g h) → IsPutSoFar goods q later after all old new f h
+  pub one_gathered : (later : List ℕ) → ((r : Record) → IsRecord r → text.now ≡ line_of r → TakesAllBut later (gathered ++ line_of (packed_record (before_of p) r)) mid new) → IsPutSoFar goods q later after all old new
   one_gathered later left = record {
     rest = more.rest;
     journal = more.journal;
-    left = next_gathered gathered packed_line others (bytes_of (packed_records goods (before_of p) x.rest)) whole old mid new f g h text_is x.left later (left more.first more.lawful more.text_is);
+    left = next_gathered gathered packed_line others (bytes_of (packed_records goods (before_of p) x.rest)) whole old mid new text_is x.left later (left more.first more.lawful more.text_is);
   }
 
   -- or the sink fails in it
-  pub one_fails : ((r : Record) → IsRecord r → text.now ≡ line_of r → FailsIn (gathered ++ line_of (packed_record (before_of p) r)) mid new g h) → FailsIn whole old new f h
-  one_fails fails = next_fails gathered packed_line others (bytes_of (packed_records goods (before_of p) x.rest)) whole old mid new f g h text_is x.left (fails more.first more.lawful more.text_is)
+  pub one_fails : ((r : Record) → IsRecord r → text.now ≡ line_of r → FailsIn (gathered ++ line_of (packed_record (before_of p) r)) mid new) → FailsIn whole old new
+  one_fails fails = next_fails gathered packed_line others (bytes_of (packed_records goods (before_of p) x.rest)) whole old mid new text_is x.left (fails more.first more.lawful more.text_is)
 
 -- no record is left, and what is gathered is put
-pub all_put : (goods : ℕ) (p : Packing) (gathered bytes after : List ℕ) (all : List Record) (put : Result (Unit {0}) SinkFault) (old mid new : Option (List ℕ)) (f g h : ℕ)
-    → IsPutSoFar goods p gathered bytes all old mid f g → ((left : List Record) → IsJournal bytes left → HasLine left None after) → IsPut gathered put mid new g h → IsPut (bytes_of (packed_records goods (all_zero goods) all)) put old new f h
-all_put goods p gathered bytes after all put old mid new f g h x starts is =
+pub all_put : (goods : ℕ) (p : Packing) (gathered bytes after : List ℕ) (all : List Record) (put : Result (Unit {0}) SinkFault) (old mid new : Taken)
+    → IsPutSoFar goods p gathered bytes all old mid → ((left : List Record) → IsJournal bytes left → HasLine left None after) → IsPut gathered put mid new → IsPut (bytes_of (packed_records goods (all_zero goods) all)) put old new
+all_put goods p gathered bytes after all put old mid new x starts is =
     let whole = bytes_of (packed_records goods (all_zero goods) all) in
     let none : x.rest ≡ [] = coming.no_next after x.rest (starts x.rest x.journal) in
-    let left : TakesAllBut (gathered ++ []) whole old mid f g = subst (λ (l : List Record). TakesAllBut (gathered ++ bytes_of (packed_records goods (before_of p) l)) whole old mid f g) none x.left in
-    rest_put gathered whole put old mid new f g h (subst (λ (t : List ℕ). TakesAllBut t whole old mid f g) (append-nil gathered) left) is
+    let left : TakesAllBut (gathered ++ []) whole old mid = subst (λ (l : List Record). TakesAllBut (gathered ++ bytes_of (packed_records goods (before_of p) l)) whole old mid) none x.left in
+    rest_put gathered whole put old mid new (subst (λ (t : List ℕ). TakesAllBut t whole old mid) (append-nil gathered) left) is
 
 -- ---- the head
 
@@ -134,23 +135,23 @@ has_head journal found v k after old same starts = by journal old (subst (λ (l 
 
 -- ---- the whole journal
 
-module _ (journal : List Record) (old : Option (List ℕ)) (f : ℕ) (migrated : IsMigrated journal) (kind : Kind) (after : List ℕ) (h : HasHead journal kind after) where
+module _ (journal : List Record) (old : Taken) (migrated : IsMigrated journal) (kind : Kind) (after : List ℕ) (h : HasHead journal kind after) where
   abbrev head : List ℕ
   head = line_of (line.head version_2 kind)
 
   abbrev behind : List ℕ
   behind = bytes_of (packed_records (goods_in journal) (all_zero (goods_in journal)) h.rest)
 
-  pub head_fails : (put : Result (Unit {0}) SinkFault) (fault : SinkFault) (new : Option (List ℕ)) (g : ℕ) → put ≡ Err fault → FailsIn (line_of (line.head version_2 kind)) old new f g → PutsPacked journal put old new f g
-  head_fails put fault new g is fails = record {
+  pub head_fails : (put : Result (Unit {0}) SinkFault) (fault : SinkFault) (new : Taken) → put ≡ Err fault → FailsIn (line_of (line.head version_2 kind)) old new → PutsPacked journal put old new
+  head_fails put fault new is fails = record {
     migrated = migrated;
     is_put = fails_as (bytes_of (packed journal)) (head ++ behind) put fault is h.packed_is (first_fails head behind fails);
   }
 
-  pub head_then : (goods : ℕ) (mid : Option (List ℕ)) (m : ℕ) (put : Result (Unit {0}) SinkFault) (new : Option (List ℕ)) (g : ℕ) → goods ≡ goods_in journal → Takes (line_of (line.head version_2 kind)) old mid f m
-      → IsPut (bytes_of (packed_records goods (all_zero goods) h.rest)) put mid new m g → PutsPacked journal put old new f g
-  head_then goods mid m put new g same takes puts = record {
+  pub head_then : (goods : ℕ) (mid : Taken) (put : Result (Unit {0}) SinkFault) (new : Taken) → goods ≡ goods_in journal → Takes (line_of (line.head version_2 kind)) old mid
+      → IsPut (bytes_of (packed_records goods (all_zero goods) h.rest)) put mid new → PutsPacked journal put old new
+  head_then goods mid put new same takes puts = record {
     migrated = migrated;
-    is_put = put_as (bytes_of (packed journal)) (head ++ behind) put old new f g h.packed_is
-        (then_put head behind put new g takes (subst (λ (n : ℕ). IsPut (bytes_of (packed_records n (all_zero n) h.rest)) put mid new m g) same puts));
+    is_put = put_as (bytes_of (packed journal)) (head ++ behind) put old new h.packed_is
+        (then_put head behind put new takes (subst (λ (n : ℕ). IsPut (bytes_of (packed_records n (all_zero n) h.rest)) put mid new) same puts));
   }

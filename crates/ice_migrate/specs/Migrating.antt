@@ -24,7 +24,8 @@ StopsAt place journal = FirstFailure journal (Some (record { line = place; rule 
 abbrev pub PassesOrStops : List Record → Type 0
 PassesOrStops journal = FirstFailure journal None ⊎ ((place : ℕ) × StopsAt place journal)
 
--- a version 1 journal that passes every test or stops, and stands in order behind its stop too; from version 2 it comes back
+-- a version 1 journal that passes every test or stops, and stands in order behind its stop too;
+-- from version 2 it comes back
 pub record IsMigrated (journal : List Record) : Type 0 where
   pub old : IsTrue (is_old journal)
   pub passes : PassesOrStops journal
@@ -33,13 +34,15 @@ pub record IsMigrated (journal : List Record) : Type 0 where
 
 -- its first failed test is another one than that of a stop, or behind its stop this one fails first
 abbrev pub FailsAt : List Record → Failure → Type 0
-FailsAt journal failure = (FirstFailure journal (Some failure) × (failure.rule ≢ rule.Closed)) ⊎ (PassesOrStops journal × (order_failure journal ≡ Some failure))
+FailsAt journal failure =
+    (FirstFailure journal (Some failure) × (failure.rule ≢ rule.Closed)) ⊎ (PassesOrStops journal × (order_failure journal ≡ Some failure))
 
 pub record IsFailing (journal : List Record) (failure : Failure) : Type 0 where
   pub old : IsTrue (is_old journal)
   pub fails : FailsAt journal failure
 
--- the least line at fault comes first, then another kind, then the first failed test; want of memory is free
+-- the least line at fault comes first, then another kind, then the first failed test; want of
+-- memory is free
 abbrev pub Judges : List ℕ → Result (Unit {0}) Unfit → Type 0
 Judges bytes (Ok unit) = OfJournal bytes IsMigrated
 Judges bytes (Err (Grammar place)) = IsLinesFault bytes (grammar place)

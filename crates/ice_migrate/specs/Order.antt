@@ -1,4 +1,5 @@
--- Whether each record of a journal may stand in its place, also behind a stop, and whether the journal ends where it may.
+-- Whether each record of a journal may stand in its place, also behind a stop, and whether the
+-- journal ends where it may.
 use Rattle.std.specs.Prelude.{List, [], ◌∷◌, Option, Some, None}
 use Rattle.ice_journal.specs.Records.{Record}
 use Rattle.ice_journal.specs.Records as line

@@ -2,6 +2,7 @@
 use Rattle.std.specs.Prelude.{ℕ, ℤ, List, Option, Some, None, Result}
 use Rattle.ice_edge.specs.declared.sink.SinkFault.{SinkFault}
 use Rattle.ice_edge.specs.Puts.{IsPut}
+use Rattle.ice_edge.specs.Taken.{Taken}
 use Rattle.arrayvec.specs.ArrayVec.{ArrayVec}
 use Rattle.ice_defs.specs.Bound.{Multipliers}
 use Rattle.ice_defs.specs.Steps.{branch, leaf, dead}
@@ -33,6 +34,6 @@ packed_after goods m (line.step (dead b)) = m
 packed_after goods m r = all_zero goods
 
 -- the journal, which was judged, is put in version 2
-pub record PutsPacked (journal : List Record) (put : Result (Unit {0}) SinkFault) (old new : Option (List ℕ)) (faults faults_after : ℕ) : Type 0 where
+pub record PutsPacked (journal : List Record) (put : Result (Unit {0}) SinkFault) (old new : Taken) : Type 0 where
   pub migrated : IsMigrated journal
-  pub is_put : IsPut (bytes_of (packed journal)) put old new faults faults_after
+  pub is_put : IsPut (bytes_of (packed journal)) put old new

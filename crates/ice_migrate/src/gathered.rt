@@ -35,7 +35,7 @@ impl Gathered {
     /// A text that is too long to be gathered is put at once.
     pub(crate) fn put<K: Sink>(&mut self, text: &[u8], out: &mut K) -> Result<(), SinkFault>
         ensures { IsGathered self.new (self.old ++ text.now) result
-            (K.written out.old) (K.written out.new) (K.faults out.old) (K.faults out.new) }
+            (K.taken out.old) (K.taken out.new) }
     {
         if self.gather(text) {
             return Ok(());
@@ -49,8 +49,7 @@ impl Gathered {
 
     /// Puts what is gathered, where there is some.
     pub(crate) fn flush<K: Sink>(&mut self, out: &mut K) -> Result<(), SinkFault>
-        ensures put { IsPut self.old result
-            (K.written out.old) (K.written out.new) (K.faults out.old) (K.faults out.new) }
+        ensures put { IsPut self.old result (K.taken out.old) (K.taken out.new) }
         ensures ok { OnOk result (self.new ≡ []) }
     {
         if self.bytes.is_empty() {

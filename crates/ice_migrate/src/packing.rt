@@ -91,8 +91,7 @@ impl Packing {
         requires { IsRecord (step (leaf multipliers.items)) }
         ensures put { IsGathered gathered.new
             (gathered.old ++ line_of (near (changes_from 0 (before_of self.old) multipliers.items)))
-            result
-            (K.written out.old) (K.written out.new) (K.faults out.old) (K.faults out.new) }
+            result (K.taken out.old) (K.taken out.new) }
         ensures after { before_of self.new ≡ multipliers.items }
         ensures goods { self.new.goods ≡ self.old.goods }
     {
@@ -114,7 +113,7 @@ impl Packing {
         ensures put { (r : Record) → IsRecord r → line.now ≡ line_of r
             → IsGathered gathered.new
             (gathered.old ++ line_of (packed_record (before_of self.old) r)) result
-            (K.written out.old) (K.written out.new) (K.faults out.old) (K.faults out.new) }
+            (K.taken out.old) (K.taken out.new) }
         ensures after { (r : Record) → IsRecord r → line.now ≡ line_of r
             → before_of self.new ≡ packed_after self.old.goods (before_of self.old) r }
         ensures goods { self.new.goods ≡ self.old.goods }
@@ -157,8 +156,7 @@ fn put_changes<K: Sink>(
 ) -> Result<(), SinkFault>
     requires { IsRecord (near (map change_of changes.items)) }
     ensures { IsGathered gathered.new (gathered.old ++ line_of (near (map change_of changes.items)))
-        result
-        (K.written out.old) (K.written out.new) (K.faults out.old) (K.faults out.new) }
+        result (K.taken out.old) (K.taken out.new) }
 {
     writer.clear();
     write_record(&Line::Near(changes), writer);
@@ -173,7 +171,7 @@ fn put_behind_head<K: Sink>(
 ) -> Result<(), SinkFault>
     ensures { (left : List Record) → IsJournal records.old left
         → IsPut (bytes_of (packed_records goods (all_zero goods) left)) result
-        (K.written out.old) (K.written out.new) (K.faults out.old) (K.faults out.new) }
+        (K.taken out.old) (K.taken out.new) }
 {
     let mut packing = Packing::new(goods);
     let mut writer = LineWriter::new();
@@ -190,7 +188,7 @@ fn put_behind_head<K: Sink>(
 pub fn put_packed<K: Sink>(bytes: &[u8], out: &mut K) -> Result<(), SinkFault>
     requires { OfJournal bytes.now IsMigrated }
     ensures { OfJournal bytes.now (λ journal. PutsPacked journal result
-        (K.written out.old) (K.written out.new) (K.faults out.old) (K.faults out.new)) }
+        (K.taken out.old) (K.taken out.new)) }
 {
     let goods = Counts::of_all(bytes).goods;
     let mut records = Records::new(bytes);

@@ -13,7 +13,7 @@ loop-line-preserved g c =
       goods = c.put_line.ensures.goods ∙ c.loop-line.invariant.goods;
       left = λ left is.
           one_gathered goods c.loop-line.packing c.put_line.new.self c.loop-line.gathered c.loop-line.records c.next_line.new.self c.in-Some.line left
-          (g.K.Sink.written c.args.out.now) (g.K.Sink.written c.loop-line.out) (g.K.Sink.written c.put_line.new.out) (g.K.Sink.faults c.args.out.now) (g.K.Sink.faults c.loop-line.out) (g.K.Sink.faults c.put_line.new.out)
+          (g.K.Sink.taken c.args.out.now) (g.K.Sink.taken c.loop-line.out) (g.K.Sink.taken c.put_line.new.out)
           (c.loop-line.invariant.left left is) c.in-Some.ensures.next c.loop-line.invariant.goods c.put_line.ensures.after c.put_line.new.gathered c.in_ok-put_line.ensures.put;
     }
 
@@ -24,11 +24,11 @@ returns-in_err-put_line g c = λ left is.
     let p = err_from_is_err_and c.from_residual.result c.from_residual.ensures.1 in
     fails_as whole whole c.from_residual.result p.0 p.1 refl
     (one_fails goods c.loop-line.packing c.put_line.new.self c.loop-line.gathered c.loop-line.records c.next_line.new.self c.in-Some.line left
-    (g.K.Sink.written c.args.out.now) (g.K.Sink.written c.loop-line.out) (g.K.Sink.written c.put_line.new.out) (g.K.Sink.faults c.args.out.now) (g.K.Sink.faults c.loop-line.out) (g.K.Sink.faults c.put_line.new.out)
+    (g.K.Sink.taken c.args.out.now) (g.K.Sink.taken c.loop-line.out) (g.K.Sink.taken c.put_line.new.out)
     (c.loop-line.invariant.left left is) c.in-Some.ensures.next c.loop-line.invariant.goods c.put_line.ensures.after c.in_err-put_line.ensures.put)
 
 pub returns : goal.returns
 returns g c = λ left is.
     all_put c.args.goods c.loop-line.packing c.loop-line.gathered c.loop-line.records c.next_line.new.self left c.flush.result
-    (g.K.Sink.written c.args.out.now) (g.K.Sink.written c.loop-line.out) (g.K.Sink.written c.flush.new.out) (g.K.Sink.faults c.args.out.now) (g.K.Sink.faults c.loop-line.out) (g.K.Sink.faults c.flush.new.out)
+    (g.K.Sink.taken c.args.out.now) (g.K.Sink.taken c.loop-line.out) (g.K.Sink.taken c.flush.new.out)
     (c.loop-line.invariant.left left is) c.in_default.ensures.next c.flush.ensures.put

@@ -8,7 +8,7 @@ abbrev pub invariant-loop-line : goal.invariant-loop-line
 invariant-loop-line g l = record {
   goods : l.packing.goods ≡ l.goods;
   left : (left : List Record) → IsJournal l.initial.records left
-      → IsPutSoFar l.goods l.packing l.gathered l.records left (g.K.Sink.written l.initial.out) (g.K.Sink.written l.out) (g.K.Sink.faults l.initial.out) (g.K.Sink.faults l.out);
+      → IsPutSoFar l.goods l.packing l.gathered l.records left (g.K.Sink.taken l.initial.out) (g.K.Sink.taken l.out);
 }
 
 abbrev pub decreases-loop-line : goal.decreases-loop-line
