@@ -26,3 +26,5 @@ pub mod Located
 pub mod Heads
 -- a text that is gathered piece by piece, and put in long ones
 pub mod Gathering
+-- but for want of memory, bytes are judged in one way
+pub mod Deciding

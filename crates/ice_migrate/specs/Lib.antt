@@ -1,5 +1,6 @@
 pub mod Order
 pub mod Migrating
+pub mod Laws
 pub mod Reading
 pub mod Sorts
 pub mod Stopped

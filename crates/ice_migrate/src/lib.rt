@@ -6,6 +6,7 @@ mod behind;
 mod counts;
 mod gathered;
 mod judging;
+mod laws;
 mod packing;
 mod place;
 mod records;
@@ -14,4 +15,5 @@ mod sort;
 mod tests;
 
 pub use judging::{Unfit, judge};
+pub use laws::bytes_have_one_judgement;
 pub use packing::put_packed;
