@@ -1,11 +1,12 @@
 -- What the records that were read have added to a statement, and what is still to come.
-use Rattle.std.proofs.Common.{◌≡◌, ◌∙◌, refl, ap, sym, subst, ℕ, take, ◌+◌, List, [], ◌∷◌, ◌++◌, length, Contains, Option, Some, None, Result, Err, arith, append_assoc, length-append}
+use Rattle.std.proofs.Common.{◌≡◌, ◌∙◌, refl, ap, sym, subst, ℕ, take, ◌+◌, List, [], ◌∷◌, ◌++◌, length, Contains, Some, None, Result, Err, arith, append_assoc, length-append}
 use Rattle.std.proofs.Math.Seq.{take-append_seam}
 use Rattle.std.proofs.lemmas.List.Concat.{flat_map-cons, flat_map-append}
 use Rattle.std.proofs.lemmas.List.Elements.{Contains-append_right}
 use Rattle.ice_edge.specs.declared.sink.SinkFault.{SinkFault}
 use Rattle.ice_edge.specs.Puts.{Takes, FailsIn, IsPut, TakesAllBut}
 use Rattle.ice_edge.proofs.Puts.{all_left, less_left, fails_next, none_left}
+use Rattle.ice_edge.specs.Taken.{Taken}
 use Rattle.ice_line.specs.Reading.{Reads}
 use Rattle.ice_line.specs.Lines.{BeginsWithLine}
 use Rattle.ice_journal.specs.Records.{Record}
@@ -18,13 +19,13 @@ use Rattle.ice_statement_laws.specs.Texts.{line_text, bytes_of_lines}
 use Rattle.ice_statement_laws.specs.Gathering.{Gathering, gathering, gathering_after, lines_at, gathered, gathered_lines}
 
 -- the records that are still to come, and that all lines but theirs are put
-pub record HasPut (start g : Gathering) (rest : List ℕ) (journal : List Record) (old now : Option (List ℕ)) (f h : ℕ) : Type 0 where
+pub record HasPut (start g : Gathering) (rest : List ℕ) (journal : List Record) (old now : Taken) : Type 0 where
   pub left : List Record
   pub is : IsJournal rest left
-  pub all : TakesAllBut (bytes_of_lines (gathered g left)) (bytes_of_lines (gathered start journal)) old now f h
+  pub all : TakesAllBut (bytes_of_lines (gathered g left)) (bytes_of_lines (gathered start journal)) old now
 
-pub none_put : (g : Gathering) (bytes : List ℕ) (journal : List Record) (old : Option (List ℕ)) (f : ℕ) → IsJournal bytes journal → HasPut g g bytes journal old old f f
-none_put g bytes journal old f is = record { left = journal; is = is; all = all_left (bytes_of_lines (gathered g journal)) old f }
+pub none_put : (g : Gathering) (bytes : List ℕ) (journal : List Record) (old : Taken) → IsJournal bytes journal → HasPut g g bytes journal old old
+none_put g bytes journal old is = record { left = journal; is = is; all = all_left (bytes_of_lines (gathered g journal)) old }
 
 -- the first line is that of the first record
 pub record First (text after : List ℕ) (left : List Record) : Type 0 where
@@ -49,30 +50,30 @@ read_is text after left r (lawful, spelled, one) x = (x.more, x.left_is ∙ ap (
 parts : (g : Gathering) (r : Record) (more : List Record) → bytes_of_lines (gathered g (r ∷ more)) ≡ bytes_of_lines (lines_at g r) ++ bytes_of_lines (gathered (gathering_after g r) more)
 parts g r more = flat_map-append line_text (lines_at g r) (gathered (gathering_after g r) more)
 
-module _ (start g : Gathering) (rest text after : List ℕ) (journal : List Record) (r : Record) (old mid new : Option (List ℕ)) (f h k : ℕ)
-    (put : HasPut start g rest journal old mid f h) (begins : BeginsWithLine rest text after) (reads : Reads (Some r) IsRecord text_of text) where
+module _ (start g : Gathering) (rest text after : List ℕ) (journal : List Record) (r : Record) (old mid new : Taken)
+    (put : HasPut start g rest journal old mid) (begins : BeginsWithLine rest text after) (reads : Reads (Some r) IsRecord text_of text) where
   to_come : (more : List Record) × (put.left ≡ r ∷ more) × IsJournal after more
   to_come = read_is text after put.left r reads (first_of rest text after put.left begins put.is)
 
-  all_is : TakesAllBut (bytes_of_lines (lines_at g r) ++ bytes_of_lines (gathered (gathering_after g r) to_come.0)) (bytes_of_lines (gathered start journal)) old mid f h
-  all_is = subst (λ (t : List ℕ). TakesAllBut t (bytes_of_lines (gathered start journal)) old mid f h) (ap (λ (rs : List Record). bytes_of_lines (gathered g rs)) to_come.1 ∙ parts g r to_come.0) put.all
+  all_is : TakesAllBut (bytes_of_lines (lines_at g r) ++ bytes_of_lines (gathered (gathering_after g r) to_come.0)) (bytes_of_lines (gathered start journal)) old mid
+  all_is = subst (λ (t : List ℕ). TakesAllBut t (bytes_of_lines (gathered start journal)) old mid) (ap (λ (rs : List Record). bytes_of_lines (gathered g rs)) to_come.1 ∙ parts g r to_come.0) put.all
 
   -- what it adds is put
-  pub one_put : (next : Gathering) → next ≡ gathering_after g r → Takes (bytes_of_lines (lines_at g r)) mid new h k → HasPut start next after journal old new f k
-  one_put next e takes = subst (λ (x : Gathering). HasPut start x after journal old new f k) (sym e) (record {
+  pub one_put : (next : Gathering) → next ≡ gathering_after g r → Takes (bytes_of_lines (lines_at g r)) mid new → HasPut start next after journal old new
+  one_put next e takes = subst (λ (x : Gathering). HasPut start x after journal old new) (sym e) (record {
     left = to_come.0;
     is = to_come.2;
-    all = less_left (bytes_of_lines (lines_at g r)) (bytes_of_lines (gathered (gathering_after g r) to_come.0)) (bytes_of_lines (gathered start journal)) old mid new f h k all_is takes;
+    all = less_left (bytes_of_lines (lines_at g r)) (bytes_of_lines (gathered (gathering_after g r) to_come.0)) (bytes_of_lines (gathered start journal)) old mid new all_is takes;
   })
 
   -- or the sink fails in it
-  pub one_fails : FailsIn (bytes_of_lines (lines_at g r)) mid new h k → FailsIn (bytes_of_lines (gathered start journal)) old new f k
-  one_fails fails = fails_next (bytes_of_lines (lines_at g r)) (bytes_of_lines (gathered (gathering_after g r) to_come.0)) (bytes_of_lines (gathered start journal)) old mid new f h k all_is fails
+  pub one_fails : FailsIn (bytes_of_lines (lines_at g r)) mid new → FailsIn (bytes_of_lines (gathered start journal)) old new
+  one_fails fails = fails_next (bytes_of_lines (lines_at g r)) (bytes_of_lines (gathered (gathering_after g r) to_come.0)) (bytes_of_lines (gathered start journal)) old mid new all_is fails
 
 -- a line that is no record stands in no journal
-pub no_record : {A : Type 0} (start g : Gathering) (rest text after : List ℕ) (journal : List Record) (old mid : Option (List ℕ)) (f h : ℕ) → HasPut start g rest journal old mid f h → BeginsWithLine rest text after
+pub no_record : {A : Type 0} (start g : Gathering) (rest text after : List ℕ) (journal : List Record) (old mid : Taken) → HasPut start g rest journal old mid → BeginsWithLine rest text after
     → Reads {A = Record} None IsRecord text_of text → A
-no_record start g rest text after journal old mid f h put begins none =
+no_record start g rest text after journal old mid put begins none =
     let x = first_of rest text after put.left begins put.is in
     absurd (none x.record_is x.lawful x.text_is)
 
@@ -81,11 +82,11 @@ has_newline r more =
     subst (λ (t : List ℕ). Contains t 10) (sym (flat_map-cons line_of r more ∙ append_assoc (text_of r) (10 ∷ []) (bytes_of more))) (Contains-append_right (text_of r) (10 ∷ bytes_of more) 10 (0, omega arith, refl))
 
 -- with no line left all is put
-pub all_put : (start g : Gathering) (rest : List ℕ) (journal : List Record) (old new : Option (List ℕ)) (f h : ℕ) → ¬ Contains rest 10 → HasPut start g rest journal old new f h → Takes (bytes_of_lines (gathered start journal)) old new f h
-all_put start g rest journal old new f h none put = by put.left put.is put.all
+pub all_put : (start g : Gathering) (rest : List ℕ) (journal : List Record) (old new : Taken) → ¬ Contains rest 10 → HasPut start g rest journal old new → Takes (bytes_of_lines (gathered start journal)) old new
+all_put start g rest journal old new none put = by put.left put.is put.all
   where
-    by : (left : List Record) → IsJournal rest left → TakesAllBut (bytes_of_lines (gathered g left)) (bytes_of_lines (gathered start journal)) old new f h → Takes (bytes_of_lines (gathered start journal)) old new f h
-    by [] is all = none_left (bytes_of_lines (gathered start journal)) old new f h all
+    by : (left : List Record) → IsJournal rest left → TakesAllBut (bytes_of_lines (gathered g left)) (bytes_of_lines (gathered start journal)) old new → Takes (bytes_of_lines (gathered start journal)) old new
+    by [] is all = none_left (bytes_of_lines (gathered start journal)) old new all
     by (r ∷ more) is all = absurd (none (subst (λ (t : List ℕ). Contains t 10) (sym is.spelled) (has_newline r more)))
 
 -- its line is what is before the rest
@@ -97,8 +98,8 @@ its_line rest text after r begins e =
     ∙ ap (λ (t : List ℕ). t ++ 10 ∷ []) e
 
 -- a sink that failed answers so
-pub fails_as : (whole : List ℕ) (put : Result (Unit {0}) SinkFault) (fault : SinkFault) (old new : Option (List ℕ)) (f h : ℕ) → put ≡ Err fault → FailsIn whole old new f h → IsPut whole put old new f h
-fails_as whole put fault old new f h is fails = subst (λ r. IsPut whole r old new f h) (sym is) fails
+pub fails_as : (whole : List ℕ) (put : Result (Unit {0}) SinkFault) (fault : SinkFault) (old new : Taken) → put ≡ Err fault → FailsIn whole old new → IsPut whole put old new
+fails_as whole put fault old new is fails = subst (λ r. IsPut whole r old new) (sym is) fails
 
 -- the first line, those of the records, and the last one
 pub parts_of_all : (name : List ℕ) (journal : List Record) → bytes_of_lines (gathered_lines name journal) ≡ line_text (named name) ++ (bytes_of_lines (gathered (gathering name) journal) ++ line_text ended)

@@ -48,7 +48,8 @@ pub record IsFailing (journal : List Record) (failure : Failure) : Type 0 where
   pub session : is_session journal ≡ true
   pub fails : HasNo journal failure
 
--- the least line at fault comes first, then another kind, then the first failed test, then the want of the bidder; want of memory is free
+-- the least line at fault comes first, then another kind, then the first failed test, then the
+-- want of the bidder; want of memory is free
 abbrev pub MayState : List ℕ → List ℕ → Result (Unit {0}) StatementEnd → Type 0
 MayState bytes name (Ok unit) = OfJournal bytes (HasStatement name)
 MayState bytes name (Err (Grammar place)) = IsLinesFault bytes (grammar place)

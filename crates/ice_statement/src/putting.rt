@@ -18,8 +18,7 @@ use ice_set::NodeSet;
 
 /// Puts the line of the bidder's final set.
 fn put_kept<K: Sink>(set: &NodeSet, out: &mut K) -> Result<(), SinkFault>
-    ensures { IsPut (line_text (kept set.now)) result
-        (K.written out.old) (K.written out.new) (K.faults out.old) (K.faults out.new) }
+    ensures { IsPut (line_text (kept set.now)) result (K.taken out.old) (K.taken out.new) }
 {
     let mut writer = LineWriter::new();
     out.put(write_kept(set, &mut writer))
@@ -27,8 +26,7 @@ fn put_kept<K: Sink>(set: &NodeSet, out: &mut K) -> Result<(), SinkFault>
 
 /// Puts the line of the bidder's provisional set.
 fn put_offered<K: Sink>(set: &NodeSet, out: &mut K) -> Result<(), SinkFault>
-    ensures { IsPut (line_text (offered set.now)) result
-        (K.written out.old) (K.written out.new) (K.faults out.old) (K.faults out.new) }
+    ensures { IsPut (line_text (offered set.now)) result (K.taken out.old) (K.taken out.new) }
 {
     let mut writer = LineWriter::new();
     out.put(write_offered(set, &mut writer))
@@ -38,7 +36,7 @@ fn put_offered<K: Sink>(set: &NodeSet, out: &mut K) -> Result<(), SinkFault>
 fn put_if<K: Sink>(own: bool, line: &Line, text: &[u8], out: &mut K) -> Result<(), SinkFault>
     requires { text.now ≡ line_of (record_of line.now) }
     ensures { IsPut (bytes_of_lines (shown_if own (record_of line.now))) result
-        (K.written out.old) (K.written out.new) (K.faults out.old) (K.faults out.new) }
+        (K.taken out.old) (K.taken out.new) }
 {
     if own { out.put(text) } else { Ok(()) }
 }
@@ -46,7 +44,7 @@ fn put_if<K: Sink>(own: bool, line: &Line, text: &[u8], out: &mut K) -> Result<(
 /// Puts the line of a regret, and behind it the bidder's final set.
 fn put_regret<K: Sink>(text: &[u8], set: &NodeSet, out: &mut K) -> Result<(), SinkFault>
     ensures { IsPut (text.now ++ line_text (kept set.now)) result
-        (K.written out.old) (K.written out.new) (K.faults out.old) (K.faults out.new) }
+        (K.taken out.old) (K.taken out.new) }
 {
     out.put(text)?;
     put_kept(set, out)
@@ -55,7 +53,7 @@ fn put_regret<K: Sink>(text: &[u8], set: &NodeSet, out: &mut K) -> Result<(), Si
 /// Puts the bidder's provisional set, and behind it the line of the prices.
 fn put_prices<K: Sink>(text: &[u8], set: &NodeSet, out: &mut K) -> Result<(), SinkFault>
     ensures { IsPut (line_text (offered set.now) ++ text.now) result
-        (K.written out.old) (K.written out.new) (K.faults out.old) (K.faults out.new) }
+        (K.taken out.old) (K.taken out.new) }
 {
     put_offered(set, out)?;
     out.put(text)
@@ -70,7 +68,7 @@ pub(crate) fn put_added<K: Sink>(
 ) -> Result<(), SinkFault>
     requires { text.now ≡ line_of (record_of line.now) }
     ensures { IsPut (bytes_of_lines (lines_at gathering.now (record_of line.now))) result
-        (K.written out.old) (K.written out.new) (K.faults out.old) (K.faults out.new) }
+        (K.taken out.old) (K.taken out.new) }
 {
     match line {
         Line::Settings(_)
@@ -104,7 +102,7 @@ pub(crate) fn put_added<K: Sink>(
 fn put_gathered<K: Sink>(bytes: &[u8], name: &[u8], out: &mut K) -> Result<(), SinkFault>
     ensures { (journal : List Record) → IsJournal bytes.now journal
         → IsPut (bytes_of_lines (gathered (gathering name.now) journal)) result
-        (K.written out.old) (K.written out.new) (K.faults out.old) (K.faults out.new) }
+        (K.taken out.old) (K.taken out.new) }
 {
     let mut gathering = Gathering::new(name);
     let mut rest = bytes;
@@ -121,8 +119,7 @@ fn put_gathered<K: Sink>(bytes: &[u8], name: &[u8], out: &mut K) -> Result<(), S
 
 /// Puts a name and the end of its line.
 fn put_name<K: Sink>(name: &[u8], out: &mut K) -> Result<(), SinkFault>
-    ensures { IsPut (name.now ++ 10 ∷ []) result
-        (K.written out.old) (K.written out.new) (K.faults out.old) (K.faults out.new) }
+    ensures { IsPut (name.now ++ 10 ∷ []) result (K.taken out.old) (K.taken out.new) }
 {
     out.put(name)?;
     out.put(b"\n")
@@ -130,16 +127,14 @@ fn put_name<K: Sink>(name: &[u8], out: &mut K) -> Result<(), SinkFault>
 
 /// Puts the first word.
 fn put_word<K: Sink>(out: &mut K) -> Result<(), SinkFault>
-    ensures { IsPut (codes "statement ") result
-        (K.written out.old) (K.written out.new) (K.faults out.old) (K.faults out.new) }
+    ensures { IsPut (codes "statement ") result (K.taken out.old) (K.taken out.new) }
 {
     out.put(b"statement ")
 }
 
 /// Puts the first line.
 fn put_named<K: Sink>(name: &[u8], out: &mut K) -> Result<(), SinkFault>
-    ensures { IsPut (line_text (named name.now)) result
-        (K.written out.old) (K.written out.new) (K.faults out.old) (K.faults out.new) }
+    ensures { IsPut (line_text (named name.now)) result (K.taken out.old) (K.taken out.new) }
 {
     put_word(out)?;
     put_name(name, out)
@@ -147,8 +142,7 @@ fn put_named<K: Sink>(name: &[u8], out: &mut K) -> Result<(), SinkFault>
 
 /// Puts the last line.
 fn put_ended<K: Sink>(out: &mut K) -> Result<(), SinkFault>
-    ensures { IsPut (line_text ended) result
-        (K.written out.old) (K.written out.new) (K.faults out.old) (K.faults out.new) }
+    ensures { IsPut (line_text ended) result (K.taken out.old) (K.taken out.new) }
 {
     out.put(b"end statement\n")
 }
@@ -157,7 +151,7 @@ fn put_ended<K: Sink>(out: &mut K) -> Result<(), SinkFault>
 fn put_behind_name<K: Sink>(bytes: &[u8], name: &[u8], out: &mut K) -> Result<(), SinkFault>
     ensures { (journal : List Record) → IsJournal bytes.now journal
         → IsPut (bytes_of_lines (gathered (gathering name.now) journal) ++ line_text ended) result
-        (K.written out.old) (K.written out.new) (K.faults out.old) (K.faults out.new) }
+        (K.taken out.old) (K.taken out.new) }
 {
     put_gathered(bytes, name, out)?;
     put_ended(out)
@@ -167,7 +161,7 @@ fn put_behind_name<K: Sink>(bytes: &[u8], name: &[u8], out: &mut K) -> Result<()
 fn put_lines<K: Sink>(bytes: &[u8], name: &[u8], out: &mut K) -> Result<(), SinkFault>
     ensures { (journal : List Record) → IsJournal bytes.now journal
         → IsPut (bytes_of_lines (gathered_lines name.now journal)) result
-        (K.written out.old) (K.written out.new) (K.faults out.old) (K.faults out.new) }
+        (K.taken out.old) (K.taken out.new) }
 {
     put_named(name, out)?;
     put_behind_name(bytes, name, out)
@@ -177,8 +171,7 @@ fn put_lines<K: Sink>(bytes: &[u8], name: &[u8], out: &mut K) -> Result<(), Sink
 /// passes every test. It takes no memory.
 pub fn put_statement<K: Sink>(bytes: &[u8], name: &[u8], out: &mut K) -> Result<(), SinkFault>
     ensures { (journal : List Record) (own : Own) → IsJournal bytes.now journal → IsOwnOf journal name.now own
-        → IsPut (statement_of (published journal) own) result
-        (K.written out.old) (K.written out.new) (K.faults out.old) (K.faults out.new) }
+        → IsPut (statement_of (published journal) own) result (K.taken out.old) (K.taken out.new) }
 {
     put_lines(bytes, name, out)
 }

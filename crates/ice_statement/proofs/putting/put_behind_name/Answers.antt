@@ -12,4 +12,4 @@ returns-in_err-put_gathered g c = λ journal is.
 
 pub returns : goal.returns
 returns g c = λ journal is.
-    then_put (bytes_of_lines (gathered (gathering c.args.name.now) journal)) (line_text ended) c.put_ended.result (g.K.Sink.written c.put_ended.new.out) (g.K.Sink.faults c.put_ended.new.out) (c.in_ok-put_gathered.ensures journal is) c.put_ended.ensures
+    then_put (bytes_of_lines (gathered (gathering c.args.name.now) journal)) (line_text ended) c.put_ended.result (g.K.Sink.taken c.put_ended.new.out) (c.in_ok-put_gathered.ensures journal is) c.put_ended.ensures

@@ -9,7 +9,7 @@ abbrev pub invariant-loop-text : goal.invariant-loop-text
 invariant-loop-text g l = record {
   bidders : l.gathering.bidders + length l.rest ≤ length l.bytes;
   sets : l.gathering.sets + length l.rest ≤ length l.bytes;
-  put : (journal : List Record) → IsJournal l.bytes journal → HasPut (gathering l.name) l.gathering l.rest journal (g.K.Sink.written l.initial.out) (g.K.Sink.written l.out) (g.K.Sink.faults l.initial.out) (g.K.Sink.faults l.out);
+  put : (journal : List Record) → IsJournal l.bytes journal → HasPut (gathering l.name) l.gathering l.rest journal (g.K.Sink.taken l.initial.out) (g.K.Sink.taken l.out);
 }
 
 abbrev pub decreases-loop-text : goal.decreases-loop-text

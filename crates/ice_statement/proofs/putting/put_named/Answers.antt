@@ -10,4 +10,4 @@ returns-in_err-put_word g c =
 
 pub returns : goal.returns
 returns g c =
-    then_put (codes "statement ") (c.args.name.now ++ 10 ∷ []) c.put_name.result (g.K.Sink.written c.put_name.new.out) (g.K.Sink.faults c.put_name.new.out) c.in_ok-put_word.ensures c.put_name.ensures
+    then_put (codes "statement ") (c.args.name.now ++ 10 ∷ []) c.put_name.result (g.K.Sink.taken c.put_name.new.out) c.in_ok-put_word.ensures c.put_name.ensures

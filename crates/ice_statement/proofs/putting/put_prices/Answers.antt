@@ -1,6 +1,4 @@
-use Rattle.std.proofs.Common.{rules}
 use Rattle.std.proofs.lemmas.Result.{err_from_is_err_and}
-use Rattle.ice_edge.specs.Puts.{IsPut}
 use Rattle.ice_statement_laws.specs.Statement.{offered}
 use Rattle.ice_statement_laws.specs.Texts.{line_text}
 use Rattle.ice_statement.proofs.Puts.{then_put, first_fails}
@@ -13,5 +11,4 @@ returns-in_err-put_offered g c =
 
 pub returns : goal.returns
 returns g c =
-    let put : IsPut c.args.text.now c.put.result (g.K.Sink.written c.put_offered.new.out) (g.K.Sink.written c.put.new.self) (g.K.Sink.faults c.put_offered.new.out) (g.K.Sink.faults c.put.new.self) = search rules in
-    then_put (line_text (offered c.args.set.now)) c.args.text.now c.put.result (g.K.Sink.written c.put.new.self) (g.K.Sink.faults c.put.new.self) c.in_ok-put_offered.ensures put
+    then_put (line_text (offered c.args.set.now)) c.args.text.now c.put.result (g.K.Sink.taken c.put.new.self) c.in_ok-put_offered.ensures c.put.ensures

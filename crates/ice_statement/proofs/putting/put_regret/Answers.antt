@@ -5,5 +5,5 @@ use Rattle.ice_statement.proofs.putting.put_regret.Goals as goal
 
 pub returns : goal.returns
 returns g c =
-    then_put c.args.text.now (line_text (kept c.args.set.now)) c.put_kept.result (g.K.Sink.written c.put_kept.new.out) (g.K.Sink.faults c.put_kept.new.out)
-    (record { appends = c.in_ok-put.ensures.ok; later = c.in_ok-put.ensures.later }) c.put_kept.ensures
+    then_put c.args.text.now (line_text (kept c.args.set.now)) c.put_kept.result (g.K.Sink.taken c.put_kept.new.out)
+    c.in_ok-put.ensures c.put_kept.ensures

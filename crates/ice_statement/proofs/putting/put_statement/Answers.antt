@@ -6,5 +6,5 @@ use Rattle.ice_statement.proofs.putting.put_statement.Goals as goal
 
 pub returns : goal.returns
 returns g c = λ journal own is own_is.
-    subst (λ lines. IsPut (bytes_of_lines lines) c.put_lines.result (g.K.Sink.written c.args.out.now) (g.K.Sink.written c.put_lines.new.out) (g.K.Sink.faults c.args.out.now) (g.K.Sink.faults c.put_lines.new.out))
+    subst (λ lines. IsPut (bytes_of_lines lines) c.put_lines.result (g.K.Sink.taken c.args.out.now) (g.K.Sink.taken c.put_lines.new.out))
     (gathered_is_statement journal c.args.name.now own own_is) (c.put_lines.ensures journal is)
