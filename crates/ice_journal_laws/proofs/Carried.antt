@@ -20,7 +20,8 @@ pub leads_join : (p q end : Progress) (a b : List Record) → Leads p a q → Le
 leads_join p q end [] b stays l = l
 leads_join p q end (r ∷ a) b (goes {q = mid} h k) l = goes h (leads_join mid q end a b k l)
 
--- from a state, where each state passes on, the front of the records leads to a state, and the others lead on from it
+-- from a state, where each state passes on, the front of the records leads to a state, and the
+-- others lead on from it
 pub leads_front : (s t : State) (a b : List Record) → Leads (passing s) (a ++ b) (passing t) → (u : State) × Leads (passing s) a (passing u) × Leads (passing u) b (passing t)
 leads_front s t [] b l = (s, stays, l)
 leads_front s t (r ∷ a) b (goes (passes_on {after = after} list none holds is) l) = let (u, h, k) = leads_front after t a b l in (u, goes (passes_on list none holds is) h, k)

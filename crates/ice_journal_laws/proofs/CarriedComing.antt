@@ -67,7 +67,8 @@ section_quiet ex = (tt, quiet_append (map good_record ex.goods) (flat_map bidder
 -- ---- the next settlement
 
 module _ (E : Earning) where
-  -- these records lead from here to where the settlement of this number comes, with these bounds, and their steps are earned
+  -- these records lead from here to where the settlement of this number comes, with these bounds,
+  -- and their steps are earned
   pub record Comes (start : State) (records : List Record) (v : Version) (ex : Exchange) (number : ℕ) (bounds : List Bounds) : Type 0 where
     pub rest : State
     pub state : State

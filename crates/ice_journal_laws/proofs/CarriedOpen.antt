@@ -28,7 +28,8 @@ use Rattle.ice_journal_laws.proofs.CarriedRound.{resting_at, settle_takes}
 use Rattle.ice_journal_laws.proofs.CarriedGoing.{settling, with_going, going_carries}
 use Rattle.ice_journal_laws.proofs.CarriedStops.{no_file, round_stop_so_far}
 
--- these records lead from here to the end of the round of this settlement, the last of so many, with these bounds
+-- these records lead from here to the end of the round of this settlement, the last of so many,
+-- with these bounds
 pub record CarriesToRest (start : State) (records : List Record) (g : Going) (v : Version) (ex : Exchange) (number : ℕ) (bounds : List Bounds) : Type 0 where
   pub state : State
   pub carries : Carries start records (resting_at g.balance g.judged (with_going g state))

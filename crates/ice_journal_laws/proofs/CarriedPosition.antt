@@ -50,7 +50,8 @@ module _ (E : Earning) where
       (subst (λ (k : ℕ). Earns (IsEarnedTaken E) (go_to (at_group (Without 0)) (with_settlement x (settling s))) (without_group_records s.version (goods_at s) 0 withouts) (go_to (at_group (Without k)) (state_at (before_without x withouts) s))) (omega arith)
       (withouts_earn E (with_settlement x (settling s)) 0 withouts (omega (arith, is.2)) is.3 earned.1))
 
-  -- these records lead from the head of a session to where a group's head comes, and their steps are earned
+  -- these records lead from the head of a session to where a group's head comes, and their steps
+  -- are earned
   pub record Awaits (before : List Record) (v : Version) (ex : Exchange) (bounds : List Bounds) (at : Position) : Type 0 where
     pub state : State
     pub earns : Earns (IsEarnedTaken E) (begun v session_kind) before (go_to (at_group (group_at at)) (state_at at state))

@@ -22,7 +22,8 @@ use Rattle.ice_journal_laws.specs.Carrying.{Carries}
 use Rattle.ice_journal_laws.specs.ShowingSession.{AreShownVerdicts}
 use Rattle.ice_journal_laws.proofs.Carried.{TakesTo, carries_none, carries_then}
 
--- the next submission or settlement is awaited behind the rows of the balance, or behind the last verdict
+-- the next submission or settlement is awaited behind the rows of the balance, or behind the last
+-- verdict
 abbrev pub resting : Certificate → List Judged → Place
 resting c [] = at_balance_rows c.den c.rows
 resting c (j ∷ later) = at_round

@@ -38,7 +38,8 @@ pub mod Heads
 pub mod Grouping
 -- what the records of a regret journal say so far, where each test of them passes
 pub mod Regretting
--- a regret journal that passes each test states a lawful exchange, the best value at lower values, and the exact regret of its sets
+-- a regret journal that passes each test states a lawful exchange, the best value at lower values,
+-- and the exact regret of its sets
 pub mod Regretted
 -- the best value without a bidder, where the log of its group passes
 pub mod Without
@@ -138,7 +139,8 @@ pub mod CarriedIsSpent
 mod WorkedGoing
 -- a regret journal that stops at a spent search is one of which the run's contract speaks
 pub mod CarriedIsSpentRegret
--- what a record makes of the tests at a group's head, at the regret, at the cut and the payments, and at the end of a journal
+-- what a record makes of the tests at a group's head, at the regret, at the cut and the payments,
+-- and at the end of a journal
 pub mod Settling
 -- the cut, the surplus and the payments as whole numbers
 pub mod Charged

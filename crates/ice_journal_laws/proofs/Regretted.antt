@@ -1,4 +1,5 @@
--- A regret journal that passes each test states a lawful exchange, the best value at lower values, and the exact regret of its sets.
+-- A regret journal that passes each test states a lawful exchange, the best value at lower values,
+-- and the exact regret of its sets.
 use Rattle.std.proofs.Common.{◌≡◌, List, [], ◌∷◌, ◌++◌, refl, sym, ◌∙◌, ap, subst}
 use Rattle.std.specs.Prelude.{None}
 use Rattle.std.specs.List.{AllByRecursion}

@@ -1,4 +1,5 @@
--- What a record makes of the tests at a group's head, at the regret, at the cut and the payments, and at the end of a journal.
+-- What a record makes of the tests at a group's head, at the regret, at the cut and the payments,
+-- and at the end of a journal.
 use Rattle.std.proofs.Common.{◌≡◌, ◌≢◌, ◌<◌, ◌+◌, ℕ, suc, Bool, true, false, eqb, [], List, ℤ, pos, ◌-ℤ◌, refl, sym, ◌∙◌, ap, arith, slice_index_or}
 use Rattle.std.specs.Prelude.{◌||◌, Option, Some, None, option_map, option_and_then, if◌then◌else◌}
 use Rattle.std.specs.Str.{bytes_eq}

@@ -31,7 +31,8 @@ AnswersJournal journal (Regret amount) = HasYes journal (of_regret amount)
 AnswersJournal journal (Closed regret surplus) = HasYes journal (of_session regret surplus)
 AnswersJournal journal (No line test) = HasNo journal (record { line = line; rule = test })
 
--- the least line at fault comes first, then another kind, then the first failed test or the yes; want of memory is free
+-- the least line at fault comes first, then another kind, then the first failed test or the yes;
+-- want of memory is free
 abbrev pub AnswersBytes : List ℕ → Result Answer CheckEnd → Type 0
 AnswersBytes bytes (Ok answer) = OfJournal bytes (λ journal. AnswersJournal journal answer)
 AnswersBytes bytes (Err (Grammar line)) = IsLinesFault bytes (grammar line)

@@ -1,4 +1,5 @@
--- Records that lead from one state to another and pass: what a writer adds at the end of its journal.
+-- Records that lead from one state to another and pass: what a writer adds at the end of its
+-- journal.
 use Rattle.std.specs.Prelude.{ℕ, List}
 use Rattle.ice_journal.specs.Records.{Record}
 use Rattle.ice_journal_laws.specs.State.{State}

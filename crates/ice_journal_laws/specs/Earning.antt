@@ -16,7 +16,8 @@ use Rattle.ice_defs.specs.Right.{bounds_after_round}
 use Rattle.ice_journal_laws.specs.State.{State, trees_at, exact_at, weights_at}
 use Rattle.ice_journal_laws.specs.Tests.{Taken}
 
--- a step is earned for these trees, goods and weights, with a start and a first assignment, at its side
+-- a step is earned for these trees, goods and weights, with a start and a first assignment, at its
+-- side
 abbrev pub Earning : Type 1
 Earning = List Tree → List Bool → List Weights → Side → Assignment → Side → Step → Type 0
 

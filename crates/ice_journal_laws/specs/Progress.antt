@@ -9,7 +9,9 @@ use Rattle.ice_journal_laws.specs.Next.{next}
 use Rattle.ice_journal_laws.specs.Tests.{Fails, FailsFirst, Holds, ended_list, ListHolds}
 use Rattle.ice_journal_laws.specs.Checks.{Failure, is_checked, IsChecked, FirstFailure}
 
--- no record yet; a first record that is no head of a kind that is checked; every test passed so far, with what the next ones look back at; the first failed test; or no memory was left for a record
+-- no record yet; a first record that is no head of a kind that is checked; every test passed so
+-- far, with what the next ones look back at; the first failed test; or no memory was left for a
+-- record
 pub data Progress : Type 0 where
   nothing : Progress
   other_kind : Progress
@@ -25,13 +27,15 @@ after_head other = other_kind
 abbrev pub EndsList : State → Record → Type 0
 EndsList s r = (x : Rule) → ended_list s.place r ≡ Some x → ListHolds s.place s
 
--- a record takes the tests on: it passes them all, or it fails one, or the list of rows before it does
+-- a record takes the tests on: it passes them all, or it fails one, or the list of rows before it
+-- does
 pub data TakesOn (s : State) (r : Record) : Progress → Type 0 where
   passes_on : {after : State} → EndsList s r → ((x : Rule) → ¬ Fails x s r) → Holds s r → next s r ≡ Some after → TakesOn s r (passing after)
   fails_at : {x : Rule} → EndsList s r → FailsFirst x s r → TakesOn s r (failed (record { line = s.line; rule = x }))
   list_fails_at : {x : Rule} → ended_list s.place r ≡ Some x → ¬ ListHolds s.place s → TakesOn s r (failed (record { line = s.line - 1; rule = x }))
 
--- what the next record makes of it; a failed test stays the first one, and nothing follows where no memory was left
+-- what the next record makes of it; a failed test stays the first one, and nothing follows where no
+-- memory was left
 abbrev pub IsAfter : Progress → Record → Progress → Type 0
 IsAfter nothing r after = after ≡ after_head r
 IsAfter other_kind r after = after ≡ other_kind

@@ -7,7 +7,8 @@ use Rattle.ice_journal.specs.Records as line
 use Rattle.ice_journal_laws.specs.Checks.{Checks}
 use Rattle.ice_journal_laws.specs.Theorems.{HasKind}
 
--- journals that differ only in the order of the pairs of a submission and its verdict, where two of one name keep their order
+-- journals that differ only in the order of the pairs of a submission and its verdict, where two of
+-- one name keep their order
 pub data Reordered : List Record → List Record → Type 0 where
   same : {journal : List Record} → Reordered journal journal
   swapped : {other : List Record} (before after : List Record) (a b : Submission) (v w : Verdict) → a.name ≢ b.name

@@ -1,4 +1,5 @@
--- What is known of the settlements that a writer of a session writes, and their records in either version.
+-- What is known of the settlements that a writer of a session writes, and their records in either
+-- version.
 use Rattle.std.specs.Prelude.{ℕ, suc, ◌<◌, ◌≤◌, ◌≡◌, false, IsTrue, Bool, List, [], ◌∷◌, ◌++◌, length, map, slice_index_or, ℤ, pos, ◌-ℤ◌, ◌*ℤ◌, ◌≤ℤ◌}
 use Rattle.std.specs.List.{flat_map}
 use Rattle.ice_defs.specs.Tree.{Tree}
@@ -83,7 +84,8 @@ abbrev pub AreShownVerdicts : Prices → ℤ → List Standing → List Judged �
 AreShownVerdicts p improve bidders earlier [] = Unit {0}
 AreShownVerdicts p improve bidders earlier (j ∷ later) = IsNextVerdict p improve bidders earlier j.submission j.verdict × AreShownVerdicts p improve bidders (earlier ++ j ∷ []) later
 
--- the prices have this violation, and at most 200 rows each show that it is least and that the greatest price is
+-- the prices have this violation, and at most 200 rows each show that it is least and that the
+-- greatest price is
 pub record IsShownPricing (ts : List Tree) (ws : List Weights) (goods : ℕ) (cap : ℤ) (g : Going) : Type 0 where
   pub prices : AreShownPrices goods cap g.prices
   pub violation : IsViolation ts ws g.provisional.sets g.prices g.violation

@@ -14,7 +14,8 @@ abbrev pub IsUnfinished : Option Failure → Type 0
 IsUnfinished None = Unit {0}
 IsUnfinished (Some failure) = (failure.rule ≡ rule.Short) ⊎ (failure.rule ≡ rule.Closed)
 
--- the first failed test is that the records end early: no stop stands in them, and they aren't whole
+-- the first failed test is that the records end early: no stop stands in them, and they aren't
+-- whole
 abbrev pub IsUnstopped : Option Failure → Type 0
 IsUnstopped None = ⊥
 IsUnstopped (Some failure) = failure.rule ≡ rule.Short
@@ -30,6 +31,7 @@ pub record IsSoFar (kind : Kind) (journal : List Record) : Type 0 where
   pub tested : Tested (begun version_2 kind) rest end
   pub unfinished : IsUnfinished end
 
--- from this state, whatever line is next, each of these records may stand in its place, and they lead to that one
+-- from this state, whatever line is next, each of these records may stand in its place, and they
+-- lead to that one
 pub record Orders (s : State) (records : List Record) (t : State) : Type 0 where
   pub leads : (n : ℕ) → (m : ℕ) × (after_all (to_line n s) records ≡ Some (to_line m t))

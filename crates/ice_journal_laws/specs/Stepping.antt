@@ -34,7 +34,8 @@ pub record FailsAt (ts : List Tree) (exact : List Bool) (ws : List Weights) (tar
   pub rule_is : y ≡ rule_of_fault why
 
 module _ (ts : List Tree) (exact : List Bool) (ws : List Weights) (target : ℤ) (version : Version) where
-  -- a record is a step that passes, with these sides open and these multipliers in the leaf before it
+  -- a record is a step that passes, with these sides open and these multipliers in the leaf before
+  -- it
   pub record PassesStep (sides : List Side) (m : Multipliers) (r : Record) (sides_then : List Side) (m_then : Multipliers) : Type 0 where
     pub step : Step
     pub stated : step_in version (length m) m r ≡ Some step

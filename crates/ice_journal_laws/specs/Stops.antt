@@ -31,7 +31,8 @@ AreGoing ex number bounds [] = Unit {0}
 AreGoing ex number bounds (g ∷ later) =
     (closes ex.settings number g.settlement.regret ≡ false) × IsGoing ex bounds g × AreGoing ex (suc number) (bounds_after_round ex bounds g) later
 
--- the state in which a group's head is awaited; the first group of a regret journal stands where the section of the exchange ends
+-- the state in which a group's head is awaited; the first group of a regret journal stands where
+-- the section of the exchange ends
 pub data Awaits : State → Group → State → Type 0 where
   next_group : {s : State} {g : Group} → s.place ≡ at_group g → Awaits s g s
   first_group : {s : State} → s.place ≡ at_section → s.kind ≡ regret_kind → IsTrue (may_end s.section) → Awaits s Final (section_ended s)

@@ -196,7 +196,8 @@ IsOtherVerdict place s r = ⊥
 abbrev pub vickreys : State → List ℤ
 vickreys s = map (λ without. s.final.value -ℤ without) s.withouts
 
--- the cut is in range, the discounts that it leaves sum to at most the total, and to no less unless it is 0, and the surplus is the rest
+-- the cut is in range, the discounts that it leaves sum to at most the total, and to no less unless
+-- it is 0, and the surplus is the rest
 pub record IsThresholdLine (vickrey : List ℤ) (total : ℤ) (c : Closing) : Type 0 where
   pub low : AtMost (whole (pos 0)) c.cut
   pub high : Any (λ v. AtMost c.cut (whole v)) vickrey

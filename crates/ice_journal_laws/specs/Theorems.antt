@@ -52,7 +52,8 @@ DoneIsAssigned = (journal : List Record) (s : State) → AllByRecursion IsRecord
 abbrev pub ChecksGiveAssigned : Type 0
 ChecksGiveAssigned = (journal : List Record) → HasKind assign_kind journal → AllByRecursion IsRecord journal → Checks journal → (a : Assigned) × Says journal (assigned_records a) × IsRightAssigned a
 
--- where the records of a regret journal lead to its end, they state the end's exchange and a right settlement of it, with the end's regret
+-- where the records of a regret journal lead to its end, they state the end's exchange and a right
+-- settlement of it, with the end's regret
 pub record IsRegrettedAt (journal : List Record) (s : State) (r : Regretted) : Type 0 where
   pub says : Says journal (regretted_records r)
   pub right : IsRightRegret r
@@ -72,7 +73,8 @@ ChecksGiveRegret = (journal : List Record) → HasKind regret_kind journal → A
 abbrev pub ArePaidByCut : Fraction → List Fraction → Type 0
 ArePaidByCut cut payments = (i : ℕ) → i < length payments → (worth vickrey : ℤ) × Equals (fraction_at payments i) (less (whole worth) (cut_down cut vickrey))
 
--- where the records of a session lead to its end, they state the end's exchange and a right session, with the end's regret, surplus, bounds, final sets and cut
+-- where the records of a session lead to its end, they state the end's exchange and a right
+-- session, with the end's regret, surplus, bounds, final sets and cut
 pub record IsSessionAt (journal : List Record) (s : State) (x : Session) : Type 0 where
   pub says : Says journal (session_records x)
   pub right : IsRight x
@@ -106,6 +108,7 @@ IsYes journal (of_assigned value) = (a : Assigned) × Says journal (assigned_rec
 IsYes journal (of_regret amount) = (r : Regretted) × Says journal (regretted_records r) × IsRightRegret r × (amount ≡ r.settlement.regret)
 IsYes journal (of_session regret surplus) = (s : Session) × Says journal (session_records s) × IsRight s × Headline s × (regret ≡ s.closed.settlement.regret) × (surplus ≡ s.closed.surplus)
 
--- where the records of a session lead to its end, the checker may say yes to it, with the end's regret and surplus
+-- where the records of a session lead to its end, the checker may say yes to it, with the end's
+-- regret and surplus
 abbrev pub SessionIsYes : Type 0
 SessionIsYes = (journal : List Record) (s : State) → AllByRecursion IsRecord journal → Leads nothing journal (passing s) → s.place ≡ done → s.kind ≡ session_kind → IsYes journal (of_session s.regret s.surplus)

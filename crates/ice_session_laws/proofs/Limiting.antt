@@ -62,7 +62,8 @@ use Rattle.ice_session_laws.proofs.Limits.{limit_may_be_written}
 use Rattle.ice_session_laws.proofs.Sessions.{run_are}
 use Rattle.ice_session_laws.proofs.Spending.{MayBeWritten}
 
--- the settlement and the provisional sets are shown and earned, and the pricing of these sets ended at the limit
+-- the settlement and the provisional sets are shown and earned, and the pricing of these sets ended
+-- at the limit
 pub record LimitsAt (s : SessionAt) (x : Settlement) (p : Proved) (limit : PriceLimit) : Type 0 where
   pub goes_on : closes s.exchange.settings s.number x.regret ≡ false
   pub settlement : IsShownSettlement s.exchange s.bounds x

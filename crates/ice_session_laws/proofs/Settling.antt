@@ -51,7 +51,8 @@ module _ (s : SessionAt) (lawful : IsExchange s.exchange) (are : AreBoundsOf (tr
     rival_worth : IsWorth r.value
     rival_worth = found_worth s.exchange lawful (perturbed_weights best.best s.bounds) rival_are best.best Rival (proved_rival r) is.regret.found is.regret.written
 
-    -- the regret is no less than 0, by which the sets lead themselves, and the difference of the two values
+    -- the regret is no less than 0, by which the sets lead themselves, and the difference of the
+    -- two values
     regret_is : IsBetween (pos 0) (pos 400000000000000) r.amount
     regret_is =
         let final_is = final_worth in

@@ -1,4 +1,5 @@
--- Sessions that stop: at a limit of the pricing, at a search that spent its branches, and in a round.
+-- Sessions that stop: at a limit of the pricing, at a search that spent its branches, and in a
+-- round.
 use Rattle.std.specs.Prelude.{ℕ, ◌+◌, ◌<◌, ◌≡◌, List, [], ◌∷◌, ◌++◌, length, map, Option, None, Some}
 use Rattle.ice_defs.specs.PricingLimit.{LimitKind}
 use Rattle.ice_defs.specs.PricingRun.{Member, StageAt, EndsAtLimit}
