@@ -42,7 +42,8 @@ ReplaysBytes bytes number (Err (Grammar line)) = IsLinesFault bytes (grammar lin
 ReplaysBytes bytes number (Err (Unended line)) = IsLinesFault bytes (unended line)
 ReplaysBytes bytes number (Err OtherKind) = OfJournal bytes (λ journal. ¬ IsSession journal)
 ReplaysBytes bytes number (Err (No line test)) =
-    OfJournal bytes (λ journal. IsSession journal × FirstFailure journal (Some (record { line = line; rule = test })) × (test ≢ rule.Closed))
+    OfJournal bytes
+    (λ journal. IsSession journal × FirstFailure journal (Some (record { line = line; rule = test })) × (test ≢ rule.Closed))
 ReplaysBytes bytes number (Err NoSettlement) =
     OfJournal bytes (λ journal. IsReplayable journal × OfSession (λ s records. ¬ Settles number s records) journal)
 ReplaysBytes bytes number (Err NoMemory) = Unit {0}
