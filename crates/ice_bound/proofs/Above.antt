@@ -20,7 +20,8 @@ use Rattle.ice_defs.proofs.Products.{sum_below-times, times_not_positive}
 
 module _ (ts : List Tree) (exact : List Bool) (ws : List Weights) (m : Multipliers) (xs : List Fixing) (a : Assignment)
     (goods : length m ≡ length exact) (signs : ¬ HasWrongSign exact m) (feasible : IsFeasible ts exact a) (meets : MeetsAll a xs) where
-  -- the units of a good cost at most 0: there are none left over of an exact one, and others have no negative multiplier
+  -- the units of a good cost at most 0: there are none left over of an exact one, and others have
+  -- no negative multiplier
   good_cost-le : (g : ℕ) → g < length m → (multiplier_of m g *ℤ total_units ts a g) ≤ℤ pos 0
   good_cost-le g h =
       by (is_exact exact g) (feasible.balanced g (omega (arith, goods, h)))

@@ -1,4 +1,5 @@
--- Fixings that meet the conditions of bounds: those with every node free, and those with one more mark.
+-- Fixings that meet the conditions of bounds: those with every node free, and those with one more
+-- mark.
 use Rattle.std.proofs.Common.{ℕ, ◌<◌, ◌≤◌, ◌≡◌, List, [], length, map, replicate, set, arith, ap, sym, ◌∙◌, ◌⊎◌, inl, inr, get_or-set_same, get_or-set_other}
 use Rattle.std.proofs.lemmas.Bool.{cases_lt, cases_eq}
 use Rattle.std.proofs.lemmas.List.{length-map, get_or-map, length-replicate, length-set, get_or_past}

@@ -8,6 +8,7 @@ use Rattle.ice_defs.specs.declared.NodeKind.{NodeKind}
 use Rattle.ice_defs.specs.declared.NodeKind.TheVariants.{Choose, Buy, Sell}
 use Rattle.ice_defs.specs.Tree.{Tree, kind_of}
 use Rattle.ice_defs.specs.Set.{NodeSet, has, leaf_units}
+use Rattle.ice_bound.specs.declared.direction.Direction.{Direction}
 use Rattle.ice_bound.specs.declared.leaves.Leaves.{Leaves}
 use Rattle.ice_bound.specs.Kept.{NodeStands, Stands}
 use Rattle.ice_bound.specs.Leaves.{is_leaf_of, IsWithout, IsNextLeaf, AreLeavesOf}
@@ -19,18 +20,18 @@ leaf_units-other (Choose least most) g other = refl
 leaf_units-other (Buy good units) g other = ap (λ b. cond b (pos units) (pos 0)) other
 leaf_units-other (Sell good units) g other = ap (λ b. cond b (neg_ℤ (pos units)) (pos 0)) other
 
-node_without : (kind : NodeKind) (g : ℕ) (inside rises : Bool) → is_leaf_of kind g ≡ false → NodeStands kind g inside rises
-node_without (Choose least most) g inside rises other = tt
-node_without (Buy good units) g inside rises other = λ e. absurd (eqb-false good g other e)
-node_without (Sell good units) g inside rises other = λ e. absurd (eqb-false good g other e)
+node_without : (kind : NodeKind) (g : ℕ) (inside : Bool) (direction : Direction) → is_leaf_of kind g ≡ false → NodeStands kind g inside direction
+node_without (Choose least most) g inside direction other = tt
+node_without (Buy good units) g inside direction other = λ e. absurd (eqb-false good g other e)
+node_without (Sell good units) g inside direction other = λ e. absurd (eqb-false good g other e)
 
 -- other nodes stand
-pub others_stand : (t : Tree) (s : NodeSet) (g : ℕ) (rises : Bool) (a b : ℕ) → IsWithout t g a b → Stands t s g rises a → Stands t s g rises b
-others_stand t s g rises a b without stands k h = by (cases_lt k a)
+pub others_stand : (t : Tree) (s : NodeSet) (g : ℕ) (direction : Direction) (a b : ℕ) → IsWithout t g a b → Stands t s g direction a → Stands t s g direction b
+others_stand t s g direction a b without stands k h = by (cases_lt k a)
   where
-    by : (k < a) ⊎ (a ≤ k) → NodeStands (kind_of t k) g (has s k) rises
+    by : (k < a) ⊎ (a ≤ k) → NodeStands (kind_of t k) g (has s k) direction
     by (inl l) = stands k l
-    by (inr l) = node_without (kind_of t k) g (has s k) rises (without k l h)
+    by (inr l) = node_without (kind_of t k) g (has s k) direction (without k l h)
 
 -- and have no units
 none_inside : (b : Bool) → cond b (pos 0) (pos 0) ≡ pos 0

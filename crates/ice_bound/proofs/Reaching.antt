@@ -1,5 +1,5 @@
 -- The sum of the greatest nets where the multiplier of one good is one more, or one less.
-use Rattle.std.proofs.Common.{ℕ, zero, suc, ◌<◌, ◌≤◌, ◌≡◌, true, false, Bool, List, length, ◌+◌, ◌*◌, ◌^◌, Option, None, Some, set, ℤ, pos, neg_ℤ, ◌+ℤ◌, ◌-ℤ◌, ◌*ℤ◌, ◌≤ℤ◌, refl, arith, ap, sym, ◌∙◌, subst, ◌⊎◌, inl, inr}
+use Rattle.std.proofs.Common.{ℕ, zero, suc, ◌<◌, ◌≤◌, ◌≡◌, List, length, ◌+◌, ◌*◌, ◌^◌, Option, None, Some, set, ℤ, pos, neg_ℤ, ◌+ℤ◌, ◌-ℤ◌, ◌*ℤ◌, ◌≤ℤ◌, refl, arith, ap, sym, ◌∙◌, subst, ◌⊎◌, inl, inr}
 use Rattle.std.proofs.lemmas.Int.{ints}
 use Rattle.std.proofs.lemmas.Bool.{cases_lt}
 use Rattle.std.proofs.lemmas.List.{set-get_or}
@@ -15,6 +15,8 @@ use Rattle.ice_defs.proofs.Sums.{sum_below-same, sum_below_more}
 use Rattle.ice_defs.proofs.Integers.{neg_times}
 use Rattle.ice_defs.proofs.Multiples.{one_time}
 use Rattle.ice_best.proofs.Sales.{greatest_unique}
+use Rattle.ice_bound.specs.declared.direction.Direction.{Direction}
+use Rattle.ice_bound.specs.declared.direction.Direction.TheVariants.{Up, Down}
 use Rattle.ice_bound.specs.Multipliers.{multiplier_of}
 use Rattle.ice_bound.specs.Beside.{beside, less_cost, with_beside, StandingBeside, IsFoundBeside, IsShare, IsGreatestShare}
 use Rattle.ice_bound.specs.Kept.{Stands, IsFound, IsNetOf, net_of}
@@ -23,20 +25,20 @@ use Rattle.ice_bound.specs.Tables.{Moves}
 use Rattle.ice_bound.proofs.Staying.{stays_best}
 use Rattle.ice_bound.proofs.Totals.{IsGreatestNet, IsPartialSum, no_bidder, one_bidder_more, total_fits}
 
-pub beside_moves : (rises : Bool) (z : ℤ) → Moves rises z (beside rises z)
-beside_moves true z = omega (arith, ints)
-beside_moves false z = omega (arith, ints)
+pub beside_moves : (direction : Direction) (z : ℤ) → Moves direction z (beside direction z)
+beside_moves Up z = omega (arith, ints)
+beside_moves Down z = omega (arith, ints)
 
 -- a set nets less by what one more 64th a unit costs
-pub net-beside : (m : Multipliers) (g : ℕ) → g < length m → (t : Tree) (w : Weights) (s : NodeSet) (rises : Bool)
-    → net t w (with_beside m g rises) s ≡ less_cost rises (net t w m s) (units t s g)
-net-beside m g there t w s true =
+pub net-beside : (m : Multipliers) (g : ℕ) → g < length m → (t : Tree) (w : Weights) (s : NodeSet) (direction : Direction)
+    → net t w (with_beside m g direction) s ≡ less_cost direction (net t w m s) (units t s g)
+net-beside m g there t w s Up =
     let z = multiplier_of m g in
     let on : (z +ℤ pos 1) -ℤ z ≡ pos 1 = omega (arith, ints) in
     let step : ((z +ℤ pos 1) -ℤ z) *ℤ units t s g ≡ units t s g = ap (λ k. k *ℤ units t s g) on ∙ one_time (units t s g) in
     let same : cost t s (set m g z) ≡ cost t s m = ap (cost t s) (set-get_or m g (pos 0)) in
     omega (arith, ints, cost-moved m g there t s z (z +ℤ pos 1), step, same)
-net-beside m g there t w s false =
+net-beside m g there t w s Down =
     let z = multiplier_of m g in
     let back : (z -ℤ pos 1) -ℤ z ≡ neg_ℤ (pos 1) = omega (arith, ints) in
     let step : ((z -ℤ pos 1) -ℤ z) *ℤ units t s g ≡ neg_ℤ (units t s g) =
@@ -88,7 +90,8 @@ abbrev pub net_at : List Tree → List Weights → Multipliers → Assignment �
 net_at ts ws m sets b = net (tree_of ts b) (weights_of ws b) m (set_of sets b)
 
 module _ (ts : List Tree) (ws : List Weights) (m : Multipliers) (xs : List Fixing) (sets : Assignment) where
-  -- the greatest nets of the first bidders, and open sets of the others, are together no more than the sum
+  -- the greatest nets of the first bidders, and open sets of the others, are together no more than
+  -- the sum
   pub at_most : (b : ℕ) (done total : ℤ) → b ≤ length ts → ((c : ℕ) → c < length ts → IsOpen (tree_of ts c) (fixing_of xs c) (set_of sets c))
       → IsPartialSum ts ws m xs b done → IsNetSum ts ws m xs total → (done +ℤ sum_below (net_at ts ws m sets) (length ts)) ≤ℤ (total +ℤ sum_below (net_at ts ws m sets) b)
   at_most b done total few opens partial (best, each, sum) =
@@ -105,9 +108,9 @@ all_are ts ws m xs b done total e partial (best, each, sum) =
     omega (arith, ints, same, whole, sum, partial.sum)
 
 -- the net of the set beside, by the net that was found
-pub low_at : (m : Multipliers) (g : ℕ) → g < length m → (t : Tree) (w : Weights) (x : Fixing) (s : NodeSet) (rises : Bool) (v : ℤ) → IsFound t w m x (Some v) s
-    → net t w (with_beside m g rises) s ≡ less_cost rises v (units t s g)
-low_at m g there t w x s rises v found = net-beside m g there t w s rises ∙ ap (λ k. less_cost rises k (units t s g)) (net_found t w m x v s found)
+pub low_at : (m : Multipliers) (g : ℕ) → g < length m → (t : Tree) (w : Weights) (x : Fixing) (s : NodeSet) (direction : Direction) (v : ℤ) → IsFound t w m x (Some v) s
+    → net t w (with_beside m g direction) s ≡ less_cost direction v (units t s g)
+low_at m g there t w x s direction v found = net-beside m g there t w s direction ∙ ap (λ k. less_cost direction k (units t s g)) (net_found t w m x v s found)
 
 module _ (st : StandingBeside) (b : ℕ) where
   -- shares and greatest nets fit 128 bits, and so does what lies between them
@@ -122,7 +125,7 @@ module _ (st : StandingBeside) (b : ℕ) where
 
 module _ (st : StandingBeside) (b : ℕ) (known : IsFoundBeside st) (there : b < length st.trees) where
   -- so the share of a bidder
-  pub share_is : (v share : ℤ) → net_of st.nets b ≡ Some v → share ≡ less_cost st.rises v (units (tree_of st.trees b) (set_of st.sets b) st.good)
+  pub share_is : (v share : ℤ) → net_of st.nets b ≡ Some v → share ≡ less_cost st.direction v (units (tree_of st.trees b) (set_of st.sets b) st.good)
       → neg_ℤ (pos (201 * 2 ^ 90)) ≤ℤ share → share ≤ℤ pos (201 * 2 ^ 90) → IsShare st b share
   share_is v share is less low high =
       let t = tree_of st.trees b in
@@ -131,13 +134,13 @@ module _ (st : StandingBeside) (b : ℕ) (known : IsFoundBeside st) (there : b <
       let s = set_of st.sets b in
       let found : IsFound t w st.multipliers x (Some v) s = subst (λ o. IsFound t w st.multipliers x o s) is (known.found.each b there) in
       record {
-        is = ap (λ m. net t w m s) known.moved ∙ low_at st.multipliers st.good known.good t w x s st.rises v found ∙ sym less;
+        is = ap (λ m. net t w m s) known.moved ∙ low_at st.multipliers st.good known.good t w x s st.direction v found ∙ sym less;
         low = low;
         high = high;
       }
 
   -- where the set stands, so does what was found
-  pub stays_found : Stands (tree_of st.trees b) (set_of st.sets b) st.good st.rises (length (tree_of st.trees b))
+  pub stays_found : Stands (tree_of st.trees b) (set_of st.sets b) st.good st.direction (length (tree_of st.trees b))
       → IsFound (tree_of st.trees b) (weights_of st.weights b) st.moved (fixing_of st.marks b) (net_of st.nets b) (set_of st.sets b)
   stays_found stands =
       let t = tree_of st.trees b in
@@ -146,7 +149,7 @@ module _ (st : StandingBeside) (b : ℕ) (known : IsFoundBeside st) (there : b <
       let s = set_of st.sets b in
       let z = multiplier_of st.multipliers st.good in
       subst (λ m. IsFound t w m x (net_of st.nets b) s) (sym known.moved)
-      (stays_best st.multipliers st.good (beside st.rises z) known.good st.rises (beside_moves st.rises z) t w s stands x _ (known.found.each b there))
+      (stays_best st.multipliers st.good (beside st.direction z) known.good st.direction (beside_moves st.direction z) t w s stands x _ (known.found.each b there))
 
 module _ (ts : List Tree) (ws : List Weights) (m : Multipliers) (xs : List Fixing) (sets : Assignment) where
   -- a number is what the first bidders have as greatest nets and the sets of the others net

@@ -1,4 +1,5 @@
--- A set of the greatest net has it still where a good that it has no leaf of costs more or less, and no other set gains.
+-- A set of the greatest net has it still where a good that it has no leaf of costs more or less,
+-- and no other set gains.
 use Rattle.std.proofs.Common.{ℕ, ◌<◌, ◌≡◌, Bool, true, false, cond, length, set, get_or-set_same, get_or-set_other, Option, Some, None, ℤ, pos, neg_ℤ, ◌*ℤ◌, ◌≤ℤ◌, refl, arith, ap, sym, ◌∙◌, subst, ◌⊎◌, inl, inr}
 use Rattle.std.proofs.lemmas.Bool.{cases_eq}
 use Rattle.std.proofs.lemmas.Int.{ints}
@@ -13,13 +14,10 @@ use Rattle.ice_defs.proofs.Sums.{sum_below-same, sum_below-le}
 use Rattle.ice_defs.proofs.Products.{times-le}
 use Rattle.ice_best.specs.Nets.{node_cost}
 use Rattle.ice_best.proofs.NetValues.{set_cost-nodes}
+use Rattle.ice_bound.specs.declared.direction.Direction.{Direction}
 use Rattle.ice_bound.specs.Multipliers.{multiplier_of}
 use Rattle.ice_bound.specs.Kept.{NodeStands, Stands, IsFound}
 use Rattle.ice_bound.specs.Tables.{Moves}
-
-pub moves_by : (rises : Bool) (before z : ℤ) → (rises ≡ true → before ≤ℤ z) → (rises ≡ false → z ≤ℤ before) → Moves rises before z
-moves_by true before z up down = up refl
-moves_by false before z up down = down refl
 
 units-le : (a b : ℤ) (n : ℕ) → a ≤ℤ b → (a *ℤ pos n) ≤ℤ (b *ℤ pos n)
 units-le a b n le = omega (arith, ints, times-le n a b le, *ℤ_comm a (pos n), *ℤ_comm b (pos n))
@@ -31,12 +29,12 @@ cond-le false a b le = omega (arith, ints)
 outside : (inside : Bool) (a b : ℤ) → inside ≡ false → cond inside a (pos 0) ≡ cond inside b (pos 0)
 outside inside a b out = ap (λ i. cond i a (pos 0)) out ∙ sym (ap (λ i. cond i b (pos 0)) out)
 
-module _ (m : Multipliers) (g : ℕ) (z : ℤ) (there : g < length m) (rises : Bool) (moves : Moves rises (multiplier_of m g) z) where
+module _ (m : Multipliers) (g : ℕ) (z : ℤ) (there : g < length m) (direction : Direction) (moves : Moves direction (multiplier_of m g) z) where
   at : (good : ℕ) → good ≡ g → multiplier_of (set m g z) good ≡ z
   at good e = ap (λ k. multiplier_of (set m g z) k) e ∙ get_or-set_same m g z (pos 0) there
 
   -- no node costs less
-  dearer : (kind : NodeKind) (inside : Bool) → NodeStands kind g inside rises → node_cost kind m ≤ℤ node_cost kind (set m g z)
+  dearer : (kind : NodeKind) (inside : Bool) → NodeStands kind g inside direction → node_cost kind m ≤ℤ node_cost kind (set m g z)
   dearer (Choose least most) inside stands = omega (arith, ints)
   dearer (Buy good units) inside stands = by (cases_eq good g)
     where
@@ -57,7 +55,7 @@ module _ (m : Multipliers) (g : ℕ) (z : ℤ) (there : g < length m) (rises : B
           omega (arith, ints, le)
 
   -- and those inside cost the same
-  as_dear : (kind : NodeKind) (inside : Bool) → NodeStands kind g inside rises → cond inside (node_cost kind (set m g z)) (pos 0) ≡ cond inside (node_cost kind m) (pos 0)
+  as_dear : (kind : NodeKind) (inside : Bool) → NodeStands kind g inside direction → cond inside (node_cost kind (set m g z)) (pos 0) ≡ cond inside (node_cost kind m) (pos 0)
   as_dear (Choose least most) inside stands = refl
   as_dear (Buy good units) inside stands = by (cases_eq good g)
     where
@@ -70,7 +68,7 @@ module _ (m : Multipliers) (g : ℕ) (z : ℤ) (there : g < length m) (rises : B
       by (inl e) = outside inside (neg_ℤ (multiplier_of (set m g z) good *ℤ pos units)) (neg_ℤ (multiplier_of m good *ℤ pos units)) (stands e).0
       by (inr ne) = ap (λ v. cond inside (neg_ℤ (v *ℤ pos units)) (pos 0)) (get_or-set_other m g good z (pos 0) ne)
 
-  module _ (t : Tree) (w : Weights) (s : NodeSet) (stands : Stands t s g rises (length t)) where
+  module _ (t : Tree) (w : Weights) (s : NodeSet) (stands : Stands t s g direction (length t)) where
     abbrev costs : Multipliers → NodeSet → ℕ → ℤ
     costs rates r n = cond (has r n) (node_cost (kind_of t n) rates) (pos 0)
 

@@ -1,5 +1,5 @@
 -- The sum of the greatest nets where the multiplier of one good is one more, or one less.
-use Rattle.std.specs.Prelude.{ℕ, ◌*◌, ◌^◌, ◌<◌, ◌≤◌, ◌≡◌, Bool, true, false, List, length, slice_index_or, Option, ℤ, pos, neg_ℤ, ◌+ℤ◌, ◌-ℤ◌, ◌≤ℤ◌, slice_set}
+use Rattle.std.specs.Prelude.{ℕ, ◌*◌, ◌^◌, ◌<◌, ◌≤◌, ◌≡◌, List, length, slice_index_or, Option, ℤ, pos, neg_ℤ, ◌+ℤ◌, ◌-ℤ◌, ◌≤ℤ◌, slice_set}
 use Rattle.ice_defs.specs.Tree.{Tree}
 use Rattle.ice_defs.specs.Set.{Weights}
 use Rattle.ice_defs.specs.Fixing.{Fixing}
@@ -10,26 +10,29 @@ use Rattle.ice_defs.specs.Bound.{Multipliers, net, IsOpen}
 use Rattle.ice_bound.specs.Multipliers.{multiplier_of}
 use Rattle.ice_defs.specs.Conditions.{AreWeightsOf, AreFixingsOf}
 use Rattle.ice_bound.specs.Leaves.{AreLeaves}
+use Rattle.ice_bound.specs.declared.direction.Direction.{Direction}
+use Rattle.ice_bound.specs.declared.direction.Direction.TheVariants.{Up, Down}
 use Rattle.ice_bound.specs.declared.leaves.Leaves.{Leaves}
 use Rattle.ice_bound.specs.declared.net_table.NetTable.{NetTable}
 use Rattle.ice_bound.specs.Tables.{IsNetTable, AreTables}
 use Rattle.ice_bound.specs.Kept.{HaveRoom, AreFound}
 
 -- one more, or one less
-abbrev pub beside : (rises : Bool) → ℤ → ℤ
-beside true z = z +ℤ pos 1
-beside false z = z -ℤ pos 1
+abbrev pub beside : Direction → ℤ → ℤ
+beside Up z = z +ℤ pos 1
+beside Down z = z -ℤ pos 1
 
 -- what costs a sum of 64ths more is taken off, and what costs less is added
-abbrev pub less_cost : (rises : Bool) → (net units : ℤ) → ℤ
-less_cost true net units = net -ℤ units
-less_cost false net units = net +ℤ units
+abbrev pub less_cost : Direction → (net units : ℤ) → ℤ
+less_cost Up net units = net -ℤ units
+less_cost Down net units = net +ℤ units
 
 -- the multipliers where that of one good is one more, or one less
-abbrev pub with_beside : Multipliers → ℕ → (rises : Bool) → Multipliers
-with_beside m g rises = slice_set m g (beside rises (multiplier_of m g))
+abbrev pub with_beside : Multipliers → ℕ → Direction → Multipliers
+with_beside m g direction = slice_set m g (beside direction (multiplier_of m g))
 
--- trees, weights, marks and multipliers, with a net and a set of each bidder and the leaves of each tree; and the multipliers
+-- trees, weights, marks and multipliers, with a net and a set of each bidder and the leaves of each
+-- tree; and the multipliers
 -- where that of one good is moved
 pub record StandingBeside : Type 0 where
   pub trees : List Tree
@@ -41,9 +44,10 @@ pub record StandingBeside : Type 0 where
   pub sets : Assignment
   pub leaves : List Leaves
   pub good : ℕ
-  pub rises : Bool
+  pub direction : Direction
 
--- no bidder is dead, the nets and sets are found at the multipliers, and that of the good is moved by one
+-- no bidder is dead, the nets and sets are found at the multipliers, and that of the good is moved
+-- by one
 pub record IsFoundBeside (st : StandingBeside) : Type 0 where
   pub few : length st.trees ≤ 40
   pub weights : AreWeightsOf st.trees st.weights
@@ -54,7 +58,7 @@ pub record IsFoundBeside (st : StandingBeside) : Type 0 where
   pub leaved : AreLeaves st.trees st.leaves (length st.trees)
   pub good : st.good < length st.multipliers
   pub good_fits : st.good < 32
-  pub moved : st.moved ≡ with_beside st.multipliers st.good st.rises
+  pub moved : st.moved ≡ with_beside st.multipliers st.good st.direction
 
 -- the table of a bidder at the multipliers before they moved
 abbrev pub IsTableBeside : StandingBeside → ℕ → NetTable → Type 0
@@ -77,6 +81,7 @@ share_of shares b = slice_index_or shares b (pos 0)
 
 -- the greatest net of a bidder at the moved multipliers
 pub record IsGreatestShare (st : StandingBeside) (b : ℕ) (v : ℤ) : Type 0 where
-  pub greatest : IsGreatest (IsOpen (tree_of st.trees b) (fixing_of st.marks b)) (net (tree_of st.trees b) (weights_of st.weights b) st.moved) v
+  pub greatest : IsGreatest (IsOpen (tree_of st.trees b) (fixing_of st.marks b))
+      (net (tree_of st.trees b) (weights_of st.weights b) st.moved) v
   pub low : neg_ℤ (pos (200 * 2 ^ 90)) ≤ℤ v
   pub high : v ≤ℤ pos (200 * 2 ^ 90)

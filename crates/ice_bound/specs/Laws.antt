@@ -10,7 +10,8 @@ use Rattle.ice_defs.specs.Log.{HasWrongSign}
 -- a bound is above every feasible assignment that meets the side
 abbrev pub BoundIsSound : Type 0
 BoundIsSound = (ts : List Tree) (exact : List Bool) (ws : List Weights) (m : Multipliers) (side : Side) (v : ℤ) (a : Assignment)
-    → length m ≡ length exact → ¬ HasWrongSign exact m → IsBound ts ws m side v → IsFeasible ts exact a → MeetsAll a side → total_value a ws ≤ℤ v
+    → length m ≡ length exact → ¬ HasWrongSign exact m → IsBound ts ws m side v
+    → IsFeasible ts exact a → MeetsAll a side → total_value a ws ≤ℤ v
 
 -- no feasible assignment meets a side with a dead bidder
 abbrev pub DeadHasNone : Type 0

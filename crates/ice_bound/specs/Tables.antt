@@ -1,5 +1,5 @@
 -- The tables of trees at their net weights.
-use Rattle.std.specs.Prelude.{ℕ, ◌<◌, ◌≤◌, ◌≡◌, ◌≢◌, Bool, true, false, List, length, slice_index_or, slice_set, ℤ, ◌≤ℤ◌}
+use Rattle.std.specs.Prelude.{ℕ, ◌<◌, ◌≤◌, ◌≡◌, ◌≢◌, List, length, slice_index_or, slice_set, ℤ, ◌≤ℤ◌}
 use Rattle.ice_defs.specs.Tree.{Tree}
 use Rattle.ice_defs.specs.Set.{Weights}
 use Rattle.ice_defs.specs.Fixing.{Fixing}
@@ -8,6 +8,8 @@ use Rattle.ice_defs.specs.Bound.{Multipliers}
 use Rattle.ice_best.specs.Nets.{AreNetWeights}
 use Rattle.ice_best.specs.Entries.{IsTableOf}
 use Rattle.ice_bound.specs.Multipliers.{multiplier_of}
+use Rattle.ice_bound.specs.declared.direction.Direction.{Direction}
+use Rattle.ice_bound.specs.declared.direction.Direction.TheVariants.{Up, Down}
 use Rattle.ice_bound.specs.declared.net_table.NetTable.{NetTable}
 
 -- the net weights of the tree at the multipliers, and its table at them and the fixing
@@ -18,7 +20,8 @@ pub record IsNetTable (t : Tree) (w : Weights) (m : Multipliers) (x : Fixing) (t
 
 -- the first n tables are those of the bidders
 abbrev pub AreTables : List Tree → List Weights → Multipliers → List Fixing → List NetTable → ℕ → Type 0
-AreTables ts ws m xs tables n = (b : ℕ) (d : NetTable) → b < n → IsNetTable (tree_of ts b) (weights_of ws b) m (fixing_of xs b) (slice_index_or tables b d)
+AreTables ts ws m xs tables n = (b : ℕ) (d : NetTable) → b < n
+    → IsNetTable (tree_of ts b) (weights_of ws b) m (fixing_of xs b) (slice_index_or tables b d)
 
 -- the table of one bidder is made anew, and the others are as they were
 pub record IsTableRenewed (old new : List NetTable) (b : ℕ) (t : Tree) (w : Weights) (m : Multipliers) (x : Fixing) : Type 0 where
@@ -31,13 +34,13 @@ abbrev pub DifferOnlyIn : ℕ → Multipliers → Multipliers → Type 0
 DifferOnlyIn good before m = (g : ℕ) → g ≢ good → multiplier_of before g ≡ multiplier_of m g
 
 -- a number moves up, or down
-abbrev pub Moves : (rises : Bool) → ℤ → ℤ → Type 0
-Moves true before z = before ≤ℤ z
-Moves false before z = z ≤ℤ before
+abbrev pub Moves : Direction → ℤ → ℤ → Type 0
+Moves Up before z = before ≤ℤ z
+Moves Down before z = z ≤ℤ before
 
 -- the multiplier of one good alone moves, up or down
-pub record MovesGood (good : ℕ) (rises : Bool) (before m : Multipliers) : Type 0 where
+pub record MovesGood (good : ℕ) (direction : Direction) (before m : Multipliers) : Type 0 where
   pub there : good < length before
   pub number : ℤ
   pub is : m ≡ slice_set before good number
-  pub moves : Moves rises (multiplier_of before good) number
+  pub moves : Moves direction (multiplier_of before good) number

@@ -9,8 +9,10 @@ ghost use Rattle.ice_bound.specs.Beside.{less_cost, IsFoundBeside, IsTableBeside
 ghost use Rattle.ice_bound.specs.Kept.{IsNetOf, IsSmallNet};
 ghost use Rattle.ice_bound.specs.Leaves.{AreLeavesOf};
 
+use crate::direction::Direction;
 use crate::found::stands;
 use crate::leaves::Leaves;
+use crate::marked::MarkedTree;
 use crate::multipliers::Multipliers;
 use crate::net_table::NetTable;
 use ice_best::{Fixings, Scratch};
@@ -30,7 +32,7 @@ pub(crate) struct Beside<'a> {
     pub(crate) sets: &'a Assignment,
     pub(crate) leaves: &'a [Leaves],
     pub(crate) good: u8,
-    pub(crate) rises: bool,
+    pub(crate) direction: Direction,
 }
 
 impl<'a> Model for Beside<'a> {
@@ -48,7 +50,7 @@ impl<'a> Model for Beside<'a> {
       sets = b.sets.now;
       leaves = b.leaves.now;
       good = b.good;
-      rises = b.rises;
+      direction = b.direction;
     } };
 
     ghost invariant = { λ b. IsFoundBeside (record {
@@ -61,7 +63,7 @@ impl<'a> Model for Beside<'a> {
       sets = b.sets.now;
       leaves = b.leaves.now;
       good = b.good;
-      rises = b.rises;
+      direction = b.direction;
     }) };
 }
 
@@ -113,19 +115,18 @@ fn units_of_set(tree: &Tree, set: &NodeSet, leaves: &Leaves, good: u8) -> i64
 }
 
 /// A net after a unit of the good costs one 64th more, or less.
-fn after_cost(net: i128, units: i64, rises: bool) -> i128
+fn after_cost(net: i128, units: i64, direction: Direction) -> i128
     requires net_low { neg_ℤ (pos (200 * 2 ^ 90)) ≤ℤ net }
     requires net_high { net ≤ℤ pos (200 * 2 ^ 90) }
     requires units_low { neg_ℤ (pos 13107000) ≤ℤ units }
     requires units_high { units ≤ℤ pos 13107000 }
-    ensures value { result ≡ less_cost rises net units }
+    ensures value { result ≡ less_cost direction net units }
     ensures low { neg_ℤ (pos (201 * 2 ^ 90)) ≤ℤ result }
     ensures high { result ≤ℤ pos (201 * 2 ^ 90) }
 {
-    if rises {
-        net - i128::from(units)
-    } else {
-        net + i128::from(units)
+    match direction {
+        Direction::Up => net - i128::from(units),
+        Direction::Down => net + i128::from(units),
     }
 }
 
@@ -153,7 +154,7 @@ impl<'a> Beside<'a> {
             &self.leaves[place],
             self.good,
         );
-        after_cost(net, units, self.rises)
+        after_cost(net, units, self.direction)
     }
 
     /// The bidder's greatest net at the moved multipliers, None where it is dead. Its table moves
@@ -171,16 +172,18 @@ impl<'a> Beside<'a> {
         let tree = &self.trees[place];
         let set = self.sets.of(bidder);
         let leaves = &self.leaves[place];
-        if stands(tree, set, leaves, self.good, self.rises) {
+        if stands(tree, set, leaves, self.good, self.direction) {
             return self.nets[place];
         }
-        let weights = self.weights.of(bidder);
-        let fixing = self.marks.of(bidder);
-        table.renew_good(
-            tree, weights, self.moved, fixing, leaves, self.good, scratch,
-        );
+        let marked = MarkedTree {
+            tree,
+            weights: self.weights.of(bidder),
+            fixing: self.marks.of(bidder),
+            leaves,
+        };
+        table.renew_good(&marked, self.moved, self.good, scratch);
         let net = table.greatest();
-        table.renew_good(tree, weights, self.m, fixing, leaves, self.good, scratch);
+        table.renew_good(&marked, self.m, self.good, scratch);
         net
     }
 

@@ -91,8 +91,10 @@ pub fn bound(
     requires weights { AreWeightsOf trees.now weights.now }
     requires multipliers { AreMultipliersOf desk.old.room m.now }
     requires fixings { AreFixingsOf trees.now fixings.now }
+    // What the bound says.
     ensures answer { IsAnswer trees.now weights.now m.now fixings.now result }
     ensures above { IsAboveAll trees.now desk.old.room weights.now fixings.now result }
+    // The desk is seen as before.
     ensures marks { desk.new.marks ≡ desk.old.marks }
     ensures sides { desk.new.sides ≡ desk.old.sides }
     ensures exact { desk.new.room ≡ desk.old.room }
@@ -107,8 +109,10 @@ pub fn bound_here(trees: &[Tree], weights: &AllWeights, m: &Multipliers, desk: &
     requires weights { AreWeightsOf trees.now weights.now }
     requires multipliers { AreMultipliersOf desk.old.room m.now }
     requires fixings { AreFixingsOf trees.now desk.old.marks }
+    // What the bound says.
     ensures answer { IsAnswer trees.now weights.now m.now desk.old.marks result }
     ensures above { IsAboveAll trees.now desk.old.room weights.now desk.old.marks result }
+    // The desk is seen as before.
     ensures marks { desk.new.marks ≡ desk.old.marks }
     ensures sides { desk.new.sides ≡ desk.old.sides }
     ensures exact { desk.new.room ≡ desk.old.room }

@@ -17,8 +17,10 @@ use crate::answer::{Bound, NetSum};
 use crate::beside::Beside;
 use crate::bounds::floor_64th;
 use crate::copy::copy_fixings;
+use crate::direction::Direction;
 use crate::found::Found;
 use crate::leaves::{Leaves, all_leaves};
+use crate::marked::MarkedTrees;
 use crate::multipliers::Multipliers;
 use ice_best::{Fixings, Mark};
 use ice_tree::{AllWeights, Assignment, TotalUnits, Tree};
@@ -111,11 +113,14 @@ fn value_of(trees: &[Tree], sets: &Assignment, weights: &AllWeights) -> i128
 }
 
 /// One more, or one less.
-fn step_beside(number: i64, rises: bool) -> i64
+fn step_beside(number: i64, direction: Direction) -> i64
     requires { IsInRange number }
-    ensures { result ≡ beside rises number }
+    ensures { result ≡ beside direction number }
 {
-    if rises { number + 1 } else { number - 1 }
+    match direction {
+        Direction::Up => number + 1,
+        Direction::Down => number - 1,
+    }
 }
 
 impl<'a> Kept<'a> {
@@ -133,6 +138,7 @@ impl<'a> Kept<'a> {
         requires few { length trees.now ≤ 40 }
         requires goods { length exact.now ≤ 32 }
         requires weights { AreWeightsOf trees.now weights.now }
+        // What is kept.
         ensures trees { IfOk result (λ k. k.trees ≡ trees.now) }
         ensures weights { IfOk result (λ k. k.weights ≡ weights.now) }
         ensures marks { IfOk result (λ k. k.marks ≡ map (λ t. replicate (length t) Free)
@@ -154,6 +160,22 @@ impl<'a> Kept<'a> {
             m,
             found,
         })
+    }
+
+    /// The trees, one for each bidder, at most 40.
+    pub fn trees(&self) -> &'a [Tree]
+        ensures value { result.now ≡ self.now.trees }
+        ensures few { length self.now.trees ≤ 40 }
+    {
+        self.trees
+    }
+
+    /// The weights, one list for each bidder.
+    pub fn weights(&self) -> &'a AllWeights
+        ensures value { result.now ≡ self.now.weights }
+        ensures fit { AreWeightsOf self.now.trees self.now.weights }
+    {
+        self.weights
     }
 
     /// The number of bidders.
@@ -255,7 +277,7 @@ impl<'a> Kept<'a> {
     /// Gives a good another multiplier, from -2^56 to 2^56, and 0 or more where the good isn't
     /// exact. Time: in each tree that has a leaf of the good, one pass over the leaves of it and
     /// the nodes above them.
-    pub fn multiplier(&mut self, good: u8, number: i64)
+    pub fn put_multiplier(&mut self, good: u8, number: i64)
         requires good { good < length self.old.exact }
         requires number { IsMultiplier (is_exact self.old.exact good) number }
         ensures trees { self.new.trees ≡ self.old.trees }
@@ -264,32 +286,30 @@ impl<'a> Kept<'a> {
         ensures multipliers { self.new.multipliers ≡ slice_set self.old.multipliers good number }
         ensures exact { self.new.exact ≡ self.old.exact }
     {
-        self.found.renew_good(
-            self.trees,
-            self.weights,
-            &mut self.m,
-            &self.marks,
-            &self.leaves,
-            good,
-            number,
-        );
+        let marked = MarkedTrees {
+            trees: self.trees,
+            weights: self.weights,
+            marks: &self.marks,
+            leaves: &self.leaves,
+        };
+        self.found.renew_good(&marked, &mut self.m, good, number);
     }
 
     /// Whether the sum of the bidders' greatest nets would be at least this where the good's
-    /// multiplier was one more, or one less. No bidder is dead, and the multiplier stays in its
-    /// range. What is kept stays: the table of a tree with a leaf of the good is moved to that
-    /// multiplier and back, tree by tree until the answer is known.
-    pub fn reaches_beside(&mut self, good: u8, rises: bool, least: i128) -> bool
+    /// multiplier was one more (up), or one less (down). No bidder is dead, and the multiplier
+    /// stays in its range. What is kept stays: the table of a tree with a leaf of the good is moved
+    /// to that multiplier and back, tree by tree until the answer is known.
+    pub fn reaches_beside(&mut self, good: u8, direction: Direction, least: i128) -> bool
         requires good { good < length self.old.exact }
         requires live { IsLive self.old.trees self.old.marks }
-        requires range { IsInRange (beside rises (multiplier_of self.old.multipliers good)) }
+        requires range { IsInRange (beside direction (multiplier_of self.old.multipliers good)) }
         ensures answer { (total : ℤ) → IsNetSum self.old.trees self.old.weights (with_beside
-            self.old.multipliers good rises) self.old.marks total → IsTrue result
+            self.old.multipliers good direction) self.old.marks total → IsTrue result
             ↔ (least ≤ℤ total) }
         ensures same { self.new ≡ self.old }
     {
         let mut moved = self.m.copy();
-        let number = step_beside(self.m.get(good), rises);
+        let number = step_beside(self.m.get(good), direction);
         moved.put(good, number);
         let found = &mut self.found;
         let beside = Beside {
@@ -302,7 +322,7 @@ impl<'a> Kept<'a> {
             sets: &found.sets,
             leaves: &self.leaves,
             good,
-            rises,
+            direction,
         };
         beside.reaches(least, &mut found.tables, &mut *found.scratch)
     }

@@ -8,10 +8,9 @@ ghost use Rattle.ice_best.specs.Nets.{node_net};
 ghost use Rattle.ice_best.specs.Entries.{IsTableOf, DifferOnlyAtMark};
 ghost use Rattle.ice_defs.specs.Conditions.{AreModest};
 ghost use Rattle.ice_bound.specs.Kept.{IsFound, IsNetOf, IsSmallNet};
-ghost use Rattle.ice_bound.specs.Leaves.{AreLeavesOf};
 ghost use Rattle.ice_bound.specs.Tables.{IsNetTable, DifferOnlyIn};
 
-use crate::leaves::Leaves;
+use crate::marked::MarkedTree;
 use crate::multipliers::Multipliers;
 use crate::net::NetWeights;
 use ice_best::{Fixing, Scratch, Table};
@@ -68,6 +67,7 @@ impl NetTable {
         requires fixing { length fixing.now ≡ length tree.now }
         requires modest { AreModest weights.now }
         requires entries { IsTableOf tree.now self.old.nets.weights fixing.now self.old.table }
+        // The net of the node, and the table at all nets.
         ensures net { self.new.nets.weights
             ≡ slice_set self.old.nets.weights node (node_net tree.now
             weights.now 64 m.now 1 node) }
@@ -83,29 +83,25 @@ impl NetTable {
     /// Brings it to multipliers that differ in those that it was made at in this good alone.
     pub(crate) fn renew_good(
         &mut self,
-        tree: &Tree,
-        weights: &Weights,
+        marked: &MarkedTree,
         m: &Multipliers,
-        fixing: &Fixing,
-        leaves: &Leaves,
         good: u8,
         scratch: &mut Scratch,
     )
-        requires nodes { length weights.now ≡ length tree.now }
-        requires fixing { length fixing.now ≡ length tree.now }
-        requires modest { AreModest weights.now }
-        requires leaves { AreLeavesOf tree.now leaves.now }
         requires good { good < 32 }
         requires before { (before : Numbers)
-            × IsNetTable tree.now weights.now before fixing.now self.old
+            × IsNetTable marked.now.tree.now marked.now.weights.now before marked.now.fixing.now
+            self.old
             × DifferOnlyIn good before m.now }
-        ensures { IsNetTable tree.now weights.now m.now fixing.now self.new }
+        ensures { IsNetTable marked.now.tree.now marked.now.weights.now m.now
+            marked.now.fixing.now self.new }
     {
+        let tree = marked.tree;
         let nodes = tree.nodes();
-        let mut leaf = leaves.first(good);
+        let mut leaf = marked.leaves.first(good);
         while leaf < nodes {
-            self.put(tree, weights, m, fixing, leaf, scratch);
-            leaf = leaves.next(leaf);
+            self.put(tree, marked.weights, m, marked.fixing, leaf, scratch);
+            leaf = marked.leaves.next(leaf);
         }
     }
 

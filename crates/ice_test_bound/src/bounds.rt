@@ -249,7 +249,7 @@ fn kept_bounds(rt: HostRuntime) -> Result<(), Fail> {
     assert_eq!(rt; kept.net_sum(), NetSum::Sum(1280));
     assert_eq!(rt; kept.bound(), Bound::AtMost(20));
     assert_eq!(rt; kept.units().get(0), 1);
-    kept.multiplier(0, 700);
+    kept.put_multiplier(0, 700);
     assert_eq!(rt; kept.multipliers().get(0), 700);
     assert_eq!(rt; kept.net_sum(), NetSum::Sum(640));
     assert_eq!(rt; kept.units().get(0), 0);

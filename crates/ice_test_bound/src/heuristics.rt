@@ -90,7 +90,7 @@ fn the_greatest_multiplier(rt: HostRuntime) -> Result<(), Fail> {
     let bounds = [asked, offered];
     let weights = lower(alloc, &trees, &bounds)?;
     let mut kept = Kept::new(alloc, &trees, &weights, &[true])?;
-    kept.multiplier(0, 1 << 56);
+    kept.put_multiplier(0, 1 << 56);
     assert!(rt; is_live(&kept));
     let mut incumbent = nothing(alloc, &trees)?;
     let mut relaxation = Relaxation::new(alloc, &trees)?;

@@ -59,7 +59,7 @@ fn put(kept: &mut Kept, good: u16, number: u16)
     ensures exact { kept.new.exact ≡ kept.old.exact }
 {
     if good < u16::from(kept.multipliers().len()) {
-        kept.multiplier(good as u8, i64::from(number));
+        kept.put_multiplier(good as u8, i64::from(number));
     }
 }
 

@@ -6,7 +6,7 @@ use Rattle.ice_bound.proofs.found.stands.Given as goal
 
 abbrev pub invariant-loop-leaf : goal.invariant-loop-leaf
 invariant-loop-leaf l = record {
-  stands : Stands l.tree l.set l.good l.rises l.leaf;
+  stands : Stands l.tree l.set l.good l.direction l.leaf;
   inside : l.leaf ≤ length l.tree;
   is_leaf : l.leaf < length l.tree → is_leaf_of (kind_of l.tree l.leaf) l.good ≡ true;
 }

@@ -35,10 +35,10 @@ returns c =
     let tree = get_or_default ts b c.index-self-place.result [] there in
     let same_units : c.units_of_set-units.result ≡ units (tree_of ts b) (set_of sets b) g =
     c.units_of_set-units.ensures.value ∙ ap (λ t. units t c.of.result.now g) tree ∙ ap (λ s. units (tree_of ts b) s g) c.of.ensures in
-    let value : c.after_cost.result ≡ less_cost c.self.inside.rises c.in-Some.net c.units_of_set-units.result =
+    let value : c.after_cost.result ≡ less_cost c.self.inside.direction c.in-Some.net c.units_of_set-units.result =
     rw (to_z-of_z w128 c.in-Some.net net_fits, to_z-of_z w64 c.units_of_set-units.result units_fit) at c.after_cost.ensures.value in
     let low = c.after_cost.ensures.low in
     let high = c.after_cost.ensures.high in
     let fits : SFits w128 c.after_cost.result = total_fits _ (omega (arith, ints, low)) (omega (arith, ints, high)) in
     rw (to_z-of_z w128 c.after_cost.result fits) (subst (λ st. IsShare st b c.after_cost.result) c.self.view_is
-    (share_is _ b c.self.invariant there c.in-Some.net c.after_cost.result c.in-Some.is (value ∙ ap (λ u. less_cost c.self.inside.rises c.in-Some.net u) same_units) low high))
+    (share_is _ b c.self.invariant there c.in-Some.net c.after_cost.result c.in-Some.is (value ∙ ap (λ u. less_cost c.self.inside.direction c.in-Some.net u) same_units) low high))

@@ -12,7 +12,7 @@ pub invariant_of-beside : goal.invariant_of-beside
 invariant_of-beside c =
     let i = c.self.invariant in
     let there : c.args.good < length c.self.inside.found.exact = subst (λ st. c.args.good < length st.exact) (sym c.self.view_is) c.requires.good in
-    let moved : c.put.new.self ≡ with_beside c.self.inside.m c.args.good c.args.rises = search rules in
+    let moved : c.put.new.self ≡ with_beside c.self.inside.m c.args.good c.args.direction = search rules in
     rw (c.deref.ensures.value, c.deref-2.ensures.value) (record {
       few = i.few;
       weights = i.weights;
@@ -29,7 +29,7 @@ invariant_of-beside c =
 pub returns-clause-answer : goal.returns-clause-answer
 returns-clause-answer c =
     let fits : SFits w128 c.args.least = search rules in
-    let moved : c.put.new.self ≡ with_beside c.self.inside.m c.args.good c.args.rises = search rules in
+    let moved : c.put.new.self ≡ with_beside c.self.inside.m c.args.good c.args.direction = search rules in
     let answer = rw (to_z-of_z w128 c.args.least fits, moved) at c.reaches.ensures.answer in
-    subst (λ st. (total : ℤ) → IsNetSum st.trees st.weights (with_beside st.multipliers c.args.good c.args.rises) st.marks total → IsTrue c.reaches.result ↔ (c.args.least ≤ℤ total))
+    subst (λ st. (total : ℤ) → IsNetSum st.trees st.weights (with_beside st.multipliers c.args.good c.args.direction) st.marks total → IsTrue c.reaches.result ↔ (c.args.least ≤ℤ total))
     c.self.view_is answer

@@ -8,11 +8,11 @@ use Rattle.ice_bound.proofs.net_table.NetTable.renew_good.Given as goal
 
 abbrev pub invariant-loop-leaf : goal.invariant-loop-leaf
 invariant-loop-leaf l = record {
-  moving : (before : Multipliers) → IsNetTable l.tree l.weights before l.fixing l.initial.self → DifferOnlyIn l.good before l.m
-      → IsMoving l.tree l.weights before l.m l.fixing l.self l.leaf;
-  inside : l.leaf ≤ length l.tree;
-  is_leaf : l.leaf < length l.tree → is_leaf_of (kind_of l.tree l.leaf) l.good ≡ true;
+  moving : (before : Multipliers) → IsNetTable l.marked.tree.now l.marked.weights.now before l.marked.fixing.now l.initial.self → DifferOnlyIn l.good before l.m
+      → IsMoving l.marked.tree.now l.marked.weights.now before l.m l.marked.fixing.now l.self l.leaf;
+  inside : l.leaf ≤ length l.marked.tree.now;
+  is_leaf : l.leaf < length l.marked.tree.now → is_leaf_of (kind_of l.marked.tree.now l.leaf) l.good ≡ true;
 }
 
 abbrev pub decreases-loop-leaf : goal.decreases-loop-leaf
-decreases-loop-leaf l = length l.tree - l.leaf
+decreases-loop-leaf l = length l.marked.tree.now - l.leaf
