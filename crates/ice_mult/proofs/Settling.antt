@@ -11,9 +11,10 @@ use Rattle.ice_defs.specs.Sweep.{IsLive, IsLowest}
 use Rattle.ice_defs.specs.Log.{IsMultiplier}
 use Rattle.ice_bound.specs.Kept.{Standing}
 use Rattle.ice_bound.specs.Multipliers.{multiplier_of}
-use Rattle.ice_mult.specs.declared.direction.Direction.{Direction}
-use Rattle.ice_mult.specs.declared.direction.Direction.TheVariants.{Up, Down}
-use Rattle.ice_mult.specs.Foot.{toward, IsAllowed, IsWay, Falls, Rests}
+use Rattle.ice_bound.specs.declared.direction.Direction.{Direction}
+use Rattle.ice_bound.specs.declared.direction.Direction.TheVariants.{Up, Down}
+use Rattle.ice_bound.specs.Direction.{toward}
+use Rattle.ice_mult.specs.Foot.{IsAllowed, IsWay, Falls, Rests}
 use Rattle.ice_mult.specs.Moved.{AreAlike, IsMoved, MayMove, IsSumWith, IsSettled}
 
 -- the same sum of the same things

@@ -1,7 +1,5 @@
 -- What is kept, where one good takes another multiplier.
-use Rattle.std.specs.Prelude.{ℕ, ◌<◌, ◌≡◌, Bool, List, length, slice_set, ℤ}
-use Rattle.ice_defs.specs.Tree.{Tree}
-use Rattle.ice_defs.specs.Set.{Weights}
+use Rattle.std.specs.Prelude.{ℕ, ◌<◌, ◌≡◌, length, slice_set, ℤ}
 use Rattle.ice_defs.specs.Bound.{IsNetSum}
 use Rattle.ice_defs.specs.Sweep.{IsLive, IsLowest}
 use Rattle.ice_bound.specs.Kept.{Standing}
@@ -31,10 +29,5 @@ IsSumWith st g z total = IsNetSum st.trees st.weights (slice_set st.multipliers 
 
 -- the good has its lowest multiplier, and the others stay
 abbrev pub IsSettled : Standing → ℕ → Standing → Type 0
-IsSettled old g new = (z : ℤ) × (total : ℤ) × IsLowest old.trees old.exact old.weights old.marks old.multipliers g z total × IsMoved old g z new
-
--- bounds that are kept of these trees at these weights and goods
-pub record IsKeptOf (st : Standing) (ts : List Tree) (ws : List Weights) (goods : List Bool) : Type 0 where
-  pub trees : st.trees ≡ ts
-  pub weights : st.weights ≡ ws
-  pub exact : st.exact ≡ goods
+IsSettled old g new = (z : ℤ) × (total : ℤ)
+    × IsLowest old.trees old.exact old.weights old.marks old.multipliers g z total × IsMoved old g z new

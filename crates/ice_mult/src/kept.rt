@@ -4,15 +4,14 @@ ghost use Rattle.std.specs.Prelude.{◌≡◌, ◌<◌, ◌≤◌, ◌^◌, ℤ,
 ghost use Rattle.ice_defs.specs.Bound.{IsNetSum};
 ghost use Rattle.ice_defs.specs.Sweep.{IsLive, SweepsBelow, Sweeps};
 ghost use Rattle.ice_defs.specs.Trade.{is_exact};
-ghost use Rattle.ice_defs.specs.Conditions.{AreWeightsOf};
 ghost use Rattle.ice_bound.specs.Multipliers.{multiplier_of};
-ghost use Rattle.ice_mult.specs.Foot.{IsAllowed, Falls, Rests, IsFoot, toward};
-ghost use Rattle.ice_mult.specs.Moved.{AreAlike, IsMoved, MayMove, IsSumWith, IsSettled, IsKeptOf};
+ghost use Rattle.ice_bound.specs.Direction.{toward};
+ghost use Rattle.ice_mult.specs.Foot.{IsAllowed, Falls, Rests, IsFoot};
+ghost use Rattle.ice_mult.specs.Moved.{AreAlike, IsMoved, MayMove, IsSumWith, IsSettled};
 
-use crate::direction::Direction;
-use crate::lowest::{GREATEST, lowest};
-use ice_bound::{Desk, Kept, Multipliers, NetSum, Room};
-use ice_tree::{AllWeights, Tree};
+use crate::lowest::GREATEST;
+use crate::moving::MovingGood;
+use ice_bound::{Desk, Direction, Kept, Multipliers, NetSum, Room};
 
 /// The sum of the greatest nets. Each bidder has a set.
 fn total(kept: &Kept) -> i128
@@ -44,7 +43,7 @@ fn falls(kept: &mut Kept, good: u8, direction: Direction, steps: u64) -> bool
         return true;
     }
     match one_more(total(kept)) {
-        Some(more) => kept.reaches_beside(good, !direction.is_up(), more),
+        Some(more) => kept.reaches_beside(good, direction.opposite(), more),
         None => false,
     }
 }
@@ -58,7 +57,7 @@ fn rests(kept: &mut Kept, good: u8, direction: Direction, steps: u64) -> bool
     ensures same { kept.new ≡ kept.old }
 {
     let here = total(kept);
-    kept.reaches_beside(good, direction.is_up(), here)
+    kept.reaches_beside(good, direction, here)
 }
 
 /// Moves the good to so many steps from 0, and tells whether the sum is known to stop falling
@@ -70,7 +69,7 @@ fn has_foot(kept: &mut Kept, good: u8, direction: Direction, steps: u64) -> bool
     ensures foot { IsTrue result → IsFoot (IsSumWith kept.old good) direction steps }
     ensures moved { IsMoved kept.old good (toward direction steps) kept.new }
 {
-    kept.multiplier(good, direction.at(steps));
+    kept.put_multiplier(good, direction.at(steps));
     rests(kept, good, direction, steps) && falls(kept, good, direction, steps)
 }
 
@@ -99,42 +98,31 @@ fn is_settled(kept: &mut Kept, good: u8, guess: i64) -> bool
 }
 
 /// Gives the good its lowest multiplier. A good guess of it saves time.
-fn settle(
-    trees: &[Tree],
-    weights: &AllWeights,
-    kept: &mut Kept,
-    good: u8,
-    guess: i64,
-    room: &mut Room,
-)
-    requires few { length trees.now ≤ 40 }
-    requires weights { AreWeightsOf trees.now weights.now }
+fn settle(kept: &mut Kept, good: u8, guess: i64, room: &mut Room)
     requires may { MayMove kept.old good }
-    requires kept { IsKeptOf kept.old trees.now weights.now room.old }
+    requires exact { kept.old.exact ≡ room.old }
     ensures settled { IsSettled kept.old good kept.new }
     ensures room { room.new ≡ room.old }
 {
     if is_settled(kept, good, guess) {
         return;
     }
-    let m = kept.multipliers();
-    let number = lowest(trees, weights, kept.marks(), m, good, guess, room);
-    kept.multiplier(good, number);
+    let moving = MovingGood {
+        trees: kept.trees(),
+        weights: kept.weights(),
+        fixings: kept.marks(),
+        m: kept.multipliers(),
+        good,
+    };
+    let number = moving.lowest(guess, room);
+    kept.put_multiplier(good, number);
 }
 
 /// Gives each good in order its lowest multiplier. A good guess of the outcome saves time.
-fn sweep_kept(
-    trees: &[Tree],
-    weights: &AllWeights,
-    kept: &mut Kept,
-    guess: &Multipliers,
-    room: &mut Room,
-)
-    requires few { length trees.now ≤ 40 }
-    requires weights { AreWeightsOf trees.now weights.now }
+fn sweep_kept(kept: &mut Kept, guess: &Multipliers, room: &mut Room)
     requires live { IsLive kept.old.trees kept.old.marks }
     requires goods { length kept.old.multipliers ≡ length kept.old.exact }
-    requires kept { IsKeptOf kept.old trees.now weights.now room.old }
+    requires exact { kept.old.exact ≡ room.old }
     requires guess { length guess.now ≡ length kept.old.exact }
     ensures sweeps { SweepsBelow kept.old.trees kept.old.exact kept.old.weights kept.old.marks
         (length kept.old.exact) kept.old.multipliers kept.new.multipliers }
@@ -142,26 +130,18 @@ fn sweep_kept(
     ensures room { room.new ≡ room.old }
 {
     for good in 0..room.goods() {
-        settle(trees, weights, kept, good, guess.get(good), room);
+        settle(kept, good, guess.get(good), room);
     }
 }
 
-/// Moves the multipliers of kept bounds to what one sweep makes of them: see `improve`. The bounds
-/// are kept of these trees at these weights. The guess of the outcome changes the time alone.
+/// Moves the multipliers of kept bounds to what one sweep makes of them: see `improve`. The guess of
+/// the outcome changes the time alone. The desk is one of the same goods.
 ///
 /// Time: each good's multiplier that changes moves the tables of all trees with a leaf of the good.
 /// Beside that, two looks at those trees where the guess of a good is right, or fewer; where it is
 /// wrong, a look for each halving of what is left of the good's range.
-pub fn improve_kept(
-    trees: &[Tree],
-    weights: &AllWeights,
-    kept: &mut Kept,
-    guess: &Multipliers,
-    desk: &mut Desk,
-)
-    requires few { length trees.now ≤ 40 }
-    requires weights { AreWeightsOf trees.now weights.now }
-    requires kept { IsKeptOf kept.old trees.now weights.now desk.old.room }
+pub fn improve_kept(kept: &mut Kept, guess: &Multipliers, desk: &mut Desk)
+    requires exact { kept.old.exact ≡ desk.old.room }
     requires guess { length guess.now ≡ length kept.old.exact }
     ensures sweeps { Sweeps kept.old.trees kept.old.exact kept.old.weights kept.old.marks
         kept.old.multipliers kept.new.multipliers }
@@ -173,7 +153,7 @@ pub fn improve_kept(
     // There is one for each good.
     let _multipliers = kept.multipliers();
     match kept.net_sum() {
-        NetSum::Sum(_) => sweep_kept(trees, weights, kept, guess, &mut desk.room),
+        NetSum::Sum(_) => sweep_kept(kept, guess, &mut desk.room),
         NetSum::Dead(_) => {}
     }
 }

@@ -50,13 +50,7 @@ impl<'a> Workspace<'a> {
         let near = forecast(&mut self.relaxation, &self.kept, guess);
         self.kept
             .put_multipliers(&Multipliers::zero(self.problem.goods()));
-        improve_kept(
-            self.problem.trees(),
-            self.problem.weights(),
-            &mut self.kept,
-            &near,
-            &mut self.desk,
-        );
+        improve_kept(&mut self.kept, &near, &mut self.desk);
         incumbent.offer(&self.kept);
         kept_bound(&self.kept)
     }

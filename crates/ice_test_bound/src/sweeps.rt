@@ -159,7 +159,7 @@ fn swept(alloc: Global, asked: i64, offered: i64, guess: u16) -> Result<i64, Fai
     let weights = lower(alloc, &trees, &bounds)?;
     let mut desk = desk(alloc, &trees, &[false])?;
     let mut kept = Kept::new(alloc, &trees, &weights, &[false])?;
-    improve_kept(&trees, &weights, &mut kept, &at(guess), &mut desk);
+    improve_kept(&mut kept, &at(guess), &mut desk);
     Ok(kept.multipliers().get(0))
 }
 

@@ -1,11 +1,12 @@
-use Rattle.std.proofs.Common.{rules, arith, ◌+◌, ◌-◌, ◌≡◌, not, set, ap, sym, ◌∙◌, subst}
+use Rattle.std.proofs.Common.{rules, arith, ◌+◌, ◌-◌, ◌≡◌, set, ap, sym, ◌∙◌, subst}
 use Rattle.std.proofs.lemmas.Int.{ints, to_z-of_z}
 use mir.Syntax.{w128}
 use mir.Val.{SFits}
 use Rattle.ice_defs.specs.Bound.{IsNetSum}
 use Rattle.ice_bound.specs.Beside.{beside}
 use Rattle.ice_bound.specs.Multipliers.{multiplier_of}
-use Rattle.ice_mult.specs.Foot.{toward, is_up, Falls}
+use Rattle.ice_bound.specs.Direction.{toward, opposite}
+use Rattle.ice_mult.specs.Foot.{Falls}
 use Rattle.ice_mult.specs.Moved.{IsSumWith}
 use Rattle.ice_mult.proofs.Existing.{has_sum}
 use Rattle.ice_mult.proofs.Feet.{one_falls, one_back}
@@ -26,8 +27,8 @@ returns-in-Some-clause-falls c = λ yes.
     (subst (λ n. IsNetSum kept.trees kept.weights n kept.marks here) (sym (unmoved kept g (toward d c.args.steps) c.requires.there)) c.total.ensures) in
     let (before, is_before) = has_sum kept.trees kept.weights (set m g (toward d j)) kept.marks c.requires.may.live in
     let at : multiplier_of m g ≡ toward d (j + 1) = c.requires.there ∙ ap (toward d) (sym back) in
-    let down : beside (not c.is_up.result) (multiplier_of m g) ≡ toward d j =
-    ap (λ b. beside (not b) (multiplier_of m g)) c.is_up.ensures ∙ ap (beside (not (is_up d))) at ∙ one_back d j in
+    let down : beside c.opposite.result (multiplier_of m g) ≡ toward d j =
+    ap (λ e. beside e (multiplier_of m g)) c.opposite.ensures ∙ ap (beside (opposite d)) at ∙ one_back d j in
     let more_fits : SFits w128 c.in-Some.more = search rules in
     let here_fits : SFits w128 here = search rules in
     let more = rw (to_z-of_z w128 here here_fits) at c.in-Some.ensures in

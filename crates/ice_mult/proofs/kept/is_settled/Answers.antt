@@ -1,7 +1,8 @@
 use Rattle.std.proofs.Common.{arith, ◌<◌, sym, ◌∙◌, refl, subst, length}
 use Rattle.ice_defs.specs.Trade.{is_exact}
 use Rattle.ice_bound.specs.Multipliers.{multiplier_of}
-use Rattle.ice_mult.specs.Foot.{IsAllowed, toward}
+use Rattle.ice_bound.specs.Direction.{toward}
+use Rattle.ice_mult.specs.Foot.{IsAllowed}
 use Rattle.ice_mult.specs.Moved.{IsSumWith}
 use Rattle.ice_mult.proofs.Found.{foot_is_lowest}
 use Rattle.ice_mult.proofs.Settling.{plain_way, stays_moved}
