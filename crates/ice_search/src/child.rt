@@ -47,9 +47,6 @@ impl<'a> Workspace<'a> {
     {
         most_promising(
             candidates,
-            self.problem.trees(),
-            self.problem.weights(),
-            self.kept.marks(),
             &mut self.relaxation,
             &self.kept,
             value,
@@ -174,8 +171,10 @@ impl<'a> Workspace<'a> {
             (with_mark self.old.side candidate.bidder candidate.node mark) }
         requires from { AreMultipliersOf self.old.instance.exact from.now }
         requires sets { length incumbent.old.sets ≡ length self.old.instance.trees }
+        // What is looked at stays.
         ensures instance { self.new.instance ≡ self.old.instance }
         ensures side { self.new.side ≡ self.old.side }
+        // What was found at the child.
         ensures polished { IsPolishedAt self.old.instance
             (with_mark self.old.side candidate.bidder candidate.node mark)
             incumbent.old incumbent.new result.bounded }

@@ -166,22 +166,16 @@ fn try_candidate(
 
 /// The candidate that promises most where both of its children are looked at in so many steps: of
 /// several the first. None where there is no candidate. Where several were tried, its trial is
-/// kept. Takes no memory.
+/// kept. The side is the one that bounds are kept of. Takes no memory.
 pub fn most_promising(
     candidates: &Candidates,
-    trees: &[Tree],
-    weights: &AllWeights,
-    marks: &Fixings,
     relaxation: &mut Relaxation,
     kept: &Kept<'_>,
     value: i128,
     steps: u16,
     kept_trial: &mut Trial,
 ) -> Option<Candidate>
-    requires few { length trees.now ≤ 40 }
-    requires weights { AreWeightsOf trees.now weights.now }
-    requires marks { AreFixingsOf trees.now marks.now }
-    requires same { relaxation.old ≡ length trees.now }
+    requires { relaxation.old ≡ length kept.now.trees }
     ensures { relaxation.new ≡ relaxation.old }
 {
     kept_trial.forget();
@@ -192,6 +186,9 @@ pub fn most_promising(
         NetSum::Sum(total) => total,
         NetSum::Dead(_) => 0,
     };
+    let trees = kept.trees();
+    let weights = kept.weights();
+    let marks = kept.marks();
     let stand = Stand {
         goods: goods_of(kept),
         m: numbers_of(kept.multipliers()),
