@@ -1,5 +1,5 @@
 -- A turn of the search: a part is swept, closed or split.
-use Rattle.std.proofs.Common.{ℕ, suc, ◌+◌, ◌<◌, ◌≡◌, Bool, true, false, List, [], ◌∷◌, ◌++◌, length, set, ℤ, pos, neg_ℤ, ◌≤ℤ◌, ◌<ℤ◌, refl, arith, ap, sym, ◌∙◌, subst, ◌⊎◌, inl, inr}
+use Rattle.std.proofs.Common.{ℕ, suc, ◌+◌, ◌<◌, ◌≡◌, true, false, List, [], ◌∷◌, ◌++◌, length, set, ℤ, pos, neg_ℤ, ◌≤ℤ◌, ◌<ℤ◌, refl, arith, ap, sym, ◌∙◌, subst, ◌⊎◌, inl, inr}
 use Rattle.std.specs.Prelude.{slice_index}
 use Rattle.std.specs.List.{Contains}
 use Rattle.std.proofs.lemmas.Int.{ints, by_lt_z}
@@ -23,6 +23,8 @@ use Rattle.ice_search_log.proofs.Swept.{swept_is_part}
 use Rattle.ice_subgradient.specs.declared.incumbent.Incumbent.{Incumbent}
 use Rattle.ice_search.specs.Instance.{Instance, IsSearchOf, IsIncumbentOf, IsBoundAt, IsSweepAt}
 use Rattle.ice_search.specs.Nodes.{IsSplitNode}
+use Rattle.ice_search.specs.declared.frontier.Fate.{Fate}
+use Rattle.ice_search.specs.declared.frontier.Fate.TheVariants.{Open, Closed}
 use Rattle.ice_search.specs.Open.{AreOpened}
 use Rattle.ice_search.specs.State.{State, IsState, LooksAt, unswept_count, number_unswept, with_bound, child_part}
 use Rattle.ice_search.specs.Workspace.{IsOfferedAt}
@@ -172,10 +174,10 @@ module _ (s : State) (is : IsState s) where
         sum_by-set (λ (r : Part). number_unswept r.swept) s.parts k (split_at p b n (length s.parts)) no_part looks.there,
       )
 
-      pub split : (one two : Incumbent) (place : ℕ) (left : List ℕ) (a₁ a₂ : Bool) (side2 : Side) → IsNext s.parts s.value k → IsSplitNode x.trees s.side b n
+      pub split : (one two : Incumbent) (place : ℕ) (left : List ℕ) (a₁ a₂ : Fate) (side2 : Side) → IsNext s.parts s.value k → IsSplitNode x.trees s.side b n
           → IsOfferedAt x (with_mark s.side b n Must) held one → IsOfferedAt x (with_mark s.side b n Never) one two
           → AreMultipliersOf x.exact m₁ → IsBoundAt x m₁ (with_mark s.side b n Must) v₁ → AreMultipliersOf x.exact m₂ → IsBoundAt x m₂ (with_mark s.side b n Never) v₂
-          → k ≡ slice_index s.open_parts place → AreOpened s.open_parts left place (length s.parts) a₁ a₂ → (a₁ ≡ false → v₁ ≤ℤ two.value) → (a₂ ≡ false → v₂ ≤ℤ two.value)
+          → k ≡ slice_index s.open_parts place → AreOpened s.open_parts left place (length s.parts) a₁ a₂ → (a₁ ≡ Closed → v₁ ≤ℤ two.value) → (a₂ ≡ Closed → v₂ ≤ℤ two.value)
           → IsState (record { instance = x; side = side2; parts = parts2; sets = two.sets; value = two.value; open_parts = left })
       split one two place left a₁ a₂ side2 next node offered₁ offered₂ are₁ bound₁ are₂ bound₂ number opened low₁ low₂ =
           let first = raised_from x (with_mark s.side b n Must) held one is.incumbent (λ a meets. to_start a (meets_less a s.side b n Must node.free.2 meets)) offered₁ in
@@ -196,9 +198,9 @@ module _ (s : State) (is : IsState s) where
             numbered = λ j listed. inside j (opened.within j listed);
           }
         where
-          either : (a : Bool) (v : ℤ) (j : ℕ) → (a ≡ false → v ≤ℤ two.value) → (a ≡ true → Contains left j) → (v ≤ℤ two.value) ⊎ Contains left j
-          either true v j low there = inr (there refl)
-          either false v j low there = inl (low refl)
+          either : (a : Fate) (v : ℤ) (j : ℕ) → (a ≡ Closed → v ≤ℤ two.value) → (a ≡ Open → Contains left j) → (v ≤ℤ two.value) ⊎ Contains left j
+          either Open v j low there = inr (there refl)
+          either Closed v j low there = inl (low refl)
 
           inside : (j : ℕ) → Contains s.open_parts j ⊎ (j < suc (suc (length s.parts))) → j < length parts2
           inside j (inl there) = omega (arith, size, is.numbered j there)

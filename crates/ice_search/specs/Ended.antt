@@ -9,4 +9,5 @@ use Rattle.ice_search.specs.declared.run.Ended.TheVariants.{Whole, Spent}
 -- nothing above the value is left, or no branch where the next part would be split
 abbrev pub HasEnded : State → ℕ → Ended → Type 0
 HasEnded s left Whole = IsAboveWhole s.parts s.value
-HasEnded s left (Spent number node) = (left ≡ 0) × LooksAt s number × IsNext s.parts s.value number × IsSplitNode s.instance.trees s.side node.bidder node.node
+HasEnded s left (Spent number node) =
+    (left ≡ 0) × LooksAt s number × IsNext s.parts s.value number × IsSplitNode s.instance.trees s.side node.bidder node.node

@@ -1,14 +1,17 @@
 -- The open parts.
-use Rattle.std.specs.Prelude.{ℕ, suc, ◌<◌, ◌≡◌, ◌⊎◌, Bool, true, List, length, slice_index, ℤ, ◌≤ℤ◌, ◌<ℤ◌, Option, None, Some}
+use Rattle.std.specs.Prelude.{ℕ, suc, ◌<◌, ◌≡◌, ◌⊎◌, List, length, slice_index, ℤ, ◌≤ℤ◌, ◌<ℤ◌, Option, None, Some}
 use Rattle.std.specs.List.{Contains}
 use Rattle.ice_search_log.specs.Parts.{Part, part_at}
 use Rattle.ice_search_log.specs.Searching.{IsAboveOpen}
+use Rattle.ice_search.specs.declared.frontier.Fate.{Fate}
+use Rattle.ice_search.specs.declared.frontier.Fate.TheVariants.{Open}
 
 -- each number is that of a part
 abbrev pub AreParts : List Part → List ℕ → Type 0
 AreParts parts numbers = (j : ℕ) → Contains numbers j → j < length parts
 
--- the open part at this place isn't split and has the greatest bound of all open ones, which is above the value
+-- the open part at this place isn't split and has the greatest bound of all open ones, which is
+-- above the value
 pub record IsGreatestOpen (parts : List Part) (numbers : List ℕ) (value : ℤ) (place : ℕ) : Type 0 where
   pub there : place < length numbers
   pub whole : (part_at parts (slice_index numbers place)).split ≡ None
@@ -31,9 +34,9 @@ abbrev pub IsAboveFirst : List Part → List ℕ → ℕ → ℤ → Type 0
 IsAboveFirst parts numbers n bound =
     (i : ℕ) → i < n → (part_at parts (slice_index numbers i)).split ≡ None → (part_at parts (slice_index numbers i)).key ≤ℤ bound
 
--- the part at a place is taken out, and its children are opened for which that is asked
-pub record AreOpened (old new : List ℕ) (place first : ℕ) (opens_first opens_second : Bool) : Type 0 where
+-- the part at a place is taken out, and its children that are open are put there
+pub record AreOpened (old new : List ℕ) (place first : ℕ) (must_fate never_fate : Fate) : Type 0 where
   pub others : (j : ℕ) → Contains old j → (j ≡ slice_index old place → ⊥) → Contains new j
-  pub must : opens_first ≡ true → Contains new first
-  pub never : opens_second ≡ true → Contains new (suc first)
+  pub must : must_fate ≡ Open → Contains new first
+  pub never : never_fate ≡ Open → Contains new (suc first)
   pub within : (j : ℕ) → Contains new j → Contains old j ⊎ (j < suc (suc first))

@@ -13,7 +13,8 @@ use Rattle.ice_search.specs.Workspace.{Looking}
 use Rattle.ice_search.specs.Instance.{Instance, IsInstance, IsSearchOf, IsIncumbentOf}
 use Rattle.ice_search.specs.Open.{AreParts}
 
--- what is asked, the side that is looked at, the parts, the best assignment so far with its value, and the open parts
+-- what is asked, the side that is looked at, the parts, the best assignment so far with its value,
+-- and the open parts
 pub record State : Type 0 where
   pub instance : Instance
   pub side : Side
@@ -24,7 +25,14 @@ pub record State : Type 0 where
 
 abbrev pub state_of : Looking → Incumbent → List code.Part → List ℕ → State
 state_of look incumbent parts open_parts =
-    record { instance = look.instance; side = look.side; parts = parts_of parts; sets = incumbent.sets; value = incumbent.value; open_parts = open_parts }
+    record {
+      instance = look.instance;
+      side = look.side;
+      parts = parts_of parts;
+      sets = incumbent.sets;
+      value = incumbent.value;
+      open_parts = open_parts;
+    }
 
 pub record IsState (s : State) : Type 0 where
   pub instance : IsInstance s.instance
@@ -52,4 +60,5 @@ with_bound p m key = record p { m = m; key = key; swept = true }
 
 -- a new part below another, with one more mark
 abbrev pub child_part : ℕ → ℕ → ℕ → Mark → Multipliers → ℤ → Part
-child_part above b n mark m key = record { put = record { above = above; bidder = b; node = n; mark = mark }; m = m; key = key; swept = false; split = None }
+child_part above b n mark m key =
+    record { put = record { above = above; bidder = b; node = n; mark = mark }; m = m; key = key; swept = false; split = None }

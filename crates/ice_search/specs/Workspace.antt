@@ -13,7 +13,8 @@ pub record Looking : Type 0 where
   pub instance : Instance
   pub side : Side
 
--- kept bounds are of the instance, and so are the marks of the desk, the goods that it knows, and the trees of the relaxation
+-- kept bounds are of the instance, and so are the marks of the desk, the goods that it knows, and
+-- the trees of the relaxation
 pub record IsWorkspace (x : Instance) (kept : Standing) (marks : List Fixing) (goods : List Bool) (relaxed : ℕ) : Type 0 where
   pub instance : IsInstance x
   pub trees : kept.trees ≡ x.trees

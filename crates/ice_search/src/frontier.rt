@@ -3,6 +3,7 @@ ghost use Rattle.std.specs.Prelude.{◌≡◌, ◌+◌, ◌<◌, ◌≤◌, [], 
 ghost use Rattle.std.specs.List.Sorted.{IsPermutation};
 ghost use Rattle.ice_search_log.specs.Searching.{IsAboveOpen};
 ghost use Rattle.ice_search_log.specs.Code.{parts_of};
+ghost use Rattle.ice_search.specs.declared.frontier.Fate.TheVariants.{Open, Closed};
 ghost use Rattle.ice_search.specs.Open.{AreParts, IsGreatestOpen, IsHigher, bound_at, AreOpened};
 
 use ice_search_log::Part;
@@ -63,35 +64,45 @@ pub(crate) fn take_out(open_parts: &mut Vec<u32>, place: usize)
     open_parts.swap_remove(place);
 }
 
-/// Opens a part where that is asked, and there is room for it.
-fn push_if(open_parts: &mut Vec<u32>, number: u32, opens: bool)
+/// What becomes of a child of a part that is split.
+#[derive(Clone, Copy, Debug, PartialEq, Eq)]
+pub(crate) enum Fate {
+    /// It is open: something above the value may be found in it.
+    Open,
+    /// It is closed, and never looked at.
+    Closed,
+}
+
+/// Puts a part among the open ones, where there is room for it, unless it is closed.
+fn push_open(open_parts: &mut Vec<u32>, number: u32, fate: Fate)
     requires { vec_len open_parts.old < vec_capacity open_parts.old }
-    ensures yes { IsTrue opens → open_parts.new.items ≡ open_parts.old.items ++ number ∷ [] }
-    ensures no { opens ≡ false → open_parts.new.items ≡ open_parts.old.items }
+    ensures opened { fate ≡ Open → open_parts.new.items ≡ open_parts.old.items ++ number ∷ [] }
+    ensures closed { fate ≡ Closed → open_parts.new.items ≡ open_parts.old.items }
     ensures capacity { vec_capacity open_parts.old ≤ vec_capacity open_parts.new }
     ensures len { vec_len open_parts.new ≤ vec_len open_parts.old + 1 }
 {
-    if opens {
-        open_parts.push(number).unwrap();
+    match fate {
+        Fate::Open => open_parts.push(number).unwrap(),
+        Fate::Closed => {}
     }
 }
 
-/// Splits an open part: it is taken out, and each child is opened for which that is asked.
+/// Splits an open part: it is taken out, and each child that is open is put there. The Must child
+/// has the number `first`, and the Never child the next one.
 pub(crate) fn open_children(
     open_parts: &mut Vec<u32>,
     place: usize,
     first: u32,
-    opens_first: bool,
-    opens_second: bool,
+    must: Fate,
+    never: Fate,
 )
     requires place { place < vec_len open_parts.old }
     requires room { vec_len open_parts.old + 2 ≤ vec_capacity open_parts.old }
     requires few { first < 1000000 }
-    ensures opened { AreOpened open_parts.old.items open_parts.new.items place first opens_first
-        opens_second }
+    ensures opened { AreOpened open_parts.old.items open_parts.new.items place first must never }
     ensures len { vec_len open_parts.new ≤ vec_len open_parts.old + 1 }
 {
     take_out(open_parts, place);
-    push_if(open_parts, first, opens_first);
-    push_if(open_parts, first + 1, opens_second);
+    push_open(open_parts, first, must);
+    push_open(open_parts, first + 1, never);
 }

@@ -1,10 +1,12 @@
 //! Changes of the parts of a search.
-ghost use Rattle.std.specs.Prelude.{◌↔◌, IsTrue, ◌≡◌, ◌+◌, ◌<◌, ◌≤◌, [], ◌∷◌, ◌++◌, slice_set, vec_len, vec_capacity, true, ◌≤ℤ◌, ◌<ℤ◌};
+ghost use Rattle.std.specs.Prelude.{◌≡◌, ◌+◌, ◌<◌, ◌≤◌, [], ◌∷◌, ◌++◌, slice_set, vec_len, vec_capacity, true, ◌≤ℤ◌, ◌<ℤ◌};
 ghost use Rattle.ice_defs.specs.declared.Mark.TheVariants.{Must, Never};
 ghost use Rattle.ice_search_log.specs.Parts.{part_at, split_at};
 ghost use Rattle.ice_search_log.specs.Code.{part_of, parts_of};
+ghost use Rattle.ice_search.specs.declared.frontier.Fate.TheVariants.{Open, Closed};
 ghost use Rattle.ice_search.specs.State.{child_part, with_bound};
 
+use crate::frontier::Fate;
 use crate::sweep::Bounded;
 use ice_best::Mark;
 use ice_relaxation::Candidate;
@@ -77,9 +79,15 @@ pub(crate) fn push_children(
         .unwrap();
 }
 
-/// Whether something above the incumbent's value may be found in a part of this bound.
-pub(crate) fn is_open(bounded: &Bounded, incumbent: &Incumbent) -> bool
-    ensures { IsTrue result ↔ (incumbent.now.value <ℤ bounded.now.key) }
+/// What becomes of a part of this bound: it is open where something above the incumbent's value may
+/// be found in it.
+pub(crate) fn fate_of(bounded: &Bounded, incumbent: &Incumbent) -> Fate
+    ensures opened { result ≡ Open → incumbent.now.value <ℤ bounded.now.key }
+    ensures closed { result ≡ Closed → bounded.now.key ≤ℤ incumbent.now.value }
 {
-    incumbent.value < bounded.key
+    if incumbent.value < bounded.key {
+        Fate::Open
+    } else {
+        Fate::Closed
+    }
 }

@@ -46,6 +46,7 @@ impl<'a> Problem<'a> {
         requires meets { MeetsAll first.now start.now }
         ensures { result ≡ instance_of exchange.now weights.now start.now first.now }
     {
+        // The exchange is a lawful one: it has at most 40 bidders, 32 goods and 2,000 nodes.
         let _bidders = exchange.bidders();
         Problem {
             exchange,

@@ -11,7 +11,7 @@ ghost use Rattle.ice_search.specs.State.{unswept_count, LooksAt};
 use crate::child::CHILD_STEPS;
 use crate::frontier::{greatest, open_children, take_out};
 use crate::hints::{Hint, keep_near, most_promising, near, push_hints};
-use crate::parts::{is_open, lower, push_children};
+use crate::parts::{fate_of, lower, push_children};
 use crate::workspace::Workspace;
 use ice_best::Mark;
 use ice_relaxation::Candidate;
@@ -127,6 +127,7 @@ impl<'a> Progress<'a> {
         requires looks { LooksAt self.old number }
         requires swept { (part_at self.old.parts number).swept ≡ true }
         requires none { HasNoNode self.old.instance.trees self.old.side }
+        // The parts stay, and one fewer is open.
         ensures instance { self.new.instance ≡ self.old.instance }
         ensures parts { self.new.parts ≡ self.old.parts }
         ensures fewer { length self.new.open_parts + 1 ≡ length self.old.open_parts }
@@ -149,6 +150,7 @@ impl<'a> Progress<'a> {
         requires node { IsSplitNode self.old.instance.trees self.old.side node.bidder node.node }
         requires few { length self.old.parts < 1000000 }
         ensures instance { self.new.instance ≡ self.old.instance }
+        // On success
         ensures count { OnOk result (length self.new.parts ≡ length self.old.parts + 2) }
         ensures unswept { OnOk result (unswept_count self.new.parts
             ≡ unswept_count self.old.parts + 2) }
@@ -166,9 +168,9 @@ impl<'a> Progress<'a> {
             .space
             .polish_child(node, Mark::Never, &from, &mut self.incumbent, CHILD_STEPS);
         let first = self.parts.len() as u32;
-        let opens_must = is_open(&must.bounded, &self.incumbent);
-        let opens_never = is_open(&never.bounded, &self.incumbent);
-        open_children(&mut self.open_parts, place, first, opens_must, opens_never);
+        let must_fate = fate_of(&must.bounded, &self.incumbent);
+        let never_fate = fate_of(&never.bounded, &self.incumbent);
+        open_children(&mut self.open_parts, place, first, must_fate, never_fate);
         push_hints(&mut self.hints, number, must.candidates, never.candidates);
         push_children(&mut self.parts, number, node, must.bounded, never.bounded);
         Ok(())

@@ -40,8 +40,10 @@ impl<'a> Workspace<'a> {
     pub(crate) fn sweep(&mut self, guess: &Multipliers, incumbent: &mut Incumbent) -> Bounded
         requires live { IsLive self.old.instance.trees self.old.side }
         requires sets { length incumbent.old.sets ≡ length self.old.instance.trees }
+        // What is looked at stays.
         ensures instance { self.new.instance ≡ self.old.instance }
         ensures side { self.new.side ≡ self.old.side }
+        // What the sweep came to, and what was offered.
         ensures sweeps { IsSweepAt self.old.instance self.old.side result.m }
         ensures bound { IsBoundAt self.old.instance result.m self.old.side result.key }
         ensures sets { length incumbent.new.sets ≡ length self.old.instance.trees }

@@ -1,7 +1,5 @@
-use Rattle.std.proofs.Common.{ℕ, arith, length, vec_len, set, sym, subst, ap, ◌∙◌, ◌≡◌, ◌+◌, ◌++◌, ◌∷◌, [], get_or, Bool, false, ℤ, ◌≤ℤ◌, ◌<ℤ◌, List}
-use Rattle.std.specs.Prelude.{slice_index, IsTrue, ◌↔◌}
-use Rattle.std.proofs.lemmas.Bool.{both_ways}
-use Rattle.std.proofs.lemmas.Int.{by_lt_z}
+use Rattle.std.proofs.Common.{ℕ, arith, length, vec_len, set, sym, subst, ap, ◌∙◌, ◌≡◌, ◌+◌, ◌++◌, ◌∷◌, [], get_or, ℤ, List}
+use Rattle.std.specs.Prelude.{slice_index}
 use Rattle.std.proofs.lemmas.List.{length-map}
 use Rattle.ice_defs.specs.declared.Mark.TheVariants.{Must, Never}
 use Rattle.ice_defs.specs.Steps.{Side, with_mark}
@@ -24,9 +22,6 @@ use Rattle.ice_search.proofs.progress.Progress.split.Goals as goal
 -- at the same instance and side
 there : (P : Instance → Side → Type 0) (x y : Instance) (xs ys : Side) → y ≡ x → ys ≡ xs → P x xs → P y ys
 there P x y xs ys e d p = subst (λ side. P y side) (sym d) (subst (λ i. P i xs) (sym e) p)
-
-low : (a : Bool) (value v : ℤ) → IsTrue a ↔ (value <ℤ v) → a ≡ false → v ≤ℤ value
-low a value v opens e = by_lt_z value v (λ less. absurd (both_ways a e (opens.1 less))) (λ le. le)
 
 pub polish_child-must-requires-clause-fit : goal.polish_child-must-requires-clause-fit
 polish_child-must-requires-clause-fit c =
@@ -104,8 +99,8 @@ invariant_of-self-2 c =
     let pushed = regrown c.args.number node.bidder node.node first.m second.m first.key second.key c.reserve.new.self.items list (vec_len c.reserve.new.self)
     (parts_of c.push_children.new.parts.items) c.push_children.ensures c.in_ok-reserve.ensures.items count in
     let left = c.open_children.new.open_parts.items in
-    let opened = subst (λ ns. AreOpened ns left c.args.place (length (parts_of list)) c.is_open-opens_must.result c.is_open-opens_never.result) c.in_ok-reserve-3.ensures.items
-    (subst (λ j. AreOpened c.reserve-3.new.self.items left c.args.place j c.is_open-opens_must.result c.is_open-opens_never.result) (c.len-first.ensures ∙ count) c.open_children.ensures.opened) in
+    let opened = subst (λ ns. AreOpened ns left c.args.place (length (parts_of list)) c.fate_of-must_fate.result c.fate_of-never_fate.result) c.in_ok-reserve-3.ensures.items
+    (subst (λ j. AreOpened c.reserve-3.new.self.items left c.args.place j c.fate_of-must_fate.result c.fate_of-never_fate.result) (c.len-first.ensures ∙ count) c.open_children.ensures.opened) in
     let next = subst (λ t. IsNext t.parts t.value c.args.number) (sym c.self.view_is) c.requires.next in
     let splits = subst (λ t. IsSplitNode t.instance.trees t.side node.bidder node.node) (sym c.self.view_is) c.requires.node in
     let number = subst (λ t. c.args.number ≡ slice_index t.open_parts c.args.place) (sym c.self.view_is) c.requires.number in
@@ -123,10 +118,10 @@ invariant_of-self-2 c =
       open_parts = left;
     })) (sym (never.ensures.instance ∙ must.ensures.instance))
     (split s c.self.invariant c.args.number looks node.bidder node.node first.m second.m first.key second.key (parts_of c.push_children.new.parts.items) pushed
-    must.new.incumbent never.new.incumbent c.args.place left c.is_open-opens_must.result c.is_open-opens_never.result never.new.self.side next splits
+    must.new.incumbent never.new.incumbent c.args.place left c.fate_of-must_fate.result c.fate_of-never_fate.result never.new.self.side next splits
     must.ensures.polished.offered offered must.ensures.polished.multipliers must.ensures.polished.bound lawful bound number opened
-    (low c.is_open-opens_must.result never.new.incumbent.value first.key c.is_open-opens_must.ensures)
-    (low c.is_open-opens_never.result never.new.incumbent.value second.key c.is_open-opens_never.ensures))
+    c.fate_of-must_fate.ensures.closed
+    c.fate_of-never_fate.ensures.closed)
 
 pub returns-clause-unswept : goal.returns-clause-unswept
 returns-clause-unswept c =
