@@ -1,6 +1,5 @@
 -- From the best assignment at perturbed values to the regret.
 use Rattle.std.proofs.Common.{◌≡◌, sym, subst, List, length, ℤ, ◌-ℤ◌}
-use Rattle.ice_defs.specs.Set.{Weights}
 use Rattle.ice_defs.specs.Trade.{Assignment, IsFeasible, total_value, IsBest, IsBestOfAll}
 use Rattle.ice_defs.specs.Bounds.{Bounds}
 use Rattle.ice_defs.specs.Group.{free_side}
@@ -8,19 +7,13 @@ use Rattle.ice_defs.specs.Weighing.{lower_weights, perturbed_weights}
 use Rattle.ice_defs.specs.Regret.{IsRegret}
 use Rattle.ice_defs.specs.Searched.{IsFound}
 use Rattle.ice_defs.specs.Exchange.{Exchange, trees_of, exact_of, market_of}
-use Rattle.ice_defs.proofs.Starts.{meets_free_side}
 use Rattle.ice_regret_laws.proofs.Perturbed.{perturbed_gives_regret, perturbed_attains}
 use Rattle.ice_regret_laws.proofs.Trades.{regret_bounds_trades}
 use Rattle.ice_defs.specs.Conditions.{AreBoundsOf}
 use Rattle.ice_search.specs.Results.{AreWritten}
+use Rattle.ice_search.proofs.Freely.{best_of_all}
 use Rattle.ice_regret.specs.Regretted.{IsRegretOf, proved_rival}
 use Rattle.ice_regret.specs.declared.lead.Regret.{Regret}
-
-pub best_of_all : (ex : Exchange) (ws : List Weights) (v : ℤ) → IsBest (trees_of ex) (exact_of ex) ws (free_side (trees_of ex)) v → IsBestOfAll (trees_of ex) (exact_of ex) ws v
-best_of_all ex ws v best = record {
-  attained = (best.attained.0, best.attained.1.0, best.attained.2);
-  bound = λ a feasible. best.bound a (feasible, meets_free_side (trees_of ex) a);
-}
 
 pub rival_gives_regret : (ex : Exchange) (bounds : List Bounds) (chosen : Assignment) (r : Regret) → AreBoundsOf (trees_of ex) bounds → IsFeasible (trees_of ex) (exact_of ex) chosen
     → IsFound (trees_of ex) (exact_of ex) (perturbed_weights chosen bounds) (free_side (trees_of ex)) chosen (proved_rival r) → AreWritten (length (exact_of ex)) r.log

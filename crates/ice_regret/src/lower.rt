@@ -8,10 +8,9 @@ ghost use Rattle.ice_defs.specs.Conditions.{AreBoundsOf};
 ghost use Rattle.ice_search.specs.Results.{IsFoundBy, IsEnd};
 ghost use Rattle.ice_regret.specs.Regretted.{lower_search};
 
-use ice_best::Fixings;
-use ice_search::{Found, SearchEnd, search};
+use ice_search::{Found, SearchEnd, search_anew};
 use ice_trade::Exchange;
-use ice_tree::{AllWeights, Assignment, Bounds};
+use ice_tree::{AllWeights, Bounds};
 use std::alloc::Global;
 
 /// The best feasible assignment at the lower values of bounds, by a search that begins with the
@@ -34,10 +33,7 @@ pub fn best_at_lower_values(
     ensures end { IfErr result
         (IsEnd (lower_search exchange.now bounds.now) branches.old branches.new) }
 {
-    let trees = exchange.trees();
-    let mut weights = AllWeights::new(alloc, trees)?;
+    let mut weights = AllWeights::new(alloc, exchange.trees())?;
     weights.fill_lower(bounds);
-    let start = Fixings::free(alloc, trees)?;
-    let empty = Assignment::empty(alloc, trees)?;
-    search(alloc, exchange, &weights, &start, &empty, branches)
+    search_anew(alloc, exchange, &weights, branches)
 }

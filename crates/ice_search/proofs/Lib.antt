@@ -11,3 +11,4 @@ pub mod Turning
 pub mod Beginning
 pub mod Finishing
 pub mod Choosing
+pub mod Freely

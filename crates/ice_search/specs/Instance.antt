@@ -7,6 +7,7 @@ use Rattle.ice_defs.specs.Bound.{Multipliers, IsBound}
 use Rattle.ice_defs.specs.Steps.{Side}
 use Rattle.ice_defs.specs.Sweep.{Sweeps, all_zero}
 use Rattle.ice_defs.specs.Exchange.{Exchange, trees_of, exact_of}
+use Rattle.ice_defs.specs.Group.{free_side, empty_sets}
 use Rattle.ice_defs.specs.Conditions.{AreWeightsOf, AreFixingsOf}
 use Rattle.ice_search_log.specs.Parts.{Part}
 use Rattle.ice_search_log.specs.Searching.{IsSearch, IsIncumbent}
@@ -22,6 +23,10 @@ pub record Instance : Type 0 where
 -- the trees and goods are those of an exchange
 abbrev pub instance_of : Exchange → List Weights → Side → Assignment → Instance
 instance_of ex weights start first = record { trees = trees_of ex; exact = exact_of ex; weights = weights; start = start; first = first }
+
+-- with all nodes free, from the empty sets
+abbrev pub empty_search : Exchange → List Weights → Instance
+empty_search ex weights = instance_of ex weights (free_side (trees_of ex)) (empty_sets (trees_of ex))
 
 -- weights and marks are of the trees, and the assignment is feasible and meets the marks
 pub record IsInstance (x : Instance) : Type 0 where

@@ -2,10 +2,10 @@
 ghost use Rattle.std.specs.Prelude.{◌≡◌, ◌+◌, ◌^◌, ◌<◌, ◌≤◌, ◌∷◌, List, IfOk, IfErr};
 ghost use Rattle.ice_defs.specs.Exchange.{trees_of, exact_of};
 ghost use Rattle.ice_defs.specs.Steps.{Step as PlainStep, branch_count};
-ghost use Rattle.ice_defs.specs.Trade.{IsFeasible, MeetsAll, IsBest};
+ghost use Rattle.ice_defs.specs.Trade.{IsFeasible, MeetsAll, IsBest, IsBestOfAll};
 ghost use Rattle.ice_defs.specs.Conditions.{AreWeightsOf, AreFixingsOf, AreMultipliersOf};
 ghost use Rattle.ice_refute.specs.Code.{step_of};
-ghost use Rattle.ice_search.specs.Instance.{instance_of};
+ghost use Rattle.ice_search.specs.Instance.{instance_of, empty_search};
 ghost use Rattle.ice_search.specs.Results.{IsFoundBy, IsEnd};
 
 use crate::problem::Problem;
@@ -43,37 +43,46 @@ fn count_branches(log: &Log) -> u32
     count
 }
 
-/// `search` from multipliers for the first bound, one for each good, and with candidates, which are
-/// looked at where they are feasible and meet the start: those of a search before. They change the
-/// time, which best assignment is found, the log, and whether the branches suffice.
+/// What searches before leave to a search. It changes the time, which best assignment is found, the
+/// log, and whether the branches suffice.
+#[derive(Drop)]
+pub struct Known<'a> {
+    /// The multipliers of the first bound, one for each good.
+    pub from: &'a Multipliers,
+    /// Assignments that are looked at where they are feasible and meet the start.
+    pub candidates: &'a [Assignment],
+}
+
+/// `search` with what searches before left.
 pub fn search_from(
     alloc: Global,
     exchange: &Exchange,
     weights: &AllWeights,
     start: &Fixings,
     first: &Assignment,
-    from: &Multipliers,
-    candidates: &[Assignment],
+    known: &Known,
     branches: &mut u32,
 ) -> Result<Found, SearchEnd>
     requires weights { AreWeightsOf (trees_of exchange.now) weights.now }
     requires start { AreFixingsOf (trees_of exchange.now) start.now }
     requires feasible { IsFeasible (trees_of exchange.now) (exact_of exchange.now) first.now }
     requires meets { MeetsAll first.now start.now }
-    requires from { AreMultipliersOf (exact_of exchange.now) from.now }
+    requires from { AreMultipliersOf (exact_of exchange.now) known.now.from.now }
     requires branches { branches.old ≤ 50000 }
+    // On success
     ensures found { IfOk result
         (IsFoundBy (instance_of exchange.now weights.now start.now first.now)) }
     ensures best { IfOk result
         (λ f. IsBest (trees_of exchange.now) (exact_of exchange.now) weights.now start.now
         f.value) }
     ensures branches { IfOk result (λ f. branches.new + branch_count f.log ≡ branches.old) }
+    // On failure
     ensures end { IfErr result
         (IsEnd (instance_of exchange.now weights.now start.now first.now) branches.old
         branches.new) }
 {
     let problem = Problem::new(exchange, weights, start, first);
-    let mut progress = Progress::begin(alloc, problem, from, candidates)?;
+    let mut progress = Progress::begin(alloc, problem, known.from, known.candidates)?;
     let mut left = *branches;
     match run(alloc, &mut progress, &mut left)? {
         Ended::Whole => {
@@ -115,25 +124,44 @@ pub fn search(
     requires feasible { IsFeasible (trees_of exchange.now) (exact_of exchange.now) first.now }
     requires meets { MeetsAll first.now start.now }
     requires branches { branches.old ≤ 50000 }
+    // On success
     ensures found { IfOk result
         (IsFoundBy (instance_of exchange.now weights.now start.now first.now)) }
     ensures best { IfOk result
         (λ f. IsBest (trees_of exchange.now) (exact_of exchange.now) weights.now start.now
         f.value) }
     ensures branches { IfOk result (λ f. branches.new + branch_count f.log ≡ branches.old) }
+    // On failure
     ensures end { IfErr result
         (IsEnd (instance_of exchange.now weights.now start.now first.now) branches.old
         branches.new) }
 {
     let zeros = Multipliers::zero(exchange.goods());
-    search_from(
-        alloc,
-        exchange,
-        weights,
-        start,
-        first,
-        &zeros,
-        &[],
-        branches,
-    )
+    let known = Known {
+        from: &zeros,
+        candidates: &[],
+    };
+    search_from(alloc, exchange, weights, start, first, &known, branches)
+}
+
+/// `search` from nothing: with all nodes free, from the empty sets.
+pub fn search_anew(
+    alloc: Global,
+    exchange: &Exchange,
+    weights: &AllWeights,
+    branches: &mut u32,
+) -> Result<Found, SearchEnd>
+    requires weights { AreWeightsOf (trees_of exchange.now) weights.now }
+    requires branches { branches.old ≤ 50000 }
+    ensures found { IfOk result (IsFoundBy (empty_search exchange.now weights.now)) }
+    ensures best { IfOk result (λ f. IsBestOfAll (trees_of exchange.now) (exact_of exchange.now)
+        weights.now f.value) }
+    ensures branches { IfOk result (λ f. branches.new + branch_count f.log ≡ branches.old) }
+    ensures end { IfErr result
+        (IsEnd (empty_search exchange.now weights.now) branches.old branches.new) }
+{
+    let trees = exchange.trees();
+    let start = Fixings::free(alloc, trees)?;
+    let empty = Assignment::empty(alloc, trees)?;
+    search(alloc, exchange, weights, &start, &empty, branches)
 }

@@ -21,5 +21,5 @@ mod sweep;
 mod workspace;
 
 pub use candidates::is_feasible;
-pub use entry::{search, search_from};
+pub use entry::{Known, search, search_anew, search_from};
 pub use results::{Found, SearchEnd, Spent};

@@ -1,4 +1,5 @@
--- From the search without a bidder to what the market is worth without it, and to its Vickrey discount.
+-- From the search without a bidder to what the market is worth without it, and to its Vickrey
+-- discount.
 use Rattle.std.proofs.Common.{ℕ, zero, suc, ◌<◌, Bool, List, [], ◌∷◌, length, map, ℤ, pos, ◌≤ℤ◌, subst, arith}
 use Rattle.std.specs.List.{AllByRecursion}
 use Rattle.ice_defs.specs.Tree.{Tree, IsTree}

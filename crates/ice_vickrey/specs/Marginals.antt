@@ -22,7 +22,8 @@ proved_without m = record { value = m.without; sets = m.witness; log = m.log }
 -- the best without this bidder, by a log that passes, and the Vickrey discount
 pub record IsMarginalOf (e : Economy) (b : ℕ) (m : Marginal) : Type 0 where
   pub bidder : m.bidder ≡ b
-  pub found : IsFound (trees_of e.exchange) (exact_of e.exchange) (lower_weights e.bounds) (start_of (trees_of e.exchange) (Without b)) (empty_sets (trees_of e.exchange)) (proved_without m)
+  pub found : IsFound (trees_of e.exchange) (exact_of e.exchange) (lower_weights e.bounds)
+      (start_of (trees_of e.exchange) (Without b)) (empty_sets (trees_of e.exchange)) (proved_without m)
   pub written : AreWritten (length (exact_of e.exchange)) m.log
   pub left_out : IsEmpty (set_of m.witness b)
   pub without : IsBestWithout (trees_of e.exchange) (exact_of e.exchange) (lower_weights e.bounds) b m.without

@@ -11,7 +11,8 @@ use Rattle.ice_defs.specs.Conditions.{AreMultipliersOf}
 use Rattle.ice_vickrey.specs.Economy.{IsEconomy}
 
 -- the lower values, the empty sets, and multipliers that a search may begin with
-pub record IsStored (ex : Exchange) (bounds : List Bounds) (total : ℤ) (ws : List Weights) (none : Assignment) (m : Multipliers) : Type 0 where
+pub record IsStored (ex : Exchange) (bounds : List Bounds) (total : ℤ) (ws : List Weights)
+    (none : Assignment) (m : Multipliers) : Type 0 where
   pub economy : IsEconomy (record { exchange = ex; bounds = bounds; total = total })
   pub high : total ≤ℤ pos 8000000000000
   pub weights : ws ≡ lower_weights bounds

@@ -13,7 +13,7 @@ use crate::hints::{candidates, multipliers_of};
 use crate::marginal::Marginal;
 use ice_best::{Fixings, Mark};
 use ice_bound::Multipliers;
-use ice_search::{Found, SearchEnd, search_from};
+use ice_search::{Found, Known, SearchEnd, search_from};
 use ice_trade::Exchange;
 use ice_tree::{AllWeights, Assignment, Bounds};
 use std::alloc::{AllocError, Global};
@@ -116,14 +116,19 @@ impl<'a> Economy<'a> {
         let trees = self.exchange.trees();
         let mut start = Fixings::free(alloc, trees)?;
         start.mark(bidder, 0, Mark::Never);
-        let known = candidates(alloc, trees, self.best, done, bidder)?;
+        let candidates = candidates(alloc, trees, self.best, done, bidder)?;
+        let known = Known {
+            from: &self.from,
+            candidates: &candidates,
+        };
+        let weights = &self.weights;
+        let empty = &self.empty;
         let found = search_from(
             alloc,
             self.exchange,
-            &self.weights,
+            weights,
             &start,
-            &self.empty,
-            &self.from,
+            empty,
             &known,
             branches,
         )?;

@@ -1,7 +1,7 @@
 //! What a market is worth without a bidder.
 
 use ice_refute::Log;
-use ice_search::{SearchEnd, Spent};
+use ice_search::Spent;
 use ice_tree::Assignment;
 use std::alloc::{AllocError, AllocFailed};
 

@@ -1,54 +1,28 @@
-use Rattle.std.proofs.Common.{◌∙◌, ap, sym, subst, List, IfOk, IfErr}
-use Rattle.std.proofs.lemmas.Result.{IfOk-weaker}
-use Rattle.ice_defs.specs.Steps.{Side}
+use Rattle.std.proofs.Common.{sym, subst, IfOk, IfErr, List}
 use Rattle.ice_defs.specs.Set.{Weights}
-use Rattle.ice_defs.specs.Trade.{IsFeasible, MeetsAll, IsBest}
-use Rattle.ice_defs.specs.Group.{free_side, empty_sets}
-use Rattle.ice_defs.specs.Weighing.{lower_weights}
 use Rattle.ice_defs.specs.Exchange.{trees_of, exact_of}
-use Rattle.ice_defs.proofs.EmptySets.{empty_feasible}
-use Rattle.ice_defs.proofs.Starts.{meets_free_side}
+use Rattle.ice_defs.specs.Trade.{IsBestOfAll}
 use Rattle.ice_defs.specs.Conditions.{AreWeightsOf}
 use Rattle.ice_bound.proofs.Modest.{lower_modest}
-use Rattle.ice_search.specs.Instance.{Instance, instance_of}
+use Rattle.ice_search.specs.Instance.{empty_search}
 use Rattle.ice_search.specs.Results.{IsFoundBy, IsEnd}
-use Rattle.ice_regret.proofs.Rivals.{best_of_all}
+use Rattle.ice_search.specs.declared.results.Found.{Found}
 use Rattle.ice_regret.proofs.lower.best_at_lower_values.Goals as goal
 
-pub search-requires-clause-weights : goal.search-requires-clause-weights
-search-requires-clause-weights c =
+pub search_anew-requires-clause-weights : goal.search_anew-requires-clause-weights
+search_anew-requires-clause-weights c =
     subst (AreWeightsOf (trees_of c.args.exchange.now)) (sym c.fill_lower.ensures.value) (lower_modest (trees_of c.args.exchange.now) c.args.bounds.now c.requires.bounds)
-
-pub search-requires-clause-feasible : goal.search-requires-clause-feasible
-search-requires-clause-feasible c =
-    let ex = c.args.exchange.now in
-    subst (IsFeasible (trees_of ex) (exact_of ex)) (sym (c.in_ok-empty.ensures ∙ ap empty_sets c.trees-trees.ensures.value)) (empty_feasible (trees_of ex) (exact_of ex))
-
-pub search-requires-clause-meets : goal.search-requires-clause-meets
-search-requires-clause-meets c =
-    let ex = c.args.exchange.now in
-    subst (MeetsAll c.in_ok-empty.empty) (sym (c.in_ok-start.ensures ∙ ap free_side c.trees-trees.ensures.value)) (meets_free_side (trees_of ex) c.in_ok-empty.empty)
 
 pub returns-clause-found : goal.returns-clause-found
 returns-clause-found c =
-    let ex = c.args.exchange.now in
-    let start_is = c.in_ok-start.ensures ∙ ap free_side c.trees-trees.ensures.value in
-    let empty_is = c.in_ok-empty.ensures ∙ ap empty_sets c.trees-trees.ensures.value in
-    subst (λ (x : Instance). IfOk c.search.result (IsFoundBy x)) (λ i. instance_of ex (c.fill_lower.ensures.value i) (start_is i) (empty_is i)) c.search.ensures.found
+    subst (λ (w : List Weights). IfOk c.search_anew.result (IsFoundBy (empty_search c.args.exchange.now w))) c.fill_lower.ensures.value c.search_anew.ensures.found
 
 pub returns-clause-best : goal.returns-clause-best
 returns-clause-best c =
     let ex = c.args.exchange.now in
-    let start_is = c.in_ok-start.ensures ∙ ap free_side c.trees-trees.ensures.value in
-    IfOk-weaker c.search.result _ _
-    (λ f h. best_of_all ex (lower_weights c.args.bounds.now) f.value
-    (subst (λ (xs : Side). IsBest (trees_of ex) (exact_of ex) (lower_weights c.args.bounds.now) xs f.value) start_is
-    (subst (λ (w : List Weights). IsBest (trees_of ex) (exact_of ex) w c.in_ok-start.start f.value) c.fill_lower.ensures.value h)))
-    c.search.ensures.best
+    subst (λ (w : List Weights). IfOk c.search_anew.result (λ (f : Found). IsBestOfAll (trees_of ex) (exact_of ex) w f.value)) c.fill_lower.ensures.value c.search_anew.ensures.best
 
 pub returns-clause-end : goal.returns-clause-end
 returns-clause-end c =
-    let ex = c.args.exchange.now in
-    let start_is = c.in_ok-start.ensures ∙ ap free_side c.trees-trees.ensures.value in
-    let empty_is = c.in_ok-empty.ensures ∙ ap empty_sets c.trees-trees.ensures.value in
-    subst (λ (x : Instance). IfErr c.search.result (IsEnd x c.args.branches.now c.search.new.branches)) (λ i. instance_of ex (c.fill_lower.ensures.value i) (start_is i) (empty_is i)) c.search.ensures.end
+    subst (λ (w : List Weights). IfErr c.search_anew.result (IsEnd (empty_search c.args.exchange.now w) c.args.branches.now c.search_anew.new.branches))
+    c.fill_lower.ensures.value c.search_anew.ensures.end
