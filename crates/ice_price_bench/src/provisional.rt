@@ -4,8 +4,7 @@ ghost use Rattle.ice_defs.specs.Exchange.{trees_of, exact_of};
 ghost use Rattle.ice_defs.specs.Trade.{IsFeasible};
 ghost use Rattle.ice_defs.specs.Conditions.{AreWeightsOf};
 
-use ice_best::Fixings;
-use ice_search::{SearchEnd, search};
+use ice_search::{SearchEnd, search_anew};
 use ice_trade::Exchange;
 use ice_tree::{AllWeights, Assignment};
 use std::alloc::Global;
@@ -19,10 +18,7 @@ pub fn best_sets(
     requires { AreWeightsOf (trees_of exchange.now) weights.now }
     ensures { IfOk result (IsFeasible (trees_of exchange.now) (exact_of exchange.now)) }
 {
-    let trees = exchange.trees();
-    let start = Fixings::free(alloc, trees)?;
-    let empty = Assignment::empty(alloc, trees)?;
     let mut branches = 50_000;
-    let found = search(alloc, exchange, weights, &start, &empty, &mut branches)?;
+    let found = search_anew(alloc, exchange, weights, &mut branches)?;
     Ok(found.best)
 }

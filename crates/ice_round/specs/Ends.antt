@@ -33,22 +33,26 @@ module _ (s : SessionAt) where
   -- what was found before a search that spent the branches which those before it left
   pub data IsSpentAt : Option Found → Option Regret → Option Found → List Marginal → search.Spent → Type 0 where
     at_final : {spent : search.Spent} → IsSpentBy (final_search s) s.branches spent → IsSpentAt None None None [] spent
-    at_rival : {best : Found} {spent : search.Spent} (left : ℕ) → IsFoundBy (final_search s) best → left + branch_count best.log ≡ s.branches
+    at_rival : {best : Found} {spent : search.Spent} (left : ℕ)
+        → IsFoundBy (final_search s) best → left + branch_count best.log ≡ s.branches
         → IsSpentBy (rival_search s.exchange s.bounds best.best) left spent
         → IsSpentAt (Some best) None None [] spent
     at_without : {best : Found} {regret : Regret} {done : List Marginal} {spent : search.Spent} (left : ℕ)
-        → IsTrue (closes s.exchange.settings s.number regret.amount) → IsSettlementOf s best regret → left + settlement_branches best regret ≡ s.branches
+        → IsTrue (closes s.exchange.settings s.number regret.amount) → IsSettlementOf s best regret
+        → left + settlement_branches best regret ≡ s.branches
         → IsSpentWithout (economy_of s best) left done spent
         → IsSpentAt (Some best) (Some regret) None done spent
     at_provisional : {best : Found} {regret : Regret} {spent : search.Spent} (left : ℕ)
-        → closes s.exchange.settings s.number regret.amount ≡ false → IsSettlementOf s best regret → left + settlement_branches best regret ≡ s.branches
+        → closes s.exchange.settings s.number regret.amount ≡ false → IsSettlementOf s best regret
+        → left + settlement_branches best regret ≡ s.branches
         → IsSpentBy (provisional_search s) left spent
         → IsSpentAt (Some best) (Some regret) None [] spent
 
   -- what was found before a pricing that ended at a limit
   pub data IsLimitAt : Option Found → Option Regret → Option Found → List Marginal → PriceLimit → Type 0 where
     at_pricing : {best : Found} {regret : Regret} {provisional : Found} {limit : PriceLimit} (left : ℕ)
-        → closes s.exchange.settings s.number regret.amount ≡ false → IsSettlementOf s best regret → IsFoundBy (provisional_search s) provisional
+        → closes s.exchange.settings s.number regret.amount ≡ false → IsSettlementOf s best regret
+        → IsFoundBy (provisional_search s) provisional
         → left + (settlement_branches best regret + branch_count provisional.log) ≡ s.branches
         → IsPriceEnd (provisional_of s.exchange (weighted_weights s.exchange.settings.weight s.bounds) provisional.best) (price.Limit limit)
         → IsLimitAt (Some best) (Some regret) (Some provisional) [] limit

@@ -1,27 +1,20 @@
 -- The searches of a settlement, and what they find.
-use Rattle.std.specs.Prelude.{ℕ, ◌+◌, List}
-use Rattle.ice_defs.specs.Set.{Weights}
+use Rattle.std.specs.Prelude.{ℕ, ◌+◌}
 use Rattle.ice_defs.specs.Steps.{branch_count}
-use Rattle.ice_defs.specs.Weighing.{lower_weights, weighted_weights}
-use Rattle.ice_defs.specs.Group.{free_side, empty_sets}
-use Rattle.ice_defs.specs.Exchange.{Exchange, trees_of}
+use Rattle.ice_defs.specs.Weighing.{weighted_weights}
 use Rattle.ice_defs.specs.Right.{IsSettled}
-use Rattle.ice_search.specs.Instance.{Instance, instance_of}
+use Rattle.ice_search.specs.Instance.{Instance, empty_search}
 use Rattle.ice_search.specs.Results.{IsFoundBy}
 use Rattle.ice_search.specs.declared.results.Found.{Found}
-use Rattle.ice_regret.specs.Regretted.{IsRegretOf}
+use Rattle.ice_regret.specs.Regretted.{lower_search, IsRegretOf}
 use Rattle.ice_regret.specs.declared.lead.Regret.{Regret}
 use Rattle.ice_vickrey.specs.Economy.{Economy}
 use Rattle.ice_settled.specs.Shown.{settlement_of}
 use Rattle.ice_round.specs.SessionAt.{SessionAt}
 
--- with all nodes free, from the empty sets
-abbrev pub empty_search : Exchange → List Weights → Instance
-empty_search ex weights = instance_of ex weights (free_side (trees_of ex)) (empty_sets (trees_of ex))
-
 -- at lower values
 abbrev pub final_search : SessionAt → Instance
-final_search s = empty_search s.exchange (lower_weights s.bounds)
+final_search s = lower_search s.exchange s.bounds
 
 -- at weighted values
 abbrev pub provisional_search : SessionAt → Instance

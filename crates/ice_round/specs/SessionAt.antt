@@ -5,7 +5,8 @@ use Rattle.ice_defs.specs.Exchange.{Exchange, trees_of}
 use Rattle.ice_defs.specs.Conditions.{AreBoundsOf}
 use Rattle.ice_verdicts.specs.Judges.{Round, IsRoundOf}
 
--- the exchange, the bidders' bounds, the settlement that comes next, and the branches left for it and those after it
+-- the exchange, the bidders' bounds, the settlement that comes next, and the branches left for it
+-- and those after it
 pub record SessionAt : Type 0 where
   pub exchange : Exchange
   pub bounds : List Bounds

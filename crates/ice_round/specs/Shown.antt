@@ -19,7 +19,8 @@ use Rattle.ice_round.specs.Searches.{economy_of, provisional_search, settlement_
 
 -- ---- a settlement that closes
 
--- the last settlement, closed by the close test: all is right, each log passes and is earned, and the fractions are short
+-- the last settlement, closed by the close test: all is right, each log passes and is earned, and
+-- the fractions are short
 pub record IsClosing (s : SessionAt) (c : Closing) : Type 0 where
   pub exchange : c.exchange ≡ s.exchange
   pub bounds : c.bounds.items ≡ s.bounds
@@ -38,7 +39,8 @@ pub record IsClosing (s : SessionAt) (c : Closing) : Type 0 where
 abbrev pub priced_trade : SessionAt → Opening → ProvisionalTrade
 priced_trade s o = provisional_of s.exchange (weighted_weights s.exchange.settings.weight s.bounds) o.provisional.best
 
--- the close test fails; all is right, each log passes and is earned, the certificates pass, and the round begins with what is left
+-- the close test fails; all is right, each log passes and is earned, the certificates pass, and the
+-- round begins with what is left
 pub record IsOpening (s : SessionAt) (r : RoundAt) (o : Opening) : Type 0 where
   pub number : o.number ≡ s.number
   pub goes_on : closes s.exchange.settings s.number o.regret.amount ≡ false

@@ -71,6 +71,7 @@ pub(crate) fn pay(
         marginals.now }
     ensures { IfOk result (ArePaymentsOf bounds.now best.now marginals.now) }
 {
+    // There are from 1 to 40 bidders.
     let _bidders = exchange.bidders();
     let values = own_values(alloc, bounds, &best.best)?;
     let vickreys = vickreys(alloc, marginals)?;

@@ -40,6 +40,7 @@ impl Ready {
           branches = exchange.settings.branches;
         }) }
     {
+        // The exchange is a lawful one.
         let _bidders = exchange.bidders();
         let judge = Judge::new(alloc, &exchange)?;
         let branches = exchange.settings().branches;

@@ -1,13 +1,11 @@
 //! A settlement: the final sets and their regret, the close test, and what follows of it.
 ghost use Rattle.std.specs.Prelude.{◌≡◌, ◌+◌, ◌≤◌, false, IsTrue, IfOk, IfErr};
-ghost use Rattle.ice_defs.specs.Exchange.{trees_of};
 ghost use Rattle.ice_defs.specs.Session.{closes as closing};
 ghost use Rattle.ice_defs.specs.Steps.{branch_count};
-ghost use Rattle.ice_defs.specs.Conditions.{AreWeightsOf};
 ghost use Rattle.ice_search.specs.Results.{IsFoundBy, IsEnd};
 ghost use Rattle.ice_price.specs.Ends.{IsPriced};
 ghost use Rattle.ice_round.specs.Kept.{session_at, IsKept};
-ghost use Rattle.ice_round.specs.Searches.{empty_search, final_search, provisional_search, settlement_branches, IsSettlementOf};
+ghost use Rattle.ice_round.specs.Searches.{final_search, provisional_search, settlement_branches, IsSettlementOf};
 ghost use Rattle.ice_round.specs.Shown.{priced_trade, IsOpening};
 ghost use Rattle.ice_round.specs.Ends.{IsHaltOf, IsStoppedAt, IsSettledAs};
 
@@ -15,37 +13,14 @@ use crate::in_round::InRound;
 use crate::payments::pay;
 use crate::session::Session;
 use crate::settled::Settled;
-use ice_best::Fixings;
 use ice_price::{PriceEnd, price};
-use ice_regret::{Regret, regret};
-use ice_search::{Found, SearchEnd, search};
+use ice_regret::{Regret, best_at_lower_values, regret};
+use ice_search::{Found, SearchEnd, search_anew};
 use ice_settled::{Closing, Halt, Opening};
-use ice_tree::{AllWeights, Assignment};
+use ice_tree::AllWeights;
 use ice_vickrey::{DiscountEnd, Marginal, discounts};
 
 impl Session {
-    /// The best assignment at these weights, from the empty one.
-    fn search_at(&self, weights: &AllWeights, branches: &mut u32) -> Result<Found, SearchEnd>
-        requires weights { AreWeightsOf (trees_of self.now.exchange) weights.now }
-        requires branches { branches.old ≤ 50000 }
-        ensures found { IfOk result (IsFoundBy (empty_search self.now.exchange weights.now)) }
-        ensures branches { IfOk result (λ f. branches.new + branch_count f.log ≡ branches.old) }
-        ensures end { IfErr result (IsEnd (empty_search self.now.exchange weights.now)
-            branches.old branches.new) }
-    {
-        let trees = self.exchange.trees();
-        let start = Fixings::free(self.alloc, trees)?;
-        let empty = Assignment::empty(self.alloc, trees)?;
-        search(
-            self.alloc,
-            &self.exchange,
-            weights,
-            &start,
-            &empty,
-            branches,
-        )
-    }
-
     /// The final sets.
     fn final_sets(&self, branches: &mut u32) -> Result<Found, SearchEnd>
         requires kept { IsKept self.now }
@@ -55,9 +30,7 @@ impl Session {
         ensures end { IfErr result (IsEnd (final_search (session_at self.now))
             branches.old branches.new) }
     {
-        let mut weights = AllWeights::new(self.alloc, self.exchange.trees())?;
-        weights.fill_lower(self.judge.bounds());
-        self.search_at(&weights, branches)
+        best_at_lower_values(self.alloc, &self.exchange, self.judge.bounds(), branches)
     }
 
     /// The provisional sets.
@@ -71,7 +44,7 @@ impl Session {
     {
         let mut weights = AllWeights::new(self.alloc, self.exchange.trees())?;
         weights.fill_weighted(self.judge.bounds(), self.exchange.settings().weight);
-        self.search_at(&weights, branches)
+        search_anew(self.alloc, &self.exchange, &weights, branches)
     }
 
     /// A halt of this session, with what was found.
@@ -161,6 +134,7 @@ impl Session {
         requires kept { IsKept self }
         requires goes_on { closing self.exchange.settings self.number
             opening.now.regret.amount ≡ false }
+        // What the settlement found
         requires settlement { IsSettlementOf (session_at self) opening.now.best opening.now.regret }
         requires provisional { IsFoundBy (provisional_search (session_at self))
             opening.now.provisional }
@@ -168,6 +142,7 @@ impl Session {
             opening.now.pricing }
         requires branches { branches + (settlement_branches opening.now.best opening.now.regret
             + branch_count opening.now.provisional.log) ≡ self.branches }
+        // The round
         ensures { IsOpening (session_at self) result opening.now }
     {
         let mut session = self;

@@ -23,7 +23,8 @@ payments_of [] ms ds ps = []
 payments_of (name ∷ names) [] ds ps = []
 payments_of (name ∷ names) (m ∷ ms) [] ps = []
 payments_of (name ∷ names) (m ∷ ms) (d ∷ ds) [] = []
-payments_of (name ∷ names) (m ∷ ms) (d ∷ ds) (p ∷ ps) = record { name = name; vickrey = m.discount; discount = d; payment = p } ∷ payments_of names ms ds ps
+payments_of (name ∷ names) (m ∷ ms) (d ∷ ds) (p ∷ ps) =
+    record { name = name; vickrey = m.discount; discount = d; payment = p } ∷ payments_of names ms ds ps
 
 -- a settlement that closes
 abbrev pub closed_of : Exchange → Closing → Closed

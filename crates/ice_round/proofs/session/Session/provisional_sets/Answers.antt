@@ -6,8 +6,8 @@ use Rattle.ice_bound.proofs.Modest.{weighted_modest}
 use Rattle.ice_verdicts.proofs.Bounded.{round_bounds}
 use Rattle.ice_round.proofs.session.Session.provisional_sets.Goals as goal
 
-pub search_at-requires-clause-weights : goal.search_at-requires-clause-weights
-search_at-requires-clause-weights c =
+pub search_anew-requires-clause-weights : goal.search_anew-requires-clause-weights
+search_anew-requires-clause-weights c =
     let s = c.args.self.now in
     let w = s.exchange.settings.weight in
     let filled : c.fill_weighted-2.new.self ≡ weighted_weights w s.judge.bounds =
