@@ -4,7 +4,8 @@ ghost use Rattle.std.specs.List.{All};
 ghost use Rattle.ice_defs.specs.Conditions.{AreFixingsOf};
 ghost use Rattle.ice_relaxation.specs.Candidates.{IsFreeAt};
 
-use crate::operations::Rule;
+use crate::number::Number;
+use crate::operation::Work;
 use crate::relaxation::Relaxation;
 use arrayvec::ArrayVec;
 use ice_best::{Fixings, Mark};
@@ -111,21 +112,19 @@ fn rank_tree(relaxation: &Relaxation, bidder: u8, ranking: &mut Ranking)
 {
     let tree = &relaxation.trees[usize::from(bidder)];
     for number in 0..tree.len() {
-        let operation = tree.of(number);
-        if operation.rule == Rule::Row {
-            continue;
-        }
-        for place in operation.offered..operation.end {
-            rank_node(relaxation, bidder, tree.operand(place), ranking);
+        if let Work::Choice(choice) = tree.of(Number::new(number)).work {
+            for place in choice.offered..choice.end {
+                rank_node(relaxation, bidder, tree.operand(place), ranking);
+            }
         }
     }
-    if tree.is_optional() {
-        rank_node(relaxation, bidder, tree.len().saturating_sub(1), ranking);
+    if let Some(root) = tree.optional_root() {
+        rank_node(relaxation, bidder, root, ranking);
     }
 }
 
 /// Ranks the node of an operation.
-fn rank_node(relaxation: &Relaxation, bidder: u8, number: u8, ranking: &mut Ranking)
+fn rank_node(relaxation: &Relaxation, bidder: u8, number: Number, ranking: &mut Ranking)
     requires { bidder < relaxation.now }
 {
     let operation = relaxation.trees[usize::from(bidder)].of(number);

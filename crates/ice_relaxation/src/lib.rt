@@ -4,10 +4,15 @@
 #![tactic(auto)]
 
 mod candidates;
+mod number;
 mod openness;
+mod operation;
 mod operations;
+mod outcome;
+mod plan;
 mod profile;
 mod relaxation;
+mod taking;
 
 pub use candidates::{Candidate, Candidates, pick};
 pub use profile::Profile;

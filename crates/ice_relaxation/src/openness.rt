@@ -2,11 +2,11 @@
 ghost use Rattle.std.specs.Prelude.{◌≡◌, ◌<◌, ◌≤◌, length};
 
 use ice_best::{Fixing, Mark};
-use ice_tree::{NodeKind, Tree, Weights};
+use ice_tree::{Tree, Weights};
 
 /// What is open among the children of a node, where it is inside.
 #[derive(Clone, Copy, Debug, PartialEq, Eq)]
-pub(crate) enum Choice {
+pub(crate) enum OpenChildren {
     /// None but the forced children may be inside.
     None,
     /// All children that may be inside must be.
@@ -21,7 +21,7 @@ pub(crate) struct Open {
     /// What it is worth, with all that it brings along.
     pub(crate) worth: i128,
     /// What is open among its children.
-    pub(crate) choice: Choice,
+    pub(crate) children: OpenChildren,
     /// So many children must be inside beside the forced ones ..
     pub(crate) need: u16,
     /// .. and so many may be.
@@ -43,7 +43,7 @@ impl Open {
     fn closed() -> Open {
         Open {
             worth: 0,
-            choice: Choice::None,
+            children: OpenChildren::None,
             need: 0,
             room: 0,
             last: 0,
@@ -52,6 +52,11 @@ impl Open {
             is_reached: false,
             is_whole: false,
         }
+    }
+
+    /// Whether a child that may be inside comes along with the node.
+    pub(crate) fn brings(&self, child: &Open) -> bool {
+        child.is_forced || self.children == OpenChildren::All
     }
 }
 
@@ -62,13 +67,13 @@ pub(crate) struct Openness {
 }
 
 /// What is open among children of whom so many may be inside beside the forced ones.
-fn choice_of(need: u16, room: u16, offered: u16) -> Choice {
+fn open_children(need: u16, room: u16, offered: u16) -> OpenChildren {
     if offered == 0 || room == 0 {
-        Choice::None
+        OpenChildren::None
     } else if offered == need {
-        Choice::All
+        OpenChildren::All
     } else {
-        Choice::Some
+        OpenChildren::Some
     }
 }
 
@@ -138,7 +143,7 @@ impl Openness {
         open.is_live = open.is_live && taken <= most && least <= all;
         open.need = least.saturating_sub(taken);
         open.room = most.saturating_sub(taken);
-        open.choice = choice_of(open.need, open.room, offered);
+        open.children = open_children(open.need, open.room, offered);
         self.nodes[usize::from(node)] = open;
     }
 
@@ -153,7 +158,8 @@ impl Openness {
         }
         for &number in tree.children(node) {
             let child = &mut self.nodes[usize::from(number)];
-            child.is_reached = child.is_forced || child.is_live && open.choice != Choice::None;
+            child.is_reached = child.is_forced
+                || child.is_live && open.children != OpenChildren::None;
         }
     }
 
@@ -164,7 +170,7 @@ impl Openness {
     {
         let mut open = self.nodes[usize::from(node)];
         let mut worth = weight;
-        open.is_whole = open.choice != Choice::Some;
+        open.is_whole = open.children != OpenChildren::Some;
         for &number in tree.children(node) {
             let child = self.nodes[usize::from(number)];
             if child.is_reached {

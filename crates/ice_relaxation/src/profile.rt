@@ -1,6 +1,6 @@
 //! What the trees that may buy or sell one good add together, as its multiplier alone moves.
 
-use crate::operations::{Operations, Rule};
+use crate::operations::Operations;
 
 /// So many rows are told at most.
 const MOST_LINES: u8 = 255;
@@ -14,14 +14,24 @@ pub(crate) struct Line {
     pub(crate) units: i64,
 }
 
-/// What a tree adds, as the multiplier moves: its fixed part and, as the rule says, the best of its
-/// rows that may be taken, or all of these that add value.
+/// Which of a tree's rows that may be taken add to what it does.
+#[derive(Clone, Copy, PartialEq, Eq)]
+pub(crate) enum Offers {
+    /// The best one.
+    Best,
+    /// Each that adds value.
+    Gains,
+}
+
+/// What a tree adds, as the multiplier moves: its fixed part and what its rows add that may be
+/// taken.
 #[derive(Clone, Copy)]
 pub(crate) struct Share {
-    pub(crate) fixed: Line,
-    pub(crate) rule: Rule,
-    pub(crate) is_optional: bool,
-    /// What the rows without the good add by the rule.
+    fixed: Line,
+    offers: Offers,
+    /// Whether the tree may add nothing.
+    is_optional: bool,
+    /// What those rows add together that don't have the good, or none.
     pub(crate) rest: i64,
     /// Where its rows that have the good begin, and where they end.
     first: u8,
@@ -52,13 +62,14 @@ impl Line {
 }
 
 impl Share {
-    /// That of a tree with this fixed part, and no row yet that may be taken.
-    pub(crate) fn new(fixed: Line, rule: Rule, is_optional: bool) -> Share {
+    /// That of a tree with this fixed part, and no row yet that may be taken; none of them adds
+    /// this.
+    pub(crate) fn new(fixed: Line, offers: Offers, none: i64, is_optional: bool) -> Share {
         Share {
             fixed,
-            rule,
+            offers,
             is_optional,
-            rest: if rule == Rule::Best { i64::MIN } else { 0 },
+            rest: none,
             first: 0,
             end: 0,
         }
@@ -66,7 +77,7 @@ impl Share {
 
     /// What a row that may be taken adds to what others add.
     pub(crate) fn with(&self, others: i64, value: i64) -> i64 {
-        if self.rule == Rule::Each {
+        if self.offers == Offers::Gains {
             others.wrapping_add(value.max(0))
         } else {
             others.max(value)
@@ -83,7 +94,7 @@ impl Profile {
             good: 0,
             lines: [none; 256],
             line_count: 0,
-            shares: [Share::new(none, Rule::Bound, false); 64],
+            shares: [Share::new(none, Offers::Best, 0, false); 64],
             share_count: 0,
             others: 0,
         }
@@ -111,7 +122,7 @@ impl Profile {
     /// that tree.
     pub(crate) fn add_line(&mut self, line: Line) {
         self.lines[usize::from(self.line_count)] = line;
-        self.line_count = self.line_count.saturating_add(1).min(MOST_LINES);
+        self.line_count = self.line_count.saturating_add(1);
     }
 
     /// Adds a tree, whose rows that have the good are told since the last one.
@@ -135,7 +146,9 @@ impl Profile {
         {
             return false;
         }
-        let share = tree.share(self.good, self);
+        let Some(share) = tree.share(self.good, self) else {
+            return false;
+        };
         self.add_share(share, first);
         true
     }

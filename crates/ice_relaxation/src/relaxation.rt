@@ -2,8 +2,10 @@
 ghost use Rattle.std.specs.Prelude.{◌≡◌, ◌<◌, ◌≤◌, length, IfOk};
 ghost use Rattle.ice_defs.specs.Conditions.{AreWeightsOf, AreFixingsOf};
 
+use crate::number::Number;
 use crate::openness::Openness;
-use crate::operations::{Operations, bit_of};
+use crate::operation::bit_of;
+use crate::operations::Operations;
 use crate::profile::Profile;
 use ice_best::{Fixings, Mark};
 use ice_tree::{AllWeights, Tree};
@@ -257,10 +259,10 @@ impl Relaxation {
 
     /// How near the operation's node was to being taken half of the time: the count of the times
     /// that it was taken, or of those that it wasn't, whichever is less.
-    pub(crate) fn halfness(&self, bidder: u8, number: u8) -> u32
+    pub(crate) fn halfness(&self, bidder: u8, number: Number) -> u32
         requires { bidder < self.now }
     {
-        let count = self.trees[usize::from(bidder)].counts[usize::from(number)];
+        let count = self.trees[usize::from(bidder)].count_of(number);
         count.min(self.weight.saturating_sub(count))
     }
 }

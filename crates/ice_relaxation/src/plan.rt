@@ -1,0 +1,293 @@
+//! The operations of a tree, and how they are built from what its marks leave open.
+ghost use Rattle.std.specs.Prelude.{◌<◌, ◌≤◌, length};
+
+use crate::number::{Number, NumberSet};
+use crate::openness::{Open, OpenChildren, Openness};
+use crate::operation::{Above, Choice, Leaf, Operation, Row, Rule, Work, bit_of};
+use ice_tree::{NodeKind, Tree};
+
+/// The operations of one tree under its marks, the rows first, and each choice after its operands.
+/// Numbers of operations and places of operands and leaves all fit in a byte, since a tree has at
+/// most 200 nodes; this spares the tests whether they are in range.
+#[derive(Clone, Copy)]
+pub(crate) struct Plan {
+    list: [Operation; 256],
+    count: u8,
+    /// How many of them are rows.
+    rows: u8,
+    /// For each good, the rows that have it.
+    rows_of: [NumberSet; 32],
+    operands: [Number; 256],
+    operand_count: u8,
+    leaves: [Leaf; 256],
+    leaf_count: u8,
+    /// Whether the root must be inside.
+    is_forced: bool,
+}
+
+/// A number in 64ths that steps can be reckoned with.
+fn in_64ths(worth: i128) -> i64 {
+    let most = 1 << 60;
+    worth.saturating_mul(64).clamp(-most, most) as i64
+}
+
+/// How a node takes some of so many offered children.
+fn rule_of(open: &Open, offered: u8) -> Rule {
+    match (open.need, open.room) {
+        _ if open.children != OpenChildren::Some => Rule::Bound,
+        (0, 1) => Rule::BestGain,
+        (1, 1) => Rule::Best,
+        (0, room) if room >= u16::from(offered) => Rule::Each,
+        (need, room) => several(need, room, offered),
+    }
+}
+
+/// The rule that takes several of so many. No more are needed, or have room, than are offered.
+fn several(need: u16, room: u16, offered: u8) -> Rule {
+    let most = u16::from(offered);
+    Rule::Several {
+        need: need.min(most) as u8,
+        room: room.min(most) as u8,
+    }
+}
+
+impl Plan {
+    /// That of no tree yet.
+    pub(crate) fn new() -> Plan {
+        Plan {
+            list: [Operation::BLANK; 256],
+            count: 0,
+            rows: 0,
+            rows_of: [NumberSet::EMPTY; 32],
+            operands: [Number::FIRST; 256],
+            operand_count: 0,
+            leaves: [Leaf::BLANK; 256],
+            leaf_count: 0,
+            is_forced: false,
+        }
+    }
+
+    /// Makes it that of a tree of which this is open.
+    pub(crate) fn fill(&mut self, tree: &Tree, openness: &Openness) {
+        self.count = 0;
+        self.operand_count = 0;
+        self.leaf_count = 0;
+        self.is_forced = openness.of(0).is_forced;
+        self.rows_of = [NumberSet::EMPTY; 32];
+        let mut numbers = [Number::FIRST; 200];
+        self.add_rows(tree, openness, &mut numbers);
+        self.rows = self.count;
+        self.add_choices(tree, openness, &mut numbers);
+    }
+
+    /// Adds the rows, and notes the number of each one's node.
+    fn add_rows(&mut self, tree: &Tree, openness: &Openness, numbers: &mut [Number; 200]) {
+        for node in (0..tree.nodes()).rev() {
+            let open = openness.of(node);
+            if open.is_reached && open.is_whole && !openness.is_bound(tree, node) {
+                let row = self.row(tree, openness, node);
+                numbers[usize::from(node)] = self.add(row);
+            }
+        }
+    }
+
+    /// Adds the choices, and notes the number of each one's node.
+    fn add_choices(&mut self, tree: &Tree, openness: &Openness, numbers: &mut [Number; 200]) {
+        for node in (0..tree.nodes()).rev() {
+            let open = openness.of(node);
+            if open.is_reached && !open.is_whole {
+                let choice = self.choice(tree, openness, node, numbers);
+                numbers[usize::from(node)] = self.add(choice);
+            }
+        }
+    }
+
+    /// Adds an operation. Its number.
+    fn add(&mut self, operation: Operation) -> Number {
+        let number = self.next();
+        self.list[number.place()] = operation;
+        self.count = self.count.saturating_add(1);
+        number
+    }
+
+    /// The number of the operation that is added next.
+    fn next(&self) -> Number {
+        Number::new(self.count)
+    }
+
+    /// The row of a node that brings the same leaves along each time.
+    fn row(&mut self, tree: &Tree, openness: &Openness, node: u16) -> Operation
+        requires few { length tree.now ≤ 200 }
+        requires node { node < length tree.now }
+    {
+        let open = openness.of(node);
+        let first = self.leaf_count;
+        let mut goods = 0;
+        for below in node..tree.nodes() {
+            if below > open.last {
+                break;
+            }
+            if openness.of(below).is_reached {
+                goods |= self.add_leaf(tree.kind(below));
+            }
+        }
+        self.note_row(goods);
+        let end = self.leaf_count;
+        Operation {
+            weight: in_64ths(open.worth),
+            goods,
+            node: node as u8,
+            work: Work::Row(Row { first, end }),
+            above: Above::Nothing,
+        }
+    }
+
+    /// Adds a leaf to the row that is made. The bit of its good.
+    fn add_leaf(&mut self, kind: NodeKind) -> u32 {
+        let (good, units) = match kind {
+            NodeKind::Choose { .. } => return 0,
+            NodeKind::Buy { good, units } => (good % 32, i32::from(units)),
+            NodeKind::Sell { good, units } => (good % 32, -i32::from(units)),
+        };
+        self.leaves[usize::from(self.leaf_count)] = Leaf { units, good };
+        self.leaf_count = self.leaf_count.saturating_add(1);
+        bit_of(good)
+    }
+
+    /// Notes for each of these goods that the row that is made has it.
+    fn note_row(&mut self, goods: u32) {
+        let row = self.next();
+        let mut left = goods;
+        for _good in 0..goods.count_ones() {
+            let good = left.trailing_zeros() % 32;
+            left &= left.wrapping_sub(1);
+            self.rows_of[good as usize].insert(row);
+        }
+    }
+
+    /// The choice of a node among its children.
+    fn choice(
+        &mut self,
+        tree: &Tree,
+        openness: &Openness,
+        node: u16,
+        numbers: &[Number; 200],
+    ) -> Operation
+        requires few { length tree.now ≤ 200 }
+        requires node { node < length tree.now }
+    {
+        let open = openness.of(node);
+        let along = self.operand_count;
+        self.add_along(tree, openness, node, numbers);
+        let offered = self.operand_count;
+        self.add_offered(tree, openness, node, numbers);
+        let end = self.operand_count;
+        Operation {
+            weight: in_64ths(open.worth),
+            goods: self.goods_of(along, end),
+            node: node as u8,
+            work: Work::Choice(Choice {
+                rule: rule_of(&open, end.saturating_sub(offered)),
+                along,
+                offered,
+                end,
+            }),
+            above: Above::Nothing,
+        }
+    }
+
+    /// Adds the children that come along with a node to the choice that is made.
+    fn add_along(&mut self, tree: &Tree, openness: &Openness, node: u16, numbers: &[Number; 200])
+        requires few { length tree.now ≤ 200 }
+        requires node { node < length tree.now }
+    {
+        let open = openness.of(node);
+        let above = Above::Along(self.next());
+        for &below in tree.children(node) {
+            let child = openness.of(below);
+            if child.is_reached && open.brings(&child) {
+                self.add_operand(numbers[usize::from(below)], above);
+            }
+        }
+    }
+
+    /// Adds the children that a node may take to the choice that is made.
+    fn add_offered(&mut self, tree: &Tree, openness: &Openness, node: u16, numbers: &[Number; 200])
+        requires few { length tree.now ≤ 200 }
+        requires node { node < length tree.now }
+    {
+        let open = openness.of(node);
+        let above = Above::Offered(self.next());
+        for &below in tree.children(node) {
+            let child = openness.of(below);
+            if child.is_reached && !open.brings(&child) {
+                self.add_operand(numbers[usize::from(below)], above);
+            }
+        }
+    }
+
+    /// Adds an operand to the choice that is made, which is above it from now on.
+    fn add_operand(&mut self, operand: Number, above: Above) {
+        self.operands[usize::from(self.operand_count)] = operand;
+        self.operand_count = self.operand_count.saturating_add(1);
+        self.list[operand.place()].above = above;
+    }
+
+    /// The goods of the operands at these places.
+    fn goods_of(&self, first: u8, end: u8) -> u32 {
+        let mut goods = 0;
+        for place in first..end {
+            goods |= self.operation(self.operand(place)).goods;
+        }
+        goods
+    }
+
+    /// How many operations there are.
+    pub(crate) fn len(&self) -> u8 {
+        self.count
+    }
+
+    /// Whether all of them but the root's are rows.
+    pub(crate) fn is_flat(&self) -> bool {
+        u16::from(self.rows) + 1 >= u16::from(self.count)
+    }
+
+    /// Whether the root must be inside.
+    pub(crate) fn is_forced(&self) -> bool {
+        self.is_forced
+    }
+
+    /// The number of the root's operation: the last one. None where there is none.
+    pub(crate) fn root(&self) -> Option<Number> {
+        if self.count == 0 {
+            None
+        } else {
+            Some(Number::new(self.count - 1))
+        }
+    }
+
+    /// An operation.
+    pub(crate) fn operation(&self, number: Number) -> &Operation {
+        &self.list[number.place()]
+    }
+
+    /// The rows that have a good.
+    pub(crate) fn rows_with(&self, good: u8) -> NumberSet {
+        self.rows_of[usize::from(good % 32)]
+    }
+
+    /// An operand.
+    pub(crate) fn operand(&self, place: u8) -> Number {
+        self.operands[usize::from(place)]
+    }
+
+    /// All operands.
+    pub(crate) fn operands(&self) -> &[Number; 256] {
+        &self.operands
+    }
+
+    /// A leaf of a row.
+    pub(crate) fn leaf(&self, place: u8) -> Leaf {
+        self.leaves[usize::from(place)]
+    }
+}
