@@ -1,6 +1,5 @@
 //! A tree under marks as a short list of operations, which work out its greatest net and take the
 //! nodes of it.
-ghost use Rattle.std.specs.Prelude.{◌≡◌, ⊤};
 
 use crate::number::Number;
 use crate::openness::{Openness, mark_of};
@@ -11,11 +10,10 @@ use crate::profile::{Line, Offers, Profile, Share};
 use crate::taking::Counts;
 use ice_best::{Fixing, Mark};
 use ice_tree::Tree;
-use std::alloc::AllocError;
 
 /// The operations of one tree, with what they worked out last and how often each was taken. All of
 /// it is kept small, since a search begins with one for each tree.
-#[derive(Copy)]
+#[derive(Clone, Copy)]
 pub(crate) struct Operations {
     /// The marks that they are of, on so many nodes, and on none before the first look.
     marks: [Mark; 200],
@@ -23,17 +21,6 @@ pub(crate) struct Operations {
     plan: Plan,
     outcome: Outcome,
     counts: Counts,
-}
-
-// By hand, so that all is copied once: a derived one would first copy each part.
-impl Clone for Operations {
-    ghost is_clone = { λ x y. y ≡ x };
-
-    ghost is_infallible = { λ _. ⊤ };
-
-    fn clone(&self) -> Result<Operations, AllocError> {
-        Ok(*self)
-    }
 }
 
 impl Operations {
@@ -145,7 +132,7 @@ impl Operations {
             return false;
         };
         match self.plan.operation(root).work {
-            Work::Row(_row) => true,
+            Work::Row(_) => true,
             Work::Choice(choice) => {
                 self.plan.is_flat() && !matches!(choice.rule, Rule::Several { .. })
             }
@@ -173,7 +160,7 @@ impl Operations {
         for place in choice.offered..choice.end {
             let number = self.plan.operand(place);
             if self.plan.operation(number).goods & bit_of(good) == 0 {
-                share.rest = share.with(share.rest, self.outcome.value(number));
+                share.add_rest(self.outcome.value(number));
             } else {
                 profile.add_line(self.line(number, good));
             }

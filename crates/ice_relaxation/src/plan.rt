@@ -8,7 +8,8 @@ use ice_tree::{NodeKind, Tree};
 
 /// The operations of one tree under its marks, the rows first, and each choice after its operands.
 /// Numbers of operations and places of operands and leaves all fit in a byte, since a tree has at
-/// most 200 nodes; this spares the tests whether they are in range.
+/// most 200 nodes; this spares the tests whether they are in range. So no count is raised past 255,
+/// where it would stop.
 #[derive(Clone, Copy)]
 pub(crate) struct Plan {
     list: [Operation; 256],
@@ -104,14 +105,14 @@ impl Plan {
 
     /// Adds an operation. Its number.
     fn add(&mut self, operation: Operation) -> Number {
-        let number = self.next();
+        let number = self.next_number();
         self.list[number.place()] = operation;
         self.count = self.count.saturating_add(1);
         number
     }
 
     /// The number of the operation that is added next.
-    fn next(&self) -> Number {
+    fn next_number(&self) -> Number {
         Number::new(self.count)
     }
 
@@ -156,7 +157,7 @@ impl Plan {
 
     /// Notes for each of these goods that the row that is made has it.
     fn note_row(&mut self, goods: u32) {
-        let row = self.next();
+        let row = self.next_number();
         let mut left = goods;
         for _good in 0..goods.count_ones() {
             let good = left.trailing_zeros() % 32;
@@ -202,7 +203,7 @@ impl Plan {
         requires node { node < length tree.now }
     {
         let open = openness.of(node);
-        let above = Above::Along(self.next());
+        let above = Above::Along(self.next_number());
         for &below in tree.children(node) {
             let child = openness.of(below);
             if child.is_reached && open.brings(&child) {
@@ -217,7 +218,7 @@ impl Plan {
         requires node { node < length tree.now }
     {
         let open = openness.of(node);
-        let above = Above::Offered(self.next());
+        let above = Above::Offered(self.next_number());
         for &below in tree.children(node) {
             let child = openness.of(below);
             if child.is_reached && !open.brings(&child) {

@@ -32,7 +32,7 @@ pub(crate) struct Share {
     /// Whether the tree may add nothing.
     is_optional: bool,
     /// What those rows add together that don't have the good, or none.
-    pub(crate) rest: i64,
+    rest: i64,
     /// Where its rows that have the good begin, and where they end.
     first: u8,
     end: u8,
@@ -75,8 +75,13 @@ impl Share {
         }
     }
 
+    /// Adds what a row without the good adds that may be taken.
+    pub(crate) fn add_rest(&mut self, value: i64) {
+        self.rest = self.with(self.rest, value);
+    }
+
     /// What a row that may be taken adds to what others add.
-    pub(crate) fn with(&self, others: i64, value: i64) -> i64 {
+    fn with(&self, others: i64, value: i64) -> i64 {
         if self.offers == Offers::Gains {
             others.wrapping_add(value.max(0))
         } else {

@@ -9,9 +9,9 @@ use crate::plan::Plan;
 #[derive(Clone, Copy)]
 pub(crate) struct Counts {
     counts: [u32; 256],
-    /// Operations that are taken and not counted yet, so many ..
+    /// A stack of operations that are taken and not counted yet ..
     waiting: [Number; 256],
-    /// .. as this says.
+    /// .. and how many there are.
     height: u8,
 }
 
@@ -61,7 +61,7 @@ impl Counts {
         self.height = 0;
         self.wait(root);
         for _taken in 0..plan.len() {
-            let Some(number) = self.next() else {
+            let Some(number) = self.pop() else {
                 break;
             };
             let count = &mut self.counts[number.place()];
@@ -80,7 +80,7 @@ impl Counts {
     }
 
     /// The one that waits as the last, which waits no more.
-    fn next(&mut self) -> Option<Number> {
+    fn pop(&mut self) -> Option<Number> {
         if self.height == 0 {
             return None;
         }
