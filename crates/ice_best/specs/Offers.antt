@@ -1,5 +1,6 @@
 -- The children that may be taken next.
-use Rattle.std.specs.Prelude.{ℕ, ◌<◌, ◌≤◌, ◌≡◌, Bool, ◌&&◌, ◌==◌, not, if◌then◌else◌, List, length, slice_index, slice_index_or, sum_by, ℤ, ◌≤ℤ◌, Option, MatchOption}
+use Rattle.std.specs.Prelude.{ℕ, ◌<◌, ◌≤◌, ◌≡◌, Bool, ◌&&◌, ◌==◌, not, if◌then◌else◌, List, length, slice_index, slice_index_or, sum_by, ℤ}
+use Rattle.std.specs.Prelude.{◌≤ℤ◌, Option, MatchOption}
 use Rattle.std.specs.List.{All, Contains}
 use Rattle.ice_best.specs.declared.choice.Offer.{Offer}
 use Rattle.ice_best.specs.Choice.{IsBestLeft, NoneLeft}
@@ -16,7 +17,8 @@ IsOffer gain children o = Contains children o.child × (o.gain ≡ gain o.child)
 pub record AreOffers (gain : ℕ → ℤ) (possible taken : ℕ → Bool) (children : List ℕ) (offers : List Offer) : Type 0 where
   pub each : All (IsOffer gain children) offers
   pub once : (k : ℕ) → k < length children
-      → times_offered (slice_index children k) offers ≡ (if possible (slice_index children k) && not (taken (slice_index children k)) then 1 else 0)
+      → times_offered (slice_index children k) offers
+      ≡ (if possible (slice_index children k) && not (taken (slice_index children k)) then 1 else 0)
 
 -- no offer adds less than one before it
 abbrev pub IsRising : List Offer → Type 0
@@ -31,4 +33,5 @@ pub record IsBestOffer (gain : ℕ → ℤ) (possible taken : ℕ → Bool) (chi
 
 -- the best offer of the first n children, or None where none of them is left
 abbrev pub IsBestOf : (ℕ → ℤ) → (ℕ → Bool) → (ℕ → Bool) → List ℕ → ℕ → Option Offer → Type 0
-IsBestOf gain possible taken children n best = MatchOption best (NoneLeft possible taken children n) (IsBestOffer gain possible taken children n)
+IsBestOf gain possible taken children n best =
+    MatchOption best (NoneLeft possible taken children n) (IsBestOffer gain possible taken children n)

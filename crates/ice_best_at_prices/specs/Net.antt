@@ -6,7 +6,8 @@ use Rattle.ice_defs.specs.Prices.{Prices}
 use Rattle.ice_defs.specs.Rules.{net_at}
 pub use Rattle.ice_best.specs.Nets.{AreAtMostTrillion}
 
--- a satisfied set has this net, times the prices' denominator, at weights that are so many times the values, and none has a greater one
+-- a satisfied set has this net, times the prices' denominator, at weights
+-- that are so many times the values, and none has a greater one
 pub record IsBestAtPrices (t : Tree) (w : Weights) (times : ℕ) (p : Prices) (s : NodeSet) (net : ℤ) : Type 0 where
   pub satisfied : IsSatisfied t s
   pub has : net_at t p times w s ≡ net

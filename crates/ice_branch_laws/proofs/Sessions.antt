@@ -1,4 +1,5 @@
--- The searches of a session, settlement by settlement: where one is spent, there were fewer branches than all could use.
+-- The searches of a session, settlement by settlement: where one
+-- is spent, there were fewer branches than all could use.
 use Rattle.std.proofs.Common.{ℕ, suc, ◌+◌, ◌*◌, ◌^◌, ◌<◌, ◌≤◌, ◌≡◌, List, [], ◌∷◌, length, ℤ, arith}
 use Rattle.std.proofs.Math.Nat.{mul-le-mul_left}
 use Rattle.std.proofs.lemmas.List.{length-map}

@@ -21,7 +21,8 @@ use Rattle.ice_branch_laws.specs.Branches.{node_total, enough_for_session, enoug
 
 -- a log that passes from the start of a group has fewer branch steps than 2 to the number of nodes
 abbrev pub GroupLogIsShort : Type 0
-GroupLogIsShort = (ex : Exchange) (ws : List Weights) (target : ℤ) (g : Group) (log : List Step) → Passes (trees_of ex) (exact_of ex) ws target (start_of (trees_of ex) g) log → branch_count log < 2 ^ node_total ex
+GroupLogIsShort = (ex : Exchange) (ws : List Weights) (target : ℤ) (g : Group) (log : List Step)
+    → Passes (trees_of ex) (exact_of ex) ws target (start_of (trees_of ex) g) log → branch_count log < 2 ^ node_total ex
 
 -- the first of a regret's two searches is spent, or the second
 abbrev pub FinalIsSpent : Exchange → List Bounds → Type 0
@@ -29,12 +30,15 @@ FinalIsSpent ex bounds = (spent : Spent) × IsSpentBy (lower_search ex bounds) e
 
 abbrev pub RivalIsSpent : Exchange → List Bounds → Type 0
 RivalIsSpent ex bounds =
-    (left : ℕ) × (final : Found) × (spent : Spent) × IsFoundBy (lower_search ex bounds) final × (left + branch_count final.log ≡ ex.settings.branches) × IsSpentBy (rival_search ex bounds final.best) left spent
+    (left : ℕ) × (final : Found) × (spent : Spent) × IsFoundBy (lower_search ex bounds) final
+    × (left + branch_count final.log ≡ ex.settings.branches) × IsSpentBy (rival_search ex bounds final.best) left spent
 
 abbrev pub SpentRegretHasFew : Type 0
-SpentRegretHasFew = (ex : Exchange) (bounds : List Bounds) → FinalIsSpent ex bounds ⊎ RivalIsSpent ex bounds → ex.settings.branches < enough_for_regret ex
+SpentRegretHasFew = (ex : Exchange) (bounds : List Bounds) → FinalIsSpent ex bounds ⊎ RivalIsSpent ex bounds
+    → ex.settings.branches < enough_for_regret ex
 
 abbrev pub SpentSessionHasFew : Type 0
 SpentSessionHasFew =
-    (going : List Going) (s : SessionAt) (best : Option Found) (regret : Option Regret) (provisional : Option Found) (ms : List Marginal) (spent : Spent) → IsRunning going s → IsSpentAt s best regret provisional ms spent
+    (going : List Going) (s : SessionAt) (best : Option Found) (regret : Option Regret) (provisional : Option Found) (ms : List Marginal)
+    (spent : Spent) → IsRunning going s → IsSpentAt s best regret provisional ms spent
     → s.exchange.settings.branches < enough_for_session s.exchange

@@ -5,7 +5,8 @@ use Rattle.ice_defs.specs.Set.{NodeSet, IsSatisfied, Weights}
 use Rattle.ice_defs.specs.Prices.{Prices}
 use Rattle.ice_defs.specs.Rules.{net_at}
 
--- a set's net above that of the bidder's own one, at weighted values and times the prices' denominator, in hundredths
+-- a set's net above that of the bidder's own one, at weighted
+-- values and times the prices' denominator, in hundredths
 abbrev pub excess_over : Tree → Weights → Prices → NodeSet → NodeSet → ℤ
 excess_over t w p own s = net_at t p 100 w s -ℤ net_at t p 100 w own
 

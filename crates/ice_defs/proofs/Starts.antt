@@ -1,4 +1,5 @@
--- The marks that searches begin with: all nodes free, but for the root of a bidder that is left out.
+-- The marks that searches begin with: all nodes free, but
+-- for the root of a bidder that is left out.
 use Rattle.std.proofs.Common.{ℕ, zero, suc, ◌≡◌, ◌<◌, Bool, true, false, List, [], ◌∷◌, length, replicate, refl, sym, ◌∙◌, ap, subst, arith, ◌⊎◌, inl, inr}
 use Rattle.std.specs.Prelude.{slice_set}
 use Rattle.std.proofs.lemmas.Bool.{cases_eq, true≢false}

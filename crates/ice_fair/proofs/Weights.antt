@@ -1,4 +1,5 @@
--- How much the rows of a limited certificate weigh, and that limits of fair certificates are stricter than those of prices.
+-- How much the rows of a limited certificate weigh, and that limits
+-- of fair certificates are stricter than those of prices.
 use Rattle.std.proofs.Common.{ℕ, ◌≡◌, ◌≤◌, ◌*◌, ◌^◌, List, [], ◌∷◌, length, sum_by, ℤ, arith}
 use Rattle.std.specs.List.{AllByRecursion}
 use Rattle.std.proofs.lemmas.Int.{ints}

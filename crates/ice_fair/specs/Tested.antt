@@ -8,7 +8,8 @@ use Rattle.ice_fair_laws.specs.Fair.{PaidTrade, FairCertificate, IsDistance, Has
 use Rattle.ice_fair_laws.specs.Whole.{IsEven}
 use Rattle.ice_fair_laws.specs.Laws.{violation_of}
 
--- a denominator from 1 to 2^24, two numbers a bidder and at most 200 rows of weights, all at most 2^24
+-- a denominator from 1 to 2^24, two numbers a bidder and
+-- at most 200 rows of weights, all at most 2^24
 pub record IsFairLimited (bidders : ℕ) (c : FairCertificate) : Type 0 where
   pub positive : 0 < c.den
   pub den_fits : c.den ≤ 2 ^ 24
@@ -19,7 +20,8 @@ pub record IsFairLimited (bidders : ℕ) (c : FairCertificate) : Type 0 where
   pub few : length c.rows ≤ 200
   pub weights_fit : AllByRecursion (λ row. row.weight ≤ 2 ^ 24) c.rows
 
-pub record PassesFairTests (t : PaidTrade) (p : Prices) (violation : ℤ) (accuracy : Certificate) (distance : Fraction) (c : FairCertificate) : Type 0 where
+pub record PassesFairTests (t : PaidTrade) (p : Prices) (violation : ℤ) (accuracy : Certificate) (distance : Fraction)
+    (c : FairCertificate) : Type 0 where
   pub within : ArePrices t.goods t.cap p
   pub lowest : ¬ HasCommonDivisor p
   pub violates : HasViolationOf t p violation

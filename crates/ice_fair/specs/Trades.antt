@@ -53,5 +53,6 @@ paid_of low high nums = sum_below (λ b. held_by low high b *ℤ num_at nums b) 
 
 -- the equality of the fairness test, of sums, times both denominators
 abbrev pub SumsAreEven : ProvisionalTrade → ℕ → List ℤ → ℕ → List ℕ → List ℕ → Prices → ℤ → ℤ → RowSums → Type 0
-SumsAreEven t cut nums den low high p x g s = ((pos cut *ℤ (pos p.den *ℤ (t.cap *ℤ asked_by t low high s))) +ℤ (pos cut *ℤ (x *ℤ pos s.weight)))
+SumsAreEven t cut nums den low high p x g s =
+    ((pos cut *ℤ (pos p.den *ℤ (t.cap *ℤ asked_by t low high s))) +ℤ (pos cut *ℤ (x *ℤ pos s.weight)))
     ≡ (((pos p.den *ℤ paid_of low high nums) +ℤ (pos cut *ℤ (pos p.den *ℤ s.worth))) -ℤ (pos den *ℤ g))

@@ -1,4 +1,5 @@
--- What the held numbers say of prices: their payments less their units' cost are at most the distance for each.
+-- What the held numbers say of prices: their payments less
+-- their units' cost are at most the distance for each.
 use Rattle.std.proofs.Common.{ℕ, zero, suc, ◌*◌, ◌<◌, ◌≤◌, ◌≡◌, List, [], ◌∷◌, length, slice_index_or, sum_by, ℤ, pos, neg_ℤ, ◌+ℤ◌, ◌-ℤ◌, ◌*ℤ◌, ◌≤ℤ◌, refl, arith, ap, sym, subst, ◌∙◌}
 use Rattle.std.proofs.lemmas.Int.{ints}
 use Rattle.std.proofs.lemmas.List.Sums.{sum_by-cons}
@@ -125,7 +126,8 @@ module _ (t : PaidTrade) (c : FairCertificate) where
               *ℤ_comm m (pos h),
             )
 
-    -- all together: the held payments less what their units cost are at most the distance for each part of the denominator
+    -- all together: the held payments less what their units cost are
+    -- at most the distance for each part of the denominator
     pub held-most : (n : ℕ) (a : ℕ → ℤ) (e : Fraction) → 0 < n → 0 < q.den → 0 < e.den → 0 < count → length t.payments ≡ count → AreOver n a t.payments
         → length c.low ≡ count → length c.high ≡ count → total_held c ≤ c.den → Covers t q e
         → (pos e.den *ℤ ((pos q.den *ℤ sum_below (λ b. held c b *ℤ a b) count) -ℤ (pos n *ℤ cost_of q (held_units t c)))) ≤ℤ (pos c.den *ℤ (e.num *ℤ pos (n * q.den)))

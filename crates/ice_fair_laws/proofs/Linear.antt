@@ -53,7 +53,8 @@ held-le m k n e d h c v size hk rest held =
     right : pos m *ℤ (pos d *ℤ (size *ℤ pos (n * k))) ≡ pos k *ℤ (pos d *ℤ (size *ℤ pos (n * m)))
     right = rw (is_diff size) (simp (diffs, diff_pos) (diff_same _ _ _ _ (omega arith)))
 
--- two distances: one that is equal to the held payments with the rest, and one that is at least them
+-- two distances: one that is equal to the held payments
+-- with the rest, and one that is at least them
 distance-le : (m n e f d : ℕ) (z least size : ℤ) → 0 < d → 0 < n → 0 < m → pos d *ℤ (least *ℤ pos (n * m)) ≡ pos f *ℤ z → (pos e *ℤ z) ≤ℤ (pos d *ℤ (size *ℤ pos (n * m)))
     → (least *ℤ pos e) ≤ℤ (size *ℤ pos f)
 distance-le m n e f d z least size hd hn hm equal most =

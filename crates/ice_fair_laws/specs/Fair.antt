@@ -1,4 +1,5 @@
--- Fair prices of a closed session: accurate at low bounds, and as near to the payments as such prices come.
+-- Fair prices of a closed session: accurate at low bounds, and
+-- as near to the payments as such prices come.
 use Rattle.std.specs.Prelude.{ℕ, zero, suc, ◌+◌, ◌<◌, ◌≤◌, ◌≡◌, List, length, map, slice_index_or, sum_by, ℤ, pos, ◌+ℤ◌, ◌-ℤ◌, ◌*ℤ◌}
 use Rattle.std.specs.Int.{int_max}
 use Rattle.std.specs.List.{AllByRecursion}
@@ -95,9 +96,12 @@ module _ (t : PaidTrade) (c : FairCertificate) where
 
   -- the rows' worth above the violation
   abbrev pub rows_above : Fraction → Fraction
-  rows_above violation = less (whole (weighted_sum (worth_above t.trees t.weights t.sets) c.rows)) (times (whole (weighted_sum (λ row. pos 1) c.rows)) violation)
+  rows_above violation =
+      less (whole (weighted_sum (worth_above t.trees t.weights t.sets) c.rows))
+      (times (whole (weighted_sum (λ row. pos 1) c.rows)) violation)
 
-  -- no prices within the cap whose violation is at most this come nearer to the payments than this distance
+  -- no prices within the cap whose violation is at most
+  -- this come nearer to the payments than this distance
   pub record PassesFairness (violation distance : Fraction) : Type 0 where
     pub proper : 0 < c.den
     pub low_count : length c.low ≡ length t.trees

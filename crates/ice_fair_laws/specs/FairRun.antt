@@ -1,12 +1,14 @@
 -- The fairness stage: its program over a pool, its states, and the limits at which it may end.
-use Rattle.std.specs.Prelude.{ℕ, suc, ◌*◌, ◌<◌, ◌≤◌, ◌≡◌, ◌⊎◌, ◌^◌, List, [], ◌∷◌, ◌++◌, length, map, drop, take, Any, ℤ, pos, neg_ℤ, ◌-ℤ◌, ◌*ℤ◌, ◌<ℤ◌, Option, Some}
+use Rattle.std.specs.Prelude.{ℕ, suc, ◌*◌, ◌<◌, ◌≤◌, ◌≡◌, ◌⊎◌, ◌^◌, List, [], ◌∷◌, ◌++◌, length, map, drop, take, Any, ℤ, pos, neg_ℤ, ◌-ℤ◌}
+use Rattle.std.specs.Prelude.{◌*ℤ◌, ◌<ℤ◌, Option, Some}
 use Rattle.std.specs.List.{flat_map}
 use Rattle.ice_defs.specs.Sum.{numbers_below}
 use Rattle.ice_defs.specs.Fraction.{Fraction, fraction_at}
 use Rattle.ice_defs.specs.Program.{Constraint, Program}
 use Rattle.ice_defs.specs.Trace.{wide_end, pivots_end, trace_end}
 use Rattle.ice_defs.specs.PricingLimit.{fairness_stage, LimitKind, wide_limit, pivots_limit, rows_limit, den_limit}
-use Rattle.ice_defs.specs.PricingRun.{Member, StageAt, only_at, common_den, num_over, worth_above, units_above, point_at, duals_at, solution_prices, Violates, IsBestSet, HasNoneToAdd}
+use Rattle.ice_defs.specs.PricingRun.{Member, StageAt, only_at, common_den, num_over, worth_above, units_above, point_at, duals_at}
+use Rattle.ice_defs.specs.PricingRun.{solution_prices, Violates, IsBestSet, HasNoneToAdd}
 use Rattle.ice_pricing_laws.specs.Weights.{weights_of_duals}
 use Rattle.ice_fair_laws.specs.Fair.{PaidTrade, own_units}
 
@@ -44,7 +46,8 @@ module _ (t : PaidTrade) (cut_den : ℕ) (delta : ℤ) (den : ℕ) where
     least = (pos den *ℤ worth_above t.trees t.weights t.sets t.goods t.cap m) -ℤ delta;
   }
 
-  -- no price is above the cap, and no member's excess above delta over den; the distance is made least
+  -- no price is above the cap, and no member's excess
+  -- above delta over den; the distance is made least
   abbrev pub fairness_program : List Member → Program
   fairness_program pool = record {
     costs = only_at (suc t.goods) t.goods (pos 1);
@@ -68,11 +71,13 @@ module _ (t : PaidTrade) (cut_den : ℕ) (delta : ℤ) (den : ℕ) where
   abbrev pub fair_prices_den : List Fraction → ℕ
   fair_prices_den x = (solution_prices t.trees t.weights t.sets t.goods t.cap x).den
 
-  -- a member may follow a pool: its bidder is the first with a set to add, and it is a best set of that bidder
+  -- a member may follow a pool: its bidder is the first with a
+  -- set to add, and it is a best set of that bidder
   pub record MayFollowFair (pool : List Member) (m : Member) : Type 0 where
     pub room : length pool < 200
     pub solved : (x : List Fraction) × (fair_solution pool ≡ Some x) × (fair_prices_den x ≤ 2 ^ 32)
-        × ViolatesFair x m × IsBestSet t.trees t.weights t.sets t.goods t.cap x m × ((other : Member) → other.bidder < m.bidder → ¬ ViolatesFair x other)
+        × ViolatesFair x m × IsBestSet t.trees t.weights t.sets t.goods t.cap x m
+        × ((other : Member) → other.bidder < m.bidder → ¬ ViolatesFair x other)
 
   -- the pools at the start of a turn
   pub data IsFairPool : List Member → Type 0 where
@@ -94,7 +99,8 @@ module _ (t : PaidTrade) (cut_den : ℕ) (delta : ℤ) (den : ℕ) where
 
   -- the certificate's denominator or one of its numbers is above 2^24
   abbrev pub IsFairTooLarge : List Member → Type 0
-  IsFairTooLarge pool = (2 ^ 24 < common_den (fair_weights pool)) ⊎ Any (λ w. pos (2 ^ 24) <ℤ num_over (common_den (fair_weights pool)) w) (fair_weights pool)
+  IsFairTooLarge pool = (2 ^ 24 < common_den (fair_weights pool))
+      ⊎ Any (λ w. pos (2 ^ 24) <ℤ num_over (common_den (fair_weights pool)) w) (fair_weights pool)
 
   -- ---- limits
 
@@ -102,8 +108,10 @@ module _ (t : PaidTrade) (cut_den : ℕ) (delta : ℤ) (den : ℕ) where
   abbrev pub IsAtFairLimit : LimitKind → List Member → Type 0
   IsAtFairLimit wide_limit pool = trace_end (fairness_program pool) ≡ wide_end
   IsAtFairLimit pivots_limit pool = trace_end (fairness_program pool) ≡ pivots_end
-  IsAtFairLimit rows_limit pool = (200 ≤ length pool) × (x : List Fraction) × (m : Member) × (fair_solution pool ≡ Some x) × ViolatesFair x m
-  IsAtFairLimit den_limit pool = (x : List Fraction) × (fair_solution pool ≡ Some x) × ((2 ^ 32 < fair_prices_den x) ⊎ (HasNoneForFair x × IsFairTooLarge pool))
+  IsAtFairLimit rows_limit pool = (200 ≤ length pool) × (x : List Fraction) × (m : Member) × (fair_solution pool ≡ Some x)
+      × ViolatesFair x m
+  IsAtFairLimit den_limit pool = (x : List Fraction) × (fair_solution pool ≡ Some x)
+      × ((2 ^ 32 < fair_prices_den x) ⊎ (HasNoneForFair x × IsFairTooLarge pool))
 
   pub record EndsAtFairLimit (kind : LimitKind) (pool : List Member) : Type 0 where
     pub turn : IsFairPool pool

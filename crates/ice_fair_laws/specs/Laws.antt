@@ -17,7 +17,8 @@ pub record IsPaidTrade (t : PaidTrade) : Type 0 where
 abbrev pub violation_of : Prices → ℤ → Fraction
 violation_of p x = record { num = x; den = p.den }
 
--- where the certificate passes the fairness test, no accurate prices have a smaller distance than the tested one
+-- where the certificate passes the fairness test, no accurate
+-- prices have a smaller distance than the tested one
 abbrev pub TestGivesLeast : Type 0
 TestGivesLeast = (t : PaidTrade) (p : Prices) (x : ℤ) (d : Fraction) (c : FairCertificate)
     → IsPaidTrade t → ArePrices t.goods t.cap p → HasViolationOf t p x → IsFraction d → PassesFairness t c (violation_of p x) d

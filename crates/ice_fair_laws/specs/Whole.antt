@@ -47,7 +47,8 @@ rows_weight c = weighted_sum (λ row. pos 1) c.rows
 abbrev pub rows_worth : PaidTrade → FairCertificate → ℤ
 rows_worth t c = weighted_sum (worth_above t.trees t.weights t.sets) c.rows
 
--- the equality of the test, times both denominators: what is asked for at the cap and what the rows weigh at the violation stand on one side, and neither is below 0
+-- the equality of the test, times both denominators: what is asked for at the cap and
+-- what the rows weigh at the violation stand on one side, and neither is below 0
 abbrev pub IsEven : PaidTrade → FairCertificate → Prices → ℤ → ℕ → (ℕ → ℤ) → ℤ → Type 0
 IsEven t c p x n a g = ((pos n *ℤ (pos p.den *ℤ (t.cap *ℤ asked t c))) +ℤ (pos n *ℤ (x *ℤ rows_weight c)))
     ≡ (((pos p.den *ℤ held_sum t c a) +ℤ (pos n *ℤ (pos p.den *ℤ rows_worth t c))) -ℤ (pos c.den *ℤ g))
@@ -57,7 +58,8 @@ abbrev pub TestIsWhole : Type 0
 TestIsWhole = (t : PaidTrade) (c : FairCertificate) (p : Prices) (x : ℤ) (n : ℕ) (a : ℕ → ℤ) (g : ℤ) (d : Fraction)
     → IsPaidTrade t → 0 < p.den → ArePaidOver t n a → IsFraction d → Equals d (record { num = g; den = n * p.den })
     → (PassesFairness t c (violation_of p x) d → IsEven t c p x n a g)
-    × (0 < c.den → length c.low ≡ length t.trees → length c.high ≡ length t.trees → AllByRecursion (IsRow t.trees t.weights t.sets) c.rows → total_held c ≤ c.den
+    × (0 < c.den → length c.low ≡ length t.trees → length c.high ≡ length t.trees → AllByRecursion (IsRow t.trees t.weights t.sets) c.rows
+    → total_held c ≤ c.den
     → IsEven t c p x n a g → PassesFairness t c (violation_of p x) d)
 
 -- what is asked for is never below 0
@@ -71,7 +73,10 @@ HeldIsSized = (t : PaidTrade) (c : FairCertificate) (f : ℕ → ℤ) (m : ℕ) 
 
 -- ---- how large a violation is
 
--- prices whose rows pass the accuracy test have a violation of at most m for each part of their denominator, where no row's worth is above m
+-- prices whose rows pass the accuracy test have a violation of at most m
+-- for each part of their denominator, where no row's worth is above m
 abbrev pub CertifiedIsSmall : Type 0
-CertifiedIsSmall = (ts : List Tree) (ws : List Weights) (sets : Assignment) (goods : ℕ) (cap : ℤ) (p : Prices) (v : ℤ) (c : Certificate) (m : ℕ)
-    → pos 0 ≤ℤ cap → PassesAccuracy ts ws sets goods cap p v c → AllByRecursion (λ row. worth_above ts ws sets row ≤ℤ pos m) c.rows → v ≤ℤ pos (p.den * m)
+CertifiedIsSmall =
+    (ts : List Tree) (ws : List Weights) (sets : Assignment) (goods : ℕ) (cap : ℤ) (p : Prices) (v : ℤ) (c : Certificate) (m : ℕ)
+    → pos 0 ≤ℤ cap → PassesAccuracy ts ws sets goods cap p v c → AllByRecursion (λ row. worth_above ts ws sets row ≤ℤ pos m) c.rows
+    → v ≤ℤ pos (p.den * m)

@@ -1,4 +1,5 @@
--- A fraction in lowest terms: it equals the one that it is made of, and the product of two comes out in lowest terms.
+-- A fraction in lowest terms: it equals the one that it is made
+-- of, and the product of two comes out in lowest terms.
 use Rattle.std.proofs.Common.{◌≡◌, ◌≢◌, ℕ, zero, suc, ◌*◌, ◌/◌, ◌<◌, ◌≤◌, ◌^◌, refl, sym, ap, subst, ◌∙◌, arith, ℤ, pos, negsuc, neg_ℤ, ◌+ℤ◌, ◌*ℤ◌, unsigned_abs, int_div, int_lt, nat_lt, Bool, true, false, ◌&&◌, if◌then◌else◌, Some, None}
 use Rattle.std.specs.Int.{◌∣◌}
 use Rattle.std.proofs.lemmas.Bool.Decides.{nat_tests}

@@ -1,4 +1,5 @@
--- The rational numbers: fractions where equal ones are one thing, so that an equation of rationals is a path and can be rewritten by.
+-- The rational numbers: fractions where equal ones are one thing, so
+-- that an equation of rationals is a path and can be rewritten by.
 use Rattle.std.proofs.Common.{◌≡◌, ◌≢◌, ◌↔◌, ◌≤ℤ◌, ℕ, zero, suc, ◌*◌, ◌<◌, refl, sym, ap, subst, ◌∙◌, arith, ℤ, pos, negsuc, ◌+ℤ◌, ◌*ℤ◌, neg_ℤ, Bool, true, false}
 use Rattle.std.proofs.lemmas.Int.{ints}
 use Rattle.std.proofs.Math.Nat.{mul-pos}

@@ -1,5 +1,6 @@
 -- The generated exchange of a number, and its true values.
-use Rattle.std.specs.Prelude.{ℕ, ◌+◌, ◌-◌, ◌*◌, ◌/◌, ◌%◌, ◌^◌, false, List, [], ◌∷◌, ◌++◌, map, take, drop, replicate, sum, slice_index, codes, decimal, pos, neg_ℤ, ◌+ℤ◌, ◌-ℤ◌}
+use Rattle.std.specs.Prelude.{ℕ, ◌+◌, ◌-◌, ◌*◌, ◌/◌, ◌%◌, ◌^◌, false, List, [], ◌∷◌, ◌++◌, map, take, drop, replicate, sum, slice_index}
+use Rattle.std.specs.Prelude.{codes, decimal, pos, neg_ℤ, ◌+ℤ◌, ◌-ℤ◌}
 use Rattle.ice_defs.specs.declared.NodeKind.TheVariants.{Choose, Buy, Sell}
 use Rattle.ice_defs.specs.Sum.{numbers_below}
 use Rattle.ice_defs.specs.Tree.{Tree}

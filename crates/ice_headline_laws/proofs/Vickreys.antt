@@ -1,4 +1,5 @@
--- The stated Vickrey discounts are what the best of all is worth above the best without each bidder.
+-- The stated Vickrey discounts are what the best of all
+-- is worth above the best without each bidder.
 use Rattle.std.proofs.Common.{ℕ, zero, suc, ◌<◌, List, [], ◌∷◌, length, zip, get_or, slice_index_or, arith, ap, subst, ◌∙◌, ℤ, pos, ◌-ℤ◌}
 use Rattle.std.specs.List.{AllByRecursion}
 use Rattle.std.proofs.lemmas.List.{get_or-map}

@@ -14,16 +14,20 @@ use Rattle.ice_round_laws.specs.Keeping.{HaveBounds}
 abbrev pub FinalBoundsAreBounds : Type 0
 FinalBoundsAreBounds = (s : Session) → IsRight s → HaveBounds s.exchange.bidders (final_bounds s)
 
--- the rival shows that the regret is exact: undivided perturbed weights are a profile inside the final bounds, and under it the rival leads the final sets by the regret
+-- the rival shows that the regret is exact: undivided perturbed weights are a profile
+-- inside the final bounds, and under it the rival leads the final sets by the regret
 pub record ShowsRegret (s : Session) : Type 0 where
   pub profile : IsProfile (final_bounds s) 1 (perturbed_weights s.closed.settlement.final.sets (final_bounds s))
   pub feasible : IsFeasible (trees_of s.exchange) (exact_of s.exchange) s.closed.settlement.rival.sets
-  pub attained : lead s.closed.settlement.rival.sets s.closed.settlement.final.sets (perturbed_weights s.closed.settlement.final.sets (final_bounds s)) ≡ s.closed.settlement.regret
+  pub attained : lead s.closed.settlement.rival.sets s.closed.settlement.final.sets
+      (perturbed_weights s.closed.settlement.final.sets (final_bounds s)) ≡ s.closed.settlement.regret
 
 abbrev pub RivalShowsRegret : Type 0
 RivalShowsRegret = (s : Session) → IsRight s → ShowsRegret s
 
--- each stated Vickrey discount is what the best of all is worth at final lower values, above the best without that bidder
+-- each stated Vickrey discount is what the best of all is worth at
+-- final lower values, above the best without that bidder
 abbrev pub StatedVickreys : Type 0
 StatedVickreys = (s : Session) → IsRight s → (b : ℕ) → b < length (trees_of s.exchange)
-    → IsVickrey (trees_of s.exchange) (exact_of s.exchange) (lower_weights (final_bounds s)) b (slice_index_or (vickreys_of s.closed) b (pos 0))
+    → IsVickrey (trees_of s.exchange) (exact_of s.exchange) (lower_weights (final_bounds s)) b
+    (slice_index_or (vickreys_of s.closed) b (pos 0))

@@ -14,8 +14,10 @@ Finds {A} (Some x) IsLawful spelling text = IsLawful x × (text ≡ spelling x)
 abbrev pub FindsAfter : List (List ℕ) → Option Line → List (List ℕ) → Type 0
 FindsAfter words line rest = Finds (option_map record_of line) IsRecord fields_of (words ++ rest)
 
--- the one lawful value whose fields these begin with and the fields after it, and None exactly where there is none
+-- the one lawful value whose fields these begin with and the
+-- fields after it, and None exactly where there is none
 abbrev pub ReadsFront : {A : Type 0} → Option A → (A → Type 0) → (A → List (List ℕ)) → List (List ℕ) → List (List ℕ) → Type 0
 ReadsFront {A} None IsLawful spelling fields after = (x : A) (rest : List (List ℕ)) → IsLawful x → fields ≡ spelling x ++ rest → ⊥
 ReadsFront {A} (Some x) IsLawful spelling fields after =
-    IsLawful x × (fields ≡ spelling x ++ after) × ((y : A) (rest : List (List ℕ)) → IsLawful y → fields ≡ spelling y ++ rest → (y ≡ x) × (rest ≡ after))
+    IsLawful x × (fields ≡ spelling x ++ after)
+    × ((y : A) (rest : List (List ℕ)) → IsLawful y → fields ≡ spelling y ++ rest → (y ≡ x) × (rest ≡ after))

@@ -46,7 +46,8 @@ EndsWith nothing answer = answer ≡ Err OtherKind
 EndsWith other_kind answer = answer ≡ Err OtherKind
 EndsWith out_of_memory answer = answer ≡ Err NoMemory
 EndsWith (failed failure) answer = answer ≡ Ok (No failure.line failure.rule)
-EndsWith (passing s) (Ok (Assign value)) = (s.place ≡ done) × (s.kind ≡ assign_kind) × (value ≡ total_value s.final.sets (lower_weights s.bounds))
+EndsWith (passing s) (Ok (Assign value)) = (s.place ≡ done) × (s.kind ≡ assign_kind)
+    × (value ≡ total_value s.final.sets (lower_weights s.bounds))
 EndsWith (passing s) (Ok (Regret amount)) = (s.place ≡ done) × (s.kind ≡ regret_kind) × (amount ≡ s.regret)
 EndsWith (passing s) (Ok (Closed regret surplus)) = (s.place ≡ done) × (s.kind ≡ session_kind) × (regret ≡ s.regret) × (surplus ≡ s.surplus)
 EndsWith (passing s) (Ok (No line test)) = (s.place ≢ done) × (line ≡ s.line) × (test ≡ rule.Short)
@@ -63,4 +64,5 @@ HoldsJournal bytes p = OfJournal bytes (λ journal. Leads nothing journal p)
 
 -- but for want of memory, bytes have one answer
 abbrev pub OneAnswer : Type 0
-OneAnswer = (bytes : List ℕ) (one other : Result Answer CheckEnd) → AnswersBytes bytes one → AnswersBytes bytes other → one ≢ Err NoMemory → other ≢ Err NoMemory → one ≡ other
+OneAnswer = (bytes : List ℕ) (one other : Result Answer CheckEnd) → AnswersBytes bytes one → AnswersBytes bytes other → one ≢ Err NoMemory
+    → other ≢ Err NoMemory → one ≡ other

@@ -19,7 +19,8 @@ pub data Tested : State → List Record → Option Failure → Type 0 where
   list_fails : {s : State} {r : Record} {rest : List Record} {x : Rule}
       → ended_list s.place r ≡ Some x → ¬ ListHolds s.place s → Tested s (r ∷ rest) (Some (record { line = s.line - 1; rule = x }))
   fails : {s : State} {r : Record} {rest : List Record} {x : Rule}
-      → ((y : Rule) → ended_list s.place r ≡ Some y → ListHolds s.place s) → FailsFirst x s r → Tested s (r ∷ rest) (Some (record { line = s.line; rule = x }))
+      → ((y : Rule) → ended_list s.place r ≡ Some y → ListHolds s.place s) → FailsFirst x s r
+      → Tested s (r ∷ rest) (Some (record { line = s.line; rule = x }))
   goes_on : {s after : State} {r : Record} {rest : List Record} {end : Option Failure}
       → ((y : Rule) → ended_list s.place r ≡ Some y → ListHolds s.place s) → ((x : Rule) → ¬ Fails x s r) → Holds s r
       → next s r ≡ Some after → Tested after rest end → Tested s (r ∷ rest) end

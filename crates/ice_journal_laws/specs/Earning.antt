@@ -24,7 +24,9 @@ Earning = List Tree → List Bool → List Weights → Side → Assignment → S
 module _ (E : Earning) where
   -- a step that is taken is earned by its own group's weights, start and first assignment
   abbrev pub IsEarnedTaken : State → Taken → Type 0
-  IsEarnedTaken s t = E (trees_at s) (exact_at s) (weights_at s t.group) (start_of (trees_at s) t.group) (first_sets (trees_at s) s.final.sets t.group) t.side t.step
+  IsEarnedTaken s t =
+      E (trees_at s) (exact_at s) (weights_at s t.group) (start_of (trees_at s) t.group)
+      (first_sets (trees_at s) s.final.sets t.group) t.side t.step
 
   module _ (ts : List Tree) (exact : List Bool) where
     -- each step of a log is earned
@@ -42,7 +44,8 @@ module _ (E : Earning) where
 
     pub record EarnsGoing (bounds : List Bounds) (g : Going) : Type 0 where
       pub settlement : EarnsSettlement bounds g.settlement
-      pub provisional : EarnsLog (trees_of ex) (exact_of ex) (weighted_weights ex.settings.weight bounds) Provisional (empty_sets (trees_of ex)) g.provisional.log
+      pub provisional : EarnsLog (trees_of ex) (exact_of ex) (weighted_weights ex.settings.weight bounds) Provisional
+          (empty_sets (trees_of ex)) g.provisional.log
 
     abbrev pub EarnGoings : List Bounds → List Going → Type 0
     EarnGoings bounds [] = Unit {0}

@@ -1,5 +1,6 @@
 -- The order of records: what a record makes of the state, and nothing where it may not stand there.
-use Rattle.std.specs.Prelude.{ℕ, suc, ◌+◌, ◌-◌, ◌==◌, nat_lt, Bool, if◌then◌else◌, List, [], ◌∷◌, ◌++◌, length, ℤ, pos, Option, Some, None, option_map, option_and_then, Result, Ok, Err}
+use Rattle.std.specs.Prelude.{ℕ, suc, ◌+◌, ◌-◌, ◌==◌, nat_lt, Bool, if◌then◌else◌, List, [], ◌∷◌, ◌++◌, length, ℤ, pos, Option, Some, None}
+use Rattle.std.specs.Prelude.{option_map, option_and_then, Result, Ok, Err}
 use Rattle.std.specs.Str.{bytes_eq}
 use Rattle.ice_defs.specs.Set.{NodeSet}
 use Rattle.ice_defs.specs.Bound.{Multipliers}
@@ -8,15 +9,20 @@ use Rattle.ice_defs.specs.Rows.{Row}
 use Rattle.ice_defs.specs.Round.{Submission, next_bounds}
 use Rattle.ice_defs.specs.Exchange.{opening_bounds, names_of}
 use Rattle.std.specs.Prelude.{slice_index_or}
-use Rattle.ice_journal.specs.Records.{Record, Kind, assign_kind, regret_kind, session_kind, exchange_kind, prices_kind, EndWord, assign_end, regret_end, closed_end, spent_end, limit_end}
+use Rattle.ice_journal.specs.Records.{Record, Kind, assign_kind, regret_kind, session_kind, exchange_kind, prices_kind, EndWord, assign_end}
+use Rattle.ice_journal.specs.Records.{regret_end, closed_end, spent_end, limit_end}
 use Rattle.ice_journal.specs.Plain.{all_zero}
 use Rattle.ice_section.specs.Section.{Section, SectionFault, order, count, no_good, maker, take_record, may_end}
 use Rattle.ice_defs.specs.declared.Group.{Group}
 use Rattle.ice_defs.specs.declared.Group.TheVariants.{Assign, Final, Rival, Provisional, Without}
 use Rattle.ice_defs.specs.Group.{start_of}
-use Rattle.ice_journal_laws.specs.Fields.{head_value, set_in, is_assign, settlement_in, is_spent, step_in, multipliers_after, amount_in, prices_in, is_limit, is_pool, accuracy_in, balance_in, row_in, submission_in, verdict_in, threshold_in, payment_in, is_end, is_round_stop}
+use Rattle.ice_journal_laws.specs.Fields.{head_value, set_in, is_assign, settlement_in, is_spent, step_in, multipliers_after, amount_in}
+use Rattle.ice_journal_laws.specs.Fields.{prices_in, is_limit, is_pool, accuracy_in, balance_in, row_in, submission_in, verdict_in}
+use Rattle.ice_journal_laws.specs.Fields.{threshold_in, payment_in, is_end, is_round_stop}
 use Rattle.ice_defs.specs.Session.{closes, standings}
-use Rattle.ice_journal_laws.specs.State.{Stated, Place, at_section, at_group, at_sets, at_log, at_regret, at_prices, at_accuracy, at_accuracy_rows, at_balance_rows, at_round, at_verdict, at_threshold, at_payment, at_spent_sets, at_spent_log, at_pool, at_end, done, State, exchange_at, settings_at, trees_at, goods_at}
+use Rattle.ice_journal_laws.specs.State.{Stated, Place, at_section, at_group, at_sets, at_log, at_regret, at_prices, at_accuracy}
+use Rattle.ice_journal_laws.specs.State.{at_accuracy_rows, at_balance_rows, at_round, at_verdict, at_threshold, at_payment, at_spent_sets}
+use Rattle.ice_journal_laws.specs.State.{at_spent_log, at_pool, at_end, done, State, exchange_at, settings_at, trees_at, goods_at}
 
 abbrev pub go_to : Place → State → State
 go_to place s = record s { place = place }
@@ -53,7 +59,9 @@ abbrev pub with_set : Stated → NodeSet → Stated
 with_set found x = record { value = found.value; sets = found.sets ++ x ∷ [] }
 
 abbrev pub from_sets : State → Group → Stated → Record → Option State
-from_sets s g found r = option_map (λ x. if suc (length found.sets) == bidder_count s then after_sets s g (with_set found x) else go_to (at_sets g (with_set found x)) s) (set_in r)
+from_sets s g found r =
+    option_map (λ x. if suc (length found.sets) == bidder_count s then after_sets s g (with_set found x)
+    else go_to (at_sets g (with_set found x)) s) (set_in r)
 
 -- a group is complete
 abbrev pub after_log : State → Group → Stated → State
@@ -62,14 +70,16 @@ after_log s Final found = go_to (at_group Rival) (record s { final = found })
 after_log s Rival found = go_to at_regret (record s { rival = found.value })
 after_log s Provisional found = go_to at_prices (record s { offered = found.sets })
 after_log s (Without b) found =
-    go_to (if suc b == bidder_count s then at_threshold else at_group (Without (suc b))) (record s { withouts = s.withouts ++ found.value ∷ [] })
+    go_to (if suc b == bidder_count s then at_threshold else at_group (Without (suc b)))
+    (record s { withouts = s.withouts ++ found.value ∷ [] })
 
 abbrev pub after_step : State → Group → Stated → List Side → Multipliers → State
 after_step s g found [] m = after_log s g found
 after_step s g found (side ∷ open_sides) m = go_to (at_log g found (side ∷ open_sides) m) s
 
 abbrev pub from_log : State → Group → Stated → List Side → Multipliers → Record → Option State
-from_log s g found open_sides m r = option_map (λ x. after_step s g found (sides_after open_sides x) (multipliers_after m x)) (step_in s.version (goods_at s) m r)
+from_log s g found open_sides m r =
+    option_map (λ x. after_step s g found (sides_after open_sides x) (multipliers_after m x)) (step_in s.version (goods_at s) m r)
 
 -- ---- settlements
 
@@ -85,7 +95,8 @@ or_stop is_stop stopped (Some s) = Some s
 or_stop is_stop stopped None = if_true is_stop stopped
 
 abbrev pub from_prices : State → Record → Option State
-from_prices s r = or_stop (is_limit r) (go_to at_pool s) (option_map (λ p. go_to at_accuracy (record s { prices = p })) (prices_in (goods_at s) r))
+from_prices s r =
+    or_stop (is_limit r) (go_to at_pool s) (option_map (λ p. go_to at_accuracy (record s { prices = p })) (prices_in (goods_at s) r))
 
 abbrev pub from_accuracy : State → Record → Option State
 from_accuracy s r = option_map (λ a. go_to (at_accuracy_rows a.den []) (record s { violation = a.violation })) (accuracy_in r)
@@ -102,7 +113,13 @@ from_accuracy_rows s den rows r = with_row rows (at_accuracy_rows den) s r (to_b
 
 -- the next settlement, with the bounds that the round leaves
 abbrev pub settled : State → State
-settled s = go_to (at_group Final) (record s { number = suc s.number; bounds = next_bounds (standings (exchange_at s) s.bounds s.offered) s.judged; judged = []; withouts = [] })
+settled s = go_to (at_group Final)
+    (record s {
+      number = suc s.number;
+      bounds = next_bounds (standings (exchange_at s) s.bounds s.offered) s.judged;
+      judged = [];
+      withouts = [];
+    })
 
 abbrev pub to_settlement : State → Record → Option State
 to_settlement s r = option_and_then (λ number. if_true (number == suc s.number) (settled s)) (settlement_in r)
@@ -116,10 +133,12 @@ from_round s r = submitted (submission_in r)
     submitted None = to_settlement s r
 
 abbrev pub from_verdict : State → Submission → Record → Option State
-from_verdict s x r = option_map (λ v. go_to at_round (record s { judged = s.judged ++ record { submission = x; verdict = v } ∷ [] })) (verdict_in r)
+from_verdict s x r =
+    option_map (λ v. go_to at_round (record s { judged = s.judged ++ record { submission = x; verdict = v } ∷ [] })) (verdict_in r)
 
 abbrev pub from_balance_rows : State → ℕ → List Row → Record → Option State
-from_balance_rows s den rows r = or_stop (is_round_stop (s.number + 2) r) (go_to done s) (with_row rows (at_balance_rows den) s r (from_round s r))
+from_balance_rows s den rows r =
+    or_stop (is_round_stop (s.number + 2) r) (go_to done s) (with_row rows (at_balance_rows den) s r (from_round s r))
 
 -- ---- the closing
 
@@ -127,7 +146,9 @@ abbrev pub from_threshold : State → Record → Option State
 from_threshold s r = option_map (λ c. go_to (at_payment 0) (record s { cut = c.cut; surplus = c.surplus })) (threshold_in r)
 
 abbrev pub from_payment : State → ℕ → Record → Option State
-from_payment s b r = option_and_then (λ p. if_true (bytes_eq p.name (slice_index_or (names_of (exchange_at s)) b [])) (go_to (if suc b == bidder_count s then at_end closed_end else at_payment (suc b)) s)) (payment_in r)
+from_payment s b r =
+    option_and_then (λ p. if_true (bytes_eq p.name (slice_index_or (names_of (exchange_at s)) b []))
+    (go_to (if suc b == bidder_count s then at_end closed_end else at_payment (suc b)) s)) (payment_in r)
 
 abbrev pub from_end : State → EndWord → Record → Option State
 from_end s word r = if_true (is_end word r) (go_to done s)
@@ -135,7 +156,8 @@ from_end s word r = if_true (is_end word r) (go_to done s)
 -- ---- stops
 
 abbrev pub from_spent_sets : State → ℕ → Record → Option State
-from_spent_sets s taken r = option_map (λ x. go_to (if suc taken == bidder_count s then at_spent_log 1 else at_spent_sets (suc taken)) s) (set_in r)
+from_spent_sets s taken r =
+    option_map (λ x. go_to (if suc taken == bidder_count s then at_spent_log 1 else at_spent_sets (suc taken)) s) (set_in r)
 
 -- how many sides are open after a step
 abbrev pub open_after : Step → ℕ → ℕ
@@ -144,7 +166,9 @@ open_after (leaf m) open_sides = open_sides - 1
 open_after (dead b) open_sides = open_sides - 1
 
 abbrev pub from_spent_log : State → ℕ → Record → Option State
-from_spent_log s open_sides r = option_map (λ x. go_to (if open_after x open_sides == 0 then at_end spent_end else at_spent_log (open_after x open_sides)) s) (step_in s.version (goods_at s) (all_zero (goods_at s)) r)
+from_spent_log s open_sides r =
+    option_map (λ x. go_to (if open_after x open_sides == 0 then at_end spent_end else at_spent_log (open_after x open_sides)) s)
+    (step_in s.version (goods_at s) (all_zero (goods_at s)) r)
 
 abbrev pub from_pool : State → Record → Option State
 from_pool s r = if is_pool r then Some s else from_end s limit_end r

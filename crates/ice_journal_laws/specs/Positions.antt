@@ -39,7 +39,8 @@ abbrev pub position_records : Version → ℕ → ℕ → Position → List Reco
 position_records version goods number before_final = line.settle number ∷ []
 position_records version goods number (before_rival final) = line.settle number ∷ group_records version goods (line.final final.value) final
 position_records version goods number (before_provisional x) = line.settle number ∷ regret_group_records version goods x
-position_records version goods number (before_without x withouts) = line.settle number ∷ regret_group_records version goods x ++ without_group_records version goods 0 withouts
+position_records version goods number (before_without x withouts) = line.settle number ∷ regret_group_records version goods x
+    ++ without_group_records version goods 0 withouts
 
 -- the groups before it are shown, and the close test comes out so
 abbrev pub IsShownPosition : Exchange → ℕ → List Bounds → Position → Type 0
@@ -47,14 +48,17 @@ IsShownPosition ex number bounds before_final = Unit {0}
 IsShownPosition ex number bounds (before_rival final) = IsShown (trees_of ex) (exact_of ex) (lower_weights bounds) Final final
 IsShownPosition ex number bounds (before_provisional x) = (closes ex.settings number x.regret ≡ false) × IsShownSettlement ex bounds x
 IsShownPosition ex number bounds (before_without x withouts) =
-    (closes ex.settings number x.regret ≡ true) × IsShownSettlement ex bounds x × (length withouts < length (trees_of ex)) × AreShownWithout (trees_of ex) (exact_of ex) (lower_weights bounds) 0 withouts
+    (closes ex.settings number x.regret ≡ true) × IsShownSettlement ex bounds x × (length withouts < length (trees_of ex))
+    × AreShownWithout (trees_of ex) (exact_of ex) (lower_weights bounds) 0 withouts
 
 -- and their steps are earned
 abbrev pub EarnsPosition : Earning → Exchange → List Bounds → Position → Type 0
 EarnsPosition E ex bounds before_final = Unit {0}
-EarnsPosition E ex bounds (before_rival final) = EarnsLog E (trees_of ex) (exact_of ex) (lower_weights bounds) Final (empty_sets (trees_of ex)) final.log
+EarnsPosition E ex bounds (before_rival final) =
+    EarnsLog E (trees_of ex) (exact_of ex) (lower_weights bounds) Final (empty_sets (trees_of ex)) final.log
 EarnsPosition E ex bounds (before_provisional x) = EarnsSettlement E ex bounds x
-EarnsPosition E ex bounds (before_without x withouts) = EarnsSettlement E ex bounds x × EarnsWithouts E (trees_of ex) (exact_of ex) (lower_weights bounds) 0 withouts
+EarnsPosition E ex bounds (before_without x withouts) = EarnsSettlement E ex bounds x
+    × EarnsWithouts E (trees_of ex) (exact_of ex) (lower_weights bounds) 0 withouts
 
 -- how many branch steps the groups have
 abbrev pub settlement_branches : Settlement → ℕ

@@ -30,9 +30,11 @@ EndsList s r = (x : Rule) → ended_list s.place r ≡ Some x → ListHolds s.pl
 -- a record takes the tests on: it passes them all, or it fails one, or the list of rows before it
 -- does
 pub data TakesOn (s : State) (r : Record) : Progress → Type 0 where
-  passes_on : {after : State} → EndsList s r → ((x : Rule) → ¬ Fails x s r) → Holds s r → next s r ≡ Some after → TakesOn s r (passing after)
+  passes_on : {after : State} → EndsList s r → ((x : Rule) → ¬ Fails x s r) → Holds s r → next s r ≡ Some after
+      → TakesOn s r (passing after)
   fails_at : {x : Rule} → EndsList s r → FailsFirst x s r → TakesOn s r (failed (record { line = s.line; rule = x }))
-  list_fails_at : {x : Rule} → ended_list s.place r ≡ Some x → ¬ ListHolds s.place s → TakesOn s r (failed (record { line = s.line - 1; rule = x }))
+  list_fails_at : {x : Rule} → ended_list s.place r ≡ Some x → ¬ ListHolds s.place s
+      → TakesOn s r (failed (record { line = s.line - 1; rule = x }))
 
 -- what the next record makes of it; a failed test stays the first one, and nothing follows where no
 -- memory was left
@@ -70,7 +72,8 @@ pub data Leads : Progress → List Record → Progress → Type 0 where
 
 -- one more record leads to what it makes of the progress
 abbrev pub RecordsLeadOn : Type 0
-RecordsLeadOn = (p q end : Progress) (records : List Record) (r : Record) → Leads p records q → IsAfter q r end → Leads p (records ++ r ∷ []) end
+RecordsLeadOn = (p q end : Progress) (records : List Record) (r : Record) → Leads p records q → IsAfter q r end
+    → Leads p (records ++ r ∷ []) end
 
 -- where these records are the whole journal: what the tests find of it
 abbrev pub Finds : List Record → Progress → Type 0

@@ -68,7 +68,8 @@ pub record IsShown (ts : List Tree) (exact : List Bool) (ws : List Weights) (g :
 
 -- the final sets, their rival and the regret, in either version
 abbrev pub regret_group_records : Version → ℕ → Settlement → List Record
-regret_group_records version goods x = group_records version goods (line.final x.final.value) x.final ++ group_records version goods (line.rival x.rival.value) x.rival ++ line.regret x.regret ∷ []
+regret_group_records version goods x = group_records version goods (line.final x.final.value) x.final
+    ++ group_records version goods (line.rival x.rival.value) x.rival ++ line.regret x.regret ∷ []
 
 -- both groups are shown, and the regret is the difference of their values
 pub record IsShownSettlement (ex : Exchange) (bounds : List Bounds) (x : Settlement) : Type 0 where
@@ -78,7 +79,8 @@ pub record IsShownSettlement (ex : Exchange) (bounds : List Bounds) (x : Settlem
 
 -- a regret journal in either version
 abbrev pub regretted_in : Version → Regretted → List Record
-regretted_in version r = line.head version regret_kind ∷ section_records r.exchange ++ regret_group_records version (length (exact_of r.exchange)) r.settlement ++ line.end regret_end ∷ []
+regretted_in version r = line.head version regret_kind ∷ section_records r.exchange
+    ++ regret_group_records version (length (exact_of r.exchange)) r.settlement ++ line.end regret_end ∷ []
 
 pub record IsShownRegretted (r : Regretted) : Type 0 where
   pub exchange : IsExchange r.exchange

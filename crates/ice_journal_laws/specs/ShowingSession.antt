@@ -1,6 +1,7 @@
 -- What is known of the settlements that a writer of a session writes, and their records in either
 -- version.
-use Rattle.std.specs.Prelude.{ℕ, suc, ◌<◌, ◌≤◌, ◌≡◌, false, IsTrue, Bool, List, [], ◌∷◌, ◌++◌, length, map, slice_index_or, ℤ, pos, ◌-ℤ◌, ◌*ℤ◌, ◌≤ℤ◌}
+use Rattle.std.specs.Prelude.{ℕ, suc, ◌<◌, ◌≤◌, ◌≡◌, false, IsTrue, Bool, List, [], ◌∷◌, ◌++◌, length, map, slice_index_or, ℤ, pos, ◌-ℤ◌}
+use Rattle.std.specs.Prelude.{◌*ℤ◌, ◌≤ℤ◌}
 use Rattle.std.specs.List.{flat_map}
 use Rattle.ice_defs.specs.Tree.{Tree}
 use Rattle.ice_defs.specs.Set.{Weights, value}
@@ -28,7 +29,8 @@ use Rattle.ice_journal_laws.specs.Showing.{group_records, regret_group_records, 
 
 abbrev pub without_group_records : Version → ℕ → ℕ → List Proved → List Record
 without_group_records version goods b [] = []
-without_group_records version goods b (p ∷ later) = group_records version goods (line.without b p.value) p ++ without_group_records version goods (suc b) later
+without_group_records version goods b (p ∷ later) = group_records version goods (line.without b p.value) p
+    ++ without_group_records version goods (suc b) later
 
 abbrev pub closed_in : Version → ℕ → ℕ → Closed → List Record
 closed_in version goods number c =
@@ -52,15 +54,18 @@ worth_of bounds sets b = value (set_of sets b) (weights_of (lower_weights bounds
 abbrev pub AreShownPayments : List (List ℕ) → List ℤ → (ℕ → ℤ) → Fraction → ℕ → List Payment → Type 0
 AreShownPayments names vickreys worth cut b [] = Unit {0}
 AreShownPayments names vickreys worth cut b (p ∷ later) =
-    (p.name ≡ slice_index_or names b []) × IsPaymentLine (slice_index_or vickreys b (pos 0)) (worth b) cut p × AreShownPayments names vickreys worth cut (suc b) later
+    (p.name ≡ slice_index_or names b []) × IsPaymentLine (slice_index_or vickreys b (pos 0)) (worth b) cut p
+    × AreShownPayments names vickreys worth cut (suc b) later
 
 pub record IsShownClosed (ex : Exchange) (bounds : List Bounds) (c : Closed) : Type 0 where
   pub settlement : IsShownSettlement ex bounds c.settlement
   pub withouts_count : length c.withouts ≡ length (trees_of ex)
   pub withouts : AreShownWithout (trees_of ex) (exact_of ex) (lower_weights bounds) 0 c.withouts
-  pub threshold : IsThresholdLine (vickreys_by c.settlement.final.value c.withouts) c.settlement.final.value (record { cut = c.cut; surplus = c.surplus })
+  pub threshold : IsThresholdLine (vickreys_by c.settlement.final.value c.withouts) c.settlement.final.value
+      (record { cut = c.cut; surplus = c.surplus })
   pub payments_count : length c.payments ≡ length (trees_of ex)
-  pub payments : AreShownPayments (names_of ex) (vickreys_by c.settlement.final.value c.withouts) (worth_of bounds c.settlement.final.sets) c.cut 0 c.payments
+  pub payments : AreShownPayments (names_of ex) (vickreys_by c.settlement.final.value c.withouts)
+      (worth_of bounds c.settlement.final.sets) c.cut 0 c.payments
 
 -- ---- a settlement that goes on
 
@@ -71,7 +76,8 @@ opening_in version goods g =
     ++ line.balance g.balance.den ∷ map row_record g.balance.rows
 
 abbrev pub going_in : Version → ℕ → ℕ → Going → List Record
-going_in version goods number g = line.settle number ∷ regret_group_records version goods g.settlement ++ opening_in version goods g ++ flat_map judged_records g.judged
+going_in version goods number g = line.settle number ∷ regret_group_records version goods g.settlement ++ opening_in version goods g
+    ++ flat_map judged_records g.judged
 
 -- within the cap, and in lowest terms
 pub record AreShownPrices (goods : ℕ) (cap : ℤ) (p : Prices) : Type 0 where
@@ -82,7 +88,8 @@ pub record AreShownPrices (goods : ℕ) (cap : ℤ) (p : Prices) : Type 0 where
 -- the verdict on each submission, after earlier ones
 abbrev pub AreShownVerdicts : Prices → ℤ → List Standing → List Judged → List Judged → Type 0
 AreShownVerdicts p improve bidders earlier [] = Unit {0}
-AreShownVerdicts p improve bidders earlier (j ∷ later) = IsNextVerdict p improve bidders earlier j.submission j.verdict × AreShownVerdicts p improve bidders (earlier ++ j ∷ []) later
+AreShownVerdicts p improve bidders earlier (j ∷ later) = IsNextVerdict p improve bidders earlier j.submission j.verdict
+    × AreShownVerdicts p improve bidders (earlier ++ j ∷ []) later
 
 -- the prices have this violation, and at most 200 rows each show that it is least and that the
 -- greatest price is
@@ -107,13 +114,15 @@ settlements_in version goods number [] c = closed_in version goods number c
 settlements_in version goods number (g ∷ later) c = going_in version goods number g ++ settlements_in version goods (suc number) later c
 
 abbrev pub session_in : Version → Session → List Record
-session_in version s = line.head version session_kind ∷ section_records s.exchange ++ settlements_in version (length (exact_of s.exchange)) 0 s.going s.closed
+session_in version s = line.head version session_kind ∷ section_records s.exchange
+    ++ settlements_in version (length (exact_of s.exchange)) 0 s.going s.closed
 
 -- the settlements from this number and these bounds on: the close test fails but at the last one
 abbrev pub AreShownFrom : Exchange → ℕ → List Bounds → List Going → Closed → Type 0
 AreShownFrom ex number bounds [] c = IsTrue (closes ex.settings number c.settlement.regret) × IsShownClosed ex bounds c
 AreShownFrom ex number bounds (g ∷ later) c =
-    (closes ex.settings number g.settlement.regret ≡ false) × IsShownGoing ex bounds g × AreShownFrom ex (suc number) (bounds_after_round ex bounds g) later c
+    (closes ex.settings number g.settlement.regret ≡ false) × IsShownGoing ex bounds g
+    × AreShownFrom ex (suc number) (bounds_after_round ex bounds g) later c
 
 pub record IsShownSession (s : Session) : Type 0 where
   pub exchange : IsExchange s.exchange
@@ -129,7 +138,8 @@ goings_in version goods number (g ∷ later) = going_in version goods number g +
 abbrev pub AreShownGoing : Exchange → ℕ → List Bounds → List Going → Type 0
 AreShownGoing ex number bounds [] = Unit {0}
 AreShownGoing ex number bounds (g ∷ later) =
-    (closes ex.settings number g.settlement.regret ≡ false) × IsShownGoing ex bounds g × AreShownGoing ex (suc number) (bounds_after_round ex bounds g) later
+    (closes ex.settings number g.settlement.regret ≡ false) × IsShownGoing ex bounds g
+    × AreShownGoing ex (suc number) (bounds_after_round ex bounds g) later
 
 -- the last one of these
 abbrev pub last_going : Going → List Going → Going

@@ -48,4 +48,5 @@ module _ (ts : List Tree) (exact : List Bool) (ws : List Weights) (target : ℤ)
   pub data FailsStep (sides : List Side) (m : Multipliers) (r : Record) : Rule → Type 0 where
     no_step : step_in version (length m) m r ≡ None → FailsStep sides m r rule.Order
     is_misstated : {x : Step} → step_in version (length m) m r ≡ Some x → IsMisstating version m r → FailsStep sides m r rule.Near
-    has_fault : {x : Step} (why : LogFault) → step_in version (length m) m r ≡ Some x → ¬ IsMisstating version m r → HasFault ts exact ws target (first_side sides) x why → FailsStep sides m r (rule_of_fault why)
+    has_fault : {x : Step} (why : LogFault) → step_in version (length m) m r ≡ Some x → ¬ IsMisstating version m r
+        → HasFault ts exact ws target (first_side sides) x why → FailsStep sides m r (rule_of_fault why)

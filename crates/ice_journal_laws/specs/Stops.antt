@@ -29,7 +29,8 @@ all_going_records number (g ∷ later) = going_records number g ++ all_going_rec
 abbrev pub AreGoing : Exchange → ℕ → List Bounds → List Going → Type 0
 AreGoing ex number bounds [] = Unit {0}
 AreGoing ex number bounds (g ∷ later) =
-    (closes ex.settings number g.settlement.regret ≡ false) × IsGoing ex bounds g × AreGoing ex (suc number) (bounds_after_round ex bounds g) later
+    (closes ex.settings number g.settlement.regret ≡ false) × IsGoing ex bounds g
+    × AreGoing ex (suc number) (bounds_after_round ex bounds g) later
 
 -- the state in which a group's head is awaited; the first group of a regret journal stands where
 -- the section of the exchange ends
@@ -44,7 +45,8 @@ pub record IsSpent (kind : Kind) (journal : List Record) : Type 0 where
   pub above : ℤ
   pub sets : Assignment
   pub log : List Step
-  pub says : plain journal ≡ line.head version_1 kind ∷ before ++ line.spent value above ∷ map line.set sets ++ map line.step log ++ line.end spent_end ∷ []
+  pub says : plain journal ≡ line.head version_1 kind ∷ before ++ line.spent value above ∷ map line.set sets ++ map line.step log
+      ++ line.end spent_end ∷ []
   pub state : State
   pub reached : after_all (begun version_1 kind) before ≡ Some state
   pub group : Group
@@ -54,4 +56,5 @@ pub record IsSpent (kind : Kind) (journal : List Record) : Type 0 where
   pub counted : branches_in (plain journal) ≡ (settings_at now).branches
   pub earned_before : EachTaken (IsEarnedTaken EarnsStep) (begun version_1 kind) before
   -- what was found is below what is left, and a branch is left that would be earned
-  pub search : IsSpentSearch (trees_at now) (exact_at now) (weights_at now group) (start_of (trees_at now) group) (first_sets (trees_at now) now.final.sets group) (record { value = value; sets = sets; log = log }) above
+  pub search : IsSpentSearch (trees_at now) (exact_at now) (weights_at now group) (start_of (trees_at now) group)
+      (first_sets (trees_at now) now.final.sets group) (record { value = value; sets = sets; log = log }) above

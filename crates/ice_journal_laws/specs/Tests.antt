@@ -1,5 +1,7 @@
 -- The tests of a record: one small definition for each rule.
-use Rattle.std.specs.Prelude.{ℕ, suc, ◌+◌, ◌<◌, ◌≤◌, ◌≡◌, ◌≢◌, ◌⊎◌, ◌==◌, ◌&&◌, ◌||◌, Bool, true, false, if◌then◌else◌, IsTrue, IsSome, IfSome, IsSomeAnd, is_none, List, [], ◌∷◌, ◌++◌, length, map, Any, slice_index_or, ℤ, pos, ◌-ℤ◌, ◌*ℤ◌, ◌<ℤ◌, ◌≤ℤ◌, Option, Some, None, option_map, Result, Ok, Err}
+use Rattle.std.specs.Prelude.{ℕ, suc, ◌+◌, ◌<◌, ◌≤◌, ◌≡◌, ◌≢◌, ◌⊎◌, ◌==◌, ◌&&◌, ◌||◌, Bool, true, false, if◌then◌else◌, IsTrue, IsSome}
+use Rattle.std.specs.Prelude.{IfSome, IsSomeAnd, is_none, List, [], ◌∷◌, ◌++◌, length, map, Any, slice_index_or, ℤ, pos, ◌-ℤ◌, ◌*ℤ◌, ◌<ℤ◌}
+use Rattle.std.specs.Prelude.{◌≤ℤ◌, Option, Some, None, option_map, Result, Ok, Err}
 use Rattle.ice_defs.specs.declared.SatRule.{SatRule}
 use Rattle.ice_defs.specs.declared.SatRule.TheVariants.{Parent, Few, Many}
 use Rattle.ice_defs.specs.Set.{NodeSet, Weights, value}
@@ -21,9 +23,12 @@ use Rattle.ice_journal_laws.specs.declared.rule.Rule.{Rule}
 use Rattle.ice_journal_laws.specs.declared.rule.Rule.TheVariants as rule
 use Rattle.ice_defs.specs.declared.Group.{Group}
 use Rattle.ice_defs.specs.declared.Group.TheVariants.{Assign, Final, Rival, Provisional, Without}
-use Rattle.ice_journal_laws.specs.Fields.{set_in, is_spent, step_in, changes_in, amount_in, prices_in, is_limit, accuracy_in, row_in, verdict_in, Closing, threshold_in, payment_in, is_round_stop}
+use Rattle.ice_journal_laws.specs.Fields.{set_in, is_spent, step_in, changes_in, amount_in, prices_in, is_limit, accuracy_in, row_in}
+use Rattle.ice_journal_laws.specs.Fields.{verdict_in, Closing, threshold_in, payment_in, is_round_stop}
 use Rattle.ice_defs.specs.Session.{Payment, standings}
-use Rattle.ice_journal_laws.specs.State.{Stated, Place, at_section, at_sets, at_log, at_regret, at_prices, at_accuracy, at_accuracy_rows, at_balance_rows, at_verdict, at_threshold, at_payment, State, exchange_at, settings_at, trees_at, exact_at, goods_at, weights_at}
+use Rattle.ice_journal_laws.specs.State.{Stated, Place, at_section, at_sets, at_log, at_regret, at_prices, at_accuracy, at_accuracy_rows}
+use Rattle.ice_journal_laws.specs.State.{at_balance_rows, at_verdict, at_threshold, at_payment, State, exchange_at, settings_at, trees_at}
+use Rattle.ice_journal_laws.specs.State.{exact_at, goods_at, weights_at}
 use Rattle.ice_journal_laws.specs.Next.{next, with_set, may_have_row}
 
 -- ---- order
@@ -82,7 +87,8 @@ pub record Complete : Type 0 where
 
 -- the group whose last set this is
 abbrev pub completed : ℕ → Place → Record → Option Complete
-completed bidders (at_sets g found) r = if suc (length found.sets) == bidders then option_map (λ x. record { group = g; stated = with_set found x }) (set_in r) else None
+completed bidders (at_sets g found) r = if suc (length found.sets) == bidders
+    then option_map (λ x. record { group = g; stated = with_set found x }) (set_in r) else None
 completed bidders place r = None
 
 abbrev pub OfSets : State → Record → (Complete → Type 0) → Type 0
@@ -90,7 +96,8 @@ OfSets s r P = IsSomeAnd (completed (length (trees_at s)) s.place r) P
 
 -- the units of the sets don't sum to at most 0 in each good, or not to 0 in an exact one
 abbrev pub IsUnbalanced : State → Record → Type 0
-IsUnbalanced s r = OfSets s r (λ c. (g : ℕ) × (g < goods_at s) × ¬ IsCovered (is_exact (exact_at s) g) (total_units (trees_at s) c.stated.sets g) (pos 0))
+IsUnbalanced s r =
+    OfSets s r (λ c. (g : ℕ) × (g < goods_at s) × ¬ IsCovered (is_exact (exact_at s) g) (total_units (trees_at s) c.stated.sets g) (pos 0))
 
 abbrev pub is_valued : Group → Bool
 is_valued Assign = false
@@ -113,7 +120,8 @@ pub record Taken : Type 0 where
   pub step : Step
 
 abbrev pub taken_step : State → Place → Record → Option Taken
-taken_step s (at_log g found (side ∷ open_sides) m) r = option_map (λ x. record { group = g; target = found.value; side = side; before = m; step = x }) (step_in s.version (goods_at s) m r)
+taken_step s (at_log g found (side ∷ open_sides) m) r =
+    option_map (λ x. record { group = g; target = found.value; side = side; before = m; step = x }) (step_in s.version (goods_at s) m r)
 taken_step s place r = None
 
 abbrev pub OfStep : State → Record → (Taken → Type 0) → Type 0
@@ -164,32 +172,40 @@ abbrev pub offered_weights : State → List Weights
 offered_weights s = weights_at s Provisional
 
 abbrev pub HasOtherViolation : Place → State → Record → Type 0
-HasOtherViolation at_accuracy s r = IsSomeAnd (accuracy_in r) (λ a. ¬ IsViolation (trees_at s) (offered_weights s) s.offered s.prices a.violation)
+HasOtherViolation at_accuracy s r =
+    IsSomeAnd (accuracy_in r) (λ a. ¬ IsViolation (trees_at s) (offered_weights s) s.offered s.prices a.violation)
 HasOtherViolation place s r = ⊥
 
 -- a list of rows passes its test
 abbrev pub AccuracyHolds : State → ℕ → List Row → Type 0
-AccuracyHolds s den rows = PassesAccuracy (trees_at s) (offered_weights s) s.offered (goods_at s) (settings_at s).cap s.prices s.violation (record { den = den; rows = rows })
+AccuracyHolds s den rows =
+    PassesAccuracy (trees_at s) (offered_weights s) s.offered (goods_at s) (settings_at s).cap s.prices s.violation
+    (record { den = den; rows = rows })
 
 abbrev pub BalanceHolds : State → ℕ → List Row → Type 0
-BalanceHolds s den rows = PassesBalance (trees_at s) (offered_weights s) s.offered (goods_at s) s.prices s.violation (record { den = den; rows = rows })
+BalanceHolds s den rows =
+    PassesBalance (trees_at s) (offered_weights s) s.offered (goods_at s) s.prices s.violation (record { den = den; rows = rows })
 
 -- the record is the 200th row of its list, and the list fails
 abbrev pub is_last_row : List Row → Bool
 is_last_row rows = suc (length rows) == 200
 
 abbrev pub FailsAccuracy : Place → State → Record → Type 0
-FailsAccuracy (at_accuracy_rows den rows) s r = IsTrue (is_last_row rows) × IsSomeAnd (row_in r) (λ row. ¬ AccuracyHolds s den (rows ++ row ∷ []))
+FailsAccuracy (at_accuracy_rows den rows) s r = IsTrue (is_last_row rows)
+    × IsSomeAnd (row_in r) (λ row. ¬ AccuracyHolds s den (rows ++ row ∷ []))
 FailsAccuracy place s r = ⊥
 
 abbrev pub FailsBalance : Place → State → Record → Type 0
-FailsBalance (at_balance_rows den rows) s r = IsTrue (is_last_row rows) × IsSomeAnd (row_in r) (λ row. ¬ BalanceHolds s den (rows ++ row ∷ []))
+FailsBalance (at_balance_rows den rows) s r = IsTrue (is_last_row rows)
+    × IsSomeAnd (row_in r) (λ row. ¬ BalanceHolds s den (rows ++ row ∷ []))
 FailsBalance place s r = ⊥
 
 -- ---- rounds and the closing
 
 abbrev pub IsOtherVerdict : Place → State → Record → Type 0
-IsOtherVerdict (at_verdict x) s r = IsSomeAnd (verdict_in r) (λ v. ¬ IsNextVerdict s.prices (settings_at s).improve (standings (exchange_at s) s.bounds s.offered) s.judged x v)
+IsOtherVerdict (at_verdict x) s r =
+    IsSomeAnd (verdict_in r) (λ v. ¬ IsNextVerdict s.prices (settings_at s).improve
+    (standings (exchange_at s) s.bounds s.offered) s.judged x v)
 IsOtherVerdict place s r = ⊥
 
 -- the Vickrey discounts by the values without each bidder
@@ -219,7 +235,8 @@ pub record IsPaymentLine (vickrey : ℤ) (worth : ℤ) (cut : Fraction) (p : Pay
   pub payment : Equals p.payment (less (whole worth) p.discount)
 
 abbrev pub IsOtherPayment : Place → State → Record → Type 0
-IsOtherPayment (at_payment b) s r = IsSomeAnd (payment_in r) (λ p. ¬ IsPaymentLine (slice_index_or (vickreys s) b (pos 0)) (final_worth s b) s.cut p)
+IsOtherPayment (at_payment b) s r =
+    IsSomeAnd (payment_in r) (λ p. ¬ IsPaymentLine (slice_index_or (vickreys s) b (pos 0)) (final_worth s b) s.cut p)
 IsOtherPayment place s r = ⊥
 
 -- ---- the table
@@ -300,7 +317,8 @@ HasFullList (at_balance_rows den rows) s r = IsTrue (is_last_row rows) → IfSom
 HasFullList place s r = Unit {0}
 
 abbrev pub HasVerdict : Place → State → Record → Type 0
-HasVerdict (at_verdict x) s r = IfSome (verdict_in r) (λ v. IsNextVerdict s.prices (settings_at s).improve (standings (exchange_at s) s.bounds s.offered) s.judged x v)
+HasVerdict (at_verdict x) s r =
+    IfSome (verdict_in r) (λ v. IsNextVerdict s.prices (settings_at s).improve (standings (exchange_at s) s.bounds s.offered) s.judged x v)
 HasVerdict place s r = Unit {0}
 
 pub record Holds (s : State) (r : Record) : Type 0 where

@@ -47,10 +47,12 @@ pub record AreAssigned (journal : List Record) (s : State) : Type 0 where
   pub bounds : s.bounds ≡ opening_bounds (exchange_at s)
 
 abbrev pub DoneIsAssigned : Type 0
-DoneIsAssigned = (journal : List Record) (s : State) → AllByRecursion IsRecord journal → Leads nothing journal (passing s) → s.place ≡ done → s.kind ≡ assign_kind → AreAssigned journal s
+DoneIsAssigned = (journal : List Record) (s : State) → AllByRecursion IsRecord journal → Leads nothing journal (passing s) → s.place ≡ done
+    → s.kind ≡ assign_kind → AreAssigned journal s
 
 abbrev pub ChecksGiveAssigned : Type 0
-ChecksGiveAssigned = (journal : List Record) → HasKind assign_kind journal → AllByRecursion IsRecord journal → Checks journal → (a : Assigned) × Says journal (assigned_records a) × IsRightAssigned a
+ChecksGiveAssigned = (journal : List Record) → HasKind assign_kind journal → AllByRecursion IsRecord journal → Checks journal
+    → (a : Assigned) × Says journal (assigned_records a) × IsRightAssigned a
 
 -- where the records of a regret journal lead to its end, they state the end's exchange and a right
 -- settlement of it, with the end's regret
@@ -64,14 +66,17 @@ abbrev pub AreRegretted : List Record → State → Type 0
 AreRegretted journal s = (r : Regretted) × IsRegrettedAt journal s r
 
 abbrev pub DoneIsRegretted : Type 0
-DoneIsRegretted = (journal : List Record) (s : State) → AllByRecursion IsRecord journal → Leads nothing journal (passing s) → s.place ≡ done → s.kind ≡ regret_kind → AreRegretted journal s
+DoneIsRegretted = (journal : List Record) (s : State) → AllByRecursion IsRecord journal → Leads nothing journal (passing s) → s.place ≡ done
+    → s.kind ≡ regret_kind → AreRegretted journal s
 
 abbrev pub ChecksGiveRegret : Type 0
-ChecksGiveRegret = (journal : List Record) → HasKind regret_kind journal → AllByRecursion IsRecord journal → Checks journal → (r : Regretted) × Says journal (regretted_records r) × IsRightRegret r
+ChecksGiveRegret = (journal : List Record) → HasKind regret_kind journal → AllByRecursion IsRecord journal → Checks journal
+    → (r : Regretted) × Says journal (regretted_records r) × IsRightRegret r
 
 -- each payment is a whole number less a discount, which the cut leaves of another whole number
 abbrev pub ArePaidByCut : Fraction → List Fraction → Type 0
-ArePaidByCut cut payments = (i : ℕ) → i < length payments → (worth vickrey : ℤ) × Equals (fraction_at payments i) (less (whole worth) (cut_down cut vickrey))
+ArePaidByCut cut payments = (i : ℕ) → i < length payments
+    → (worth vickrey : ℤ) × Equals (fraction_at payments i) (less (whole worth) (cut_down cut vickrey))
 
 -- where the records of a session lead to its end, they state the end's exchange and a right
 -- session, with the end's regret, surplus, bounds, final sets and cut
@@ -90,11 +95,13 @@ abbrev pub IsSession : List Record → State → Type 0
 IsSession journal s = (x : Session) × IsSessionAt journal s x
 
 abbrev pub DoneIsRight : Type 0
-DoneIsRight = (journal : List Record) (s : State) → AllByRecursion IsRecord journal → Leads nothing journal (passing s) → s.place ≡ done → s.kind ≡ session_kind → IsSession journal s
+DoneIsRight = (journal : List Record) (s : State) → AllByRecursion IsRecord journal → Leads nothing journal (passing s) → s.place ≡ done
+    → s.kind ≡ session_kind → IsSession journal s
 
 -- a session that passes every test is a right one
 abbrev pub ChecksGiveRight : Type 0
-ChecksGiveRight = (journal : List Record) → HasKind session_kind journal → AllByRecursion IsRecord journal → Checks journal → (s : Session) × Says journal (session_records s) × IsRight s
+ChecksGiveRight = (journal : List Record) → HasKind session_kind journal → AllByRecursion IsRecord journal → Checks journal
+    → (s : Session) × Says journal (session_records s) × IsRight s
 
 -- the numbers of a yes
 pub data Yes : Type 0 where
@@ -104,11 +111,14 @@ pub data Yes : Type 0 where
 
 -- the checker's yes to a journal, and what it says
 abbrev pub IsYes : List Record → Yes → Type 0
-IsYes journal (of_assigned value) = (a : Assigned) × Says journal (assigned_records a) × IsRightAssigned a × (value ≡ total_value a.sets (lower_weights (opening_bounds a.exchange)))
+IsYes journal (of_assigned value) = (a : Assigned) × Says journal (assigned_records a) × IsRightAssigned a
+    × (value ≡ total_value a.sets (lower_weights (opening_bounds a.exchange)))
 IsYes journal (of_regret amount) = (r : Regretted) × Says journal (regretted_records r) × IsRightRegret r × (amount ≡ r.settlement.regret)
-IsYes journal (of_session regret surplus) = (s : Session) × Says journal (session_records s) × IsRight s × Headline s × (regret ≡ s.closed.settlement.regret) × (surplus ≡ s.closed.surplus)
+IsYes journal (of_session regret surplus) = (s : Session) × Says journal (session_records s) × IsRight s × Headline s
+    × (regret ≡ s.closed.settlement.regret) × (surplus ≡ s.closed.surplus)
 
 -- where the records of a session lead to its end, the checker may say yes to it, with the end's
 -- regret and surplus
 abbrev pub SessionIsYes : Type 0
-SessionIsYes = (journal : List Record) (s : State) → AllByRecursion IsRecord journal → Leads nothing journal (passing s) → s.place ≡ done → s.kind ≡ session_kind → IsYes journal (of_session s.regret s.surplus)
+SessionIsYes = (journal : List Record) (s : State) → AllByRecursion IsRecord journal → Leads nothing journal (passing s) → s.place ≡ done
+    → s.kind ≡ session_kind → IsYes journal (of_session s.regret s.surplus)

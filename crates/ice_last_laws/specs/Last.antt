@@ -39,7 +39,8 @@ last_of x = paid_of x.exchange (final_bounds x) x.closed.settlement.final.sets (
 -- the payments behind the last threshold, after one record more
 abbrev pub paid_after : List Payment → Record → List Payment
 paid_after before (line.threshold cut surplus) = []
-paid_after before (line.payment name vickrey discount payment) = before ++ record { name = name; vickrey = vickrey; discount = discount; payment = payment } ∷ []
+paid_after before (line.payment name vickrey discount payment) = before
+    ++ record { name = name; vickrey = vickrey; discount = discount; payment = payment } ∷ []
 paid_after before other = before
 
 abbrev pub paid_from : List Payment → List Record → List Payment
@@ -54,14 +55,19 @@ amounts payments = map (λ p. p.payment) payments
 
 -- ---- laws
 
--- where the records of a session lead to its end, they state a right session, whose last settlement is that of the end and of the payments that were said
+-- where the records of a session lead to its end, they state a right session,
+-- whose last settlement is that of the end and of the payments that were said
 abbrev pub DoneIsLast : Type 0
-DoneIsLast = (journal : List Record) (s : State) → AllByRecursion IsRecord journal → Leads nothing journal (passing s) → s.place ≡ done → s.kind ≡ session_kind
-    → (x : Session) × Says journal (session_records x) × IsRight x × (x.closed.cut ≡ s.cut) × (last_of x ≡ paid_of (exchange_at s) s.bounds s.final.sets (amounts (payments_said journal)))
+DoneIsLast = (journal : List Record) (s : State) → AllByRecursion IsRecord journal → Leads nothing journal (passing s) → s.place ≡ done
+    → s.kind ≡ session_kind
+    → (x : Session) × Says journal (session_records x) × IsRight x × (x.closed.cut ≡ s.cut)
+    × (last_of x ≡ paid_of (exchange_at s) s.bounds s.final.sets (amounts (payments_said journal)))
 
--- its bidders have satisfied sets and pay fractions, each with a denominator that divides that of the cut
+-- its bidders have satisfied sets and pay fractions, each
+-- with a denominator that divides that of the cut
 abbrev pub LastIsPaid : Type 0
-LastIsPaid = (journal : List Record) (s : State) → AllByRecursion IsRecord journal → Leads nothing journal (passing s) → s.place ≡ done → s.kind ≡ session_kind
+LastIsPaid = (journal : List Record) (s : State) → AllByRecursion IsRecord journal → Leads nothing journal (passing s) → s.place ≡ done
+    → s.kind ≡ session_kind
     → IsPaidTrade (paid_of (exchange_at s) s.bounds s.final.sets (amounts (payments_said journal)))
     × IsCutDen (paid_of (exchange_at s) s.bounds s.final.sets (amounts (payments_said journal))) s.cut.den
     × AllByRecursion IsFractionField (amounts (payments_said journal))

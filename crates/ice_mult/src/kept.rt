@@ -134,7 +134,8 @@ fn sweep_kept(kept: &mut Kept, guess: &Multipliers, room: &mut Room)
     }
 }
 
-/// Moves the multipliers of kept bounds to what one sweep makes of them: see `improve`. The guess of
+/// Moves the multipliers of kept bounds to what one
+/// sweep makes of them: see `improve`. The guess of
 /// the outcome changes the time alone. The desk is one of the same goods.
 ///
 /// Time: each good's multiplier that changes moves the tables of all trees with a leaf of the good.

@@ -41,7 +41,8 @@ module _ (t : ProvisionalTrade) where
     pub accuracy_limited : IsLimited p.accuracy
     pub balance_limited : IsLimited p.balance
 
-  -- the run ends with these prices: no set is to be added to a pool in the accuracy stage, nor to a later one to which the balance stage leads from that pool
+  -- the run ends with these prices: no set is to be added to a pool in the accuracy
+  -- stage, nor to a later one to which the balance stage leads from that pool
   pub record IsRunPriced (p : Pricing) : Type 0 where
     pub pool : List Member
     pub prices : Prices

@@ -26,7 +26,8 @@ module _ (t : ProvisionalTrade) (p : Prices) where
     pub record IsFirstAbove (m : Member) : Type 0 where
       pub offer : IsOffer m.bidder m.set
       pub above : Below most (excess_at m.bidder m.set)
-      pub best : (s : NodeSet) → IsOffer m.bidder s → excess_net t.trees t.weights t.sets p (m.bidder, s) ≤ℤ excess_net t.trees t.weights t.sets p (m.bidder, m.set)
+      pub best : (s : NodeSet) → IsOffer m.bidder s
+          → excess_net t.trees t.weights t.sets p (m.bidder, s) ≤ℤ excess_net t.trees t.weights t.sets p (m.bidder, m.set)
       pub before : AreAllowed m.bidder
 
     abbrev pub IsScan : Scan → Type 0

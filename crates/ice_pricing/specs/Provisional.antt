@@ -1,4 +1,5 @@
--- A provisional trade, for which prices are sought: the bidders' trees, weighted values and own sets, the goods and the cap.
+-- A provisional trade, for which prices are sought: the bidders'
+-- trees, weighted values and own sets, the goods and the cap.
 use Rattle.std.specs.Prelude.{ℕ, ◌<◌, ◌≤◌, ◌≡◌, List, length, ℤ, pos, ◌≤ℤ◌}
 use Rattle.ice_defs.specs.Tree.{Tree}
 use Rattle.ice_defs.specs.Set.{Weights}
@@ -19,7 +20,8 @@ pub record ProvisionalTrade : Type 0 where
 abbrev pub AreModest : List Weights → Type 0
 AreModest ws = (b : ℕ) → b < length ws → AreAtMostTrillion (weights_of ws b)
 
--- 1 to 40 bidders with a satisfied set and a modest weight of each of at most 200 nodes, 1 to 32 goods, and a cap from 0 to 1,000,000,000
+-- 1 to 40 bidders with a satisfied set and a modest weight of each of at
+-- most 200 nodes, 1 to 32 goods, and a cap from 0 to 1,000,000,000
 pub record IsProvisional (t : ProvisionalTrade) : Type 0 where
   pub bidders : (1 ≤ length t.trees) × (length t.trees ≤ 40)
   pub goods_count : (1 ≤ t.goods) × (t.goods ≤ 32)

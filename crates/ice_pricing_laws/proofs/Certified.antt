@@ -107,7 +107,8 @@ module _ (ts : List Tree) (ws : List Weights) (sets : Assignment) (goods : ℕ) 
   total-rows : (ns : List ℕ) → length ns ≡ length pool → pos (total_weight (rows_with pool ns)) ≡ pool_sum pool (λ m. pos 1) (weight_at ns)
   total-rows ns size = sym (weighted_sum-ones (rows_with pool ns)) ∙ weighted-rows (λ b s. pos 1) pool ns size
 
-  -- the rows' worth above what they want at the cap is at most the violation at any prices within the cap
+  -- the rows' worth above what they want at the cap is at
+  -- most the violation at any prices within the cap
   worth-most : (p : Prices) (v : ℤ) (rs : List Row) (den : ℕ) → AreSatisfied ts sets → ArePrices goods cap p → IsViolation ts ws sets p v
       → AllByRecursion (rows.IsRow ts ws sets) rs → total_weight rs ≤ den
       → (pos p.den *ℤ (weighted_sum (rows.worth_above ts ws sets) rs -ℤ (pos 100 *ℤ (cap *ℤ wanted ts ws sets goods rs)))) ≤ℤ (v *ℤ pos den)

@@ -1,4 +1,5 @@
--- Sums over a pool with weights, as sums over its rows, and weights that are multiples of other numbers.
+-- Sums over a pool with weights, as sums over its rows, and
+-- weights that are multiples of other numbers.
 use Rattle.std.proofs.Common.{ℕ, zero, suc, ◌<◌, ◌≡◌, List, [], ◌∷◌, length, slice_index_or, ℤ, pos, ◌*ℤ◌, ◌≤ℤ◌, refl, arith, ap, sym, ◌∙◌}
 use Rattle.std.specs.Int.{int_max}
 use Rattle.std.specs.List.{AllByRecursion}

@@ -1,4 +1,5 @@
--- A run in a market of a seller at -1150 and a buyer at 1100 that does not trade, as the definitions reckon it.
+-- A run in a market of a seller at -1150 and a buyer at 1100
+-- that does not trade, as the definitions reckon it.
 use Rattle.std.proofs.Common.{◌≡◌, true, false, List, [], ◌∷◌, pos, negsuc, Some, refl}
 use Rattle.ice_defs.specs.declared.NodeKind.TheVariants.{Buy, Sell}
 use Rattle.ice_defs.specs.Tree.{Tree}

@@ -20,13 +20,19 @@ AreDistinct pool = (i j : ℕ) → i < j → j < length pool → member_at pool 
 
 -- a choice that violates a point of the pool's program isn't in the pool
 abbrev pub ViolatorIsNew : Type 0
-ViolatorIsNew = (ts : List Tree) (ws : List Weights) (sets : Assignment) (goods : ℕ) (cap : ℤ) (at : StageAt) (pool : List Member) (x : List Fraction) (m : Member)
-    → IsPoint (stage_program ts ws sets goods cap at pool) x → Violates ts ws sets goods cap at x m → (i : ℕ) → i < length pool → member_at pool i ≢ m
+ViolatorIsNew =
+    (ts : List Tree) (ws : List Weights) (sets : Assignment) (goods : ℕ) (cap : ℤ) (at : StageAt) (pool : List Member) (x : List Fraction)
+    (m : Member)
+    → IsPoint (stage_program ts ws sets goods cap at pool) x → Violates ts ws sets goods cap at x m → (i : ℕ) → i < length pool
+    → member_at pool i ≢ m
 
 -- so a pool without a member twice stays one
 abbrev pub PoolStaysDistinct : Type 0
-PoolStaysDistinct = (ts : List Tree) (ws : List Weights) (sets : Assignment) (goods : ℕ) (cap : ℤ) (at : StageAt) (pool : List Member) (x : List Fraction) (m : Member)
-    → IsPoint (stage_program ts ws sets goods cap at pool) x → Violates ts ws sets goods cap at x m → AreDistinct pool → AreDistinct (pool ++ m ∷ [])
+PoolStaysDistinct =
+    (ts : List Tree) (ws : List Weights) (sets : Assignment) (goods : ℕ) (cap : ℤ) (at : StageAt) (pool : List Member) (x : List Fraction)
+    (m : Member)
+    → IsPoint (stage_program ts ws sets goods cap at pool) x → Violates ts ws sets goods cap at x m → AreDistinct pool
+    → AreDistinct (pool ++ m ∷ [])
 
 -- the pool of a state of a run has choices alone, at most 200, and none of them twice
 abbrev pub RunPoolIsProper : Type 0

@@ -10,7 +10,8 @@ use Rattle.ice_defs.specs.Rows.{Row, Certificate, PassesAccuracy, PassesBalance}
 use Rattle.ice_defs.specs.Fraction.{Fraction, whole, Equals, times, fraction_at}
 use Rattle.ice_defs.specs.Frac.{lowest}
 use Rattle.ice_defs.specs.Program.{IsLeast, AreDuals, AreNonNegative}
-use Rattle.ice_defs.specs.PricingRun.{Member, first_stage, accuracy_program, balance_program, solution_prices, HasNoneToAdd, common_den, num_over}
+use Rattle.ice_defs.specs.PricingRun.{Member, first_stage, accuracy_program, balance_program, solution_prices, HasNoneToAdd, common_den}
+use Rattle.ice_defs.specs.PricingRun.{num_over}
 use Rattle.ice_row_laws.specs.Laws.{AreSatisfied}
 use Rattle.ice_pricing_laws.specs.Laws.{AreMembers, balance_at}
 
@@ -28,22 +29,29 @@ certificate_with den pool ns = record { den = den; rows = rows_with pool ns }
 pub record AreWeights (factor : ℕ) (fs : List Fraction) (den : ℕ) (ns : List ℕ) : Type 0 where
   pub positive : 0 < den
   pub same_length : length ns ≡ length fs
-  pub equal : (i : ℕ) → i < length fs → Equals (record { num = pos (slice_index_or ns i 0); den = den }) (times (whole (pos factor)) (fraction_at fs i))
+  pub equal : (i : ℕ) → i < length fs
+      → Equals (record { num = pos (slice_index_or ns i 0); den = den }) (times (whole (pos factor)) (fraction_at fs i))
 
 -- the duals of a least point of the accuracy program give rows that pass the accuracy test
 abbrev pub DualsPassAccuracy : Type 0
-DualsPassAccuracy = (ts : List Tree) (ws : List Weights) (sets : Assignment) (goods : ℕ) (cap : ℤ) (pool : List Member) (x y : List Fraction) (v : ℤ) (den : ℕ) (ns : List ℕ)
+DualsPassAccuracy =
+    (ts : List Tree) (ws : List Weights) (sets : Assignment) (goods : ℕ) (cap : ℤ) (pool : List Member) (x y : List Fraction) (v : ℤ)
+    (den : ℕ) (ns : List ℕ)
     → pos 0 ≤ℤ cap → AreSatisfied ts sets → AreMembers ts ws sets pool
     → IsLeast (accuracy_program ts ws sets goods cap pool) x → AreDuals (accuracy_program ts ws sets goods cap pool) x y
     → HasNoneToAdd ts ws sets goods cap first_stage x → IsViolation ts ws sets (solution_prices ts ws sets goods cap x) v
     → AreWeights 1 (drop goods y) den ns
     → PassesAccuracy ts ws sets goods cap (solution_prices ts ws sets goods cap x) v (certificate_with den pool ns)
 
--- those of the balance program, times 100 times the denominator of the violation, pass the balance test
+-- those of the balance program, times 100 times the
+-- denominator of the violation, pass the balance test
 abbrev pub DualsPassBalance : Type 0
-DualsPassBalance = (ts : List Tree) (ws : List Weights) (sets : Assignment) (goods : ℕ) (cap : ℤ) (pool : List Member) (p : Prices) (delta : ℤ) (x y : List Fraction) (v : ℤ) (den : ℕ) (ns : List ℕ)
+DualsPassBalance =
+    (ts : List Tree) (ws : List Weights) (sets : Assignment) (goods : ℕ) (cap : ℤ) (pool : List Member) (p : Prices) (delta : ℤ)
+    (x y : List Fraction) (v : ℤ) (den : ℕ) (ns : List ℕ)
     → AreSatisfied ts sets → AreMembers ts ws sets pool → IsAccurate ts ws sets goods cap p → IsViolation ts ws sets p delta
-    → IsLeast (balance_program ts ws sets goods cap delta p.den pool) x → AreDuals (balance_program ts ws sets goods cap delta p.den pool) x y
+    → IsLeast (balance_program ts ws sets goods cap delta p.den pool) x
+    → AreDuals (balance_program ts ws sets goods cap delta p.den pool) x y
     → HasNoneToAdd ts ws sets goods cap (balance_at delta p.den) x → IsViolation ts ws sets (solution_prices ts ws sets goods cap x) v
     → AreWeights (100 * p.den) (drop goods y) den ns
     → PassesBalance ts ws sets goods (solution_prices ts ws sets goods cap x) v (certificate_with den pool ns)
@@ -54,7 +62,8 @@ AccuracyMoves = (ts : List Tree) (ws : List Weights) (sets : Assignment) (goods 
     → 0 < p.den → Equals (record { num = v; den = p.den }) (record { num = w; den = q.den })
     → PassesAccuracy ts ws sets goods cap p v c → PassesAccuracy ts ws sets goods cap q w c
 
--- the multiples of fractions in lowest terms, and their numerators over the least common denominator
+-- the multiples of fractions in lowest terms, and their
+-- numerators over the least common denominator
 abbrev pub lowest_of : Fraction → Fraction
 lowest_of f = lowest f.num f.den
 

@@ -20,15 +20,18 @@ MixGivesInfeasible = (p : Program) (y : List Fraction) → IsMix p y → IsInfea
 -- a pivot that isn't too wide keeps the solutions
 abbrev pub PivotKeepsSolutions : Type 0
 PivotKeepsSolutions = (d after : Dictionary) (l : ℕ) (k : Spot) → IsDictionary d → IsPivot d l k → pivoted d l k ≡ Some after
-    → IsDictionary after × ((value : ℕ → Fraction) (total : Fraction) → ((v : ℕ) → IsFraction (value v)) → IsFraction total → Holds d value total ↔ Holds after value total)
+    → IsDictionary after × ((value : ℕ → Fraction) (total : Fraction) → ((v : ℕ) → IsFraction (value v)) → IsFraction total
+    → Holds d value total ↔ Holds after value total)
 
 -- costs at least 0
 abbrev pub AreCosts : Program → Type 0
 AreCosts p = AllByRecursion (λ c. pos 0 ≤ℤ c) p.costs
 
--- where costs are at least 0 and the trace ends with the least, the stated point is feasible and the stated duals are its duals
+-- where costs are at least 0 and the trace ends with the least, the
+-- stated point is feasible and the stated duals are its duals
 abbrev pub LeastEndGivesDuals : Type 0
-LeastEndGivesDuals = (p : Program) (count : ℕ) (d : Dictionary) → AreCosts p → trace_end p ≡ least_end count d → IsPoint p (point_of p d) × AreDuals p (point_of p d) (duals_of p d)
+LeastEndGivesDuals = (p : Program) (count : ℕ) (d : Dictionary) → AreCosts p → trace_end p ≡ least_end count d
+    → IsPoint p (point_of p d) × AreDuals p (point_of p d) (duals_of p d)
 
 -- so it is least
 abbrev pub LeastEndGivesLeast : Type 0
@@ -36,9 +39,11 @@ LeastEndGivesLeast = (p : Program) (count : ℕ) (d : Dictionary) → AreCosts p
 
 -- where the trace ends with no leaving variable, the stated mix is a mix
 abbrev pub InfeasibleEndGivesMix : Type 0
-InfeasibleEndGivesMix = (p : Program) (count : ℕ) (d : Dictionary) (k : Spot) → trace_end p ≡ infeasible_end count d k → IsMix p (mix_of p d k)
+InfeasibleEndGivesMix = (p : Program) (count : ℕ) (d : Dictionary) (k : Spot) → trace_end p ≡ infeasible_end count d k
+    → IsMix p (mix_of p d k)
 
--- what is never too wide for fractions in lowest terms: a product by 0, by 1 or by -1, a sum with 0, a quotient of 0 and one of 1
+-- what is never too wide for fractions in lowest terms: a product by
+-- 0, by 1 or by -1, a sum with 0, a quotient of 0 and one of 1
 pub record NeverWide (a : Fraction) : Type 0 where
   pub by_zero : mul (whole (pos 0)) a ≡ Some (whole (pos 0))
   pub by_one : mul (whole (pos 1)) a ≡ Some a
@@ -56,4 +61,5 @@ ProductsCommute = (a b : Fraction) → mul a b ≡ mul b a
 
 -- a pivot leaves a row whose coefficient of the entering variable is 0 as it is
 abbrev pub ZeroRowStays : Type 0
-ZeroRowStays = (k : ℕ) (new row : Left) → AreLowest new → AreLowest row → length new.coeffs ≡ length row.coeffs → (fraction_at row.coeffs k).num ≡ pos 0 → other_row k new row ≡ Some row
+ZeroRowStays = (k : ℕ) (new row : Left) → AreLowest new → AreLowest row → length new.coeffs ≡ length row.coeffs
+    → (fraction_at row.coeffs k).num ≡ pos 0 → other_row k new row ≡ Some row

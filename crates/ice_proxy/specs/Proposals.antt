@@ -35,4 +35,5 @@ module _ (p : Prices) (improve : ℤ) where
     pub least : (earlier : ℕ) → earlier < attempt → ¬ IsAcceptable b (proposal b.bounds truth earlier)
 
   abbrev pub IsProxyBid : Standing → List ℤ → Submission → Type 0
-  IsProxyBid b truth s = (s.name ≡ b.name) × ((attempt : ℕ) × IsProxyAttempt b truth attempt × (stated_bounds s ≡ proposal b.bounds truth attempt))
+  IsProxyBid b truth s = (s.name ≡ b.name)
+      × ((attempt : ℕ) × IsProxyAttempt b truth attempt × (stated_bounds s ≡ proposal b.bounds truth attempt))

@@ -13,7 +13,8 @@ use Rattle.ice_proxy.specs.Proposals.{IsProxyBid}
 -- one submission per bidder in order, each its proxy bid
 abbrev pub IsProxyRound : Prices → ℤ → List Standing → List (List ℤ) → List Judged → Type 0
 IsProxyRound p improve [] truths [] = Unit {0}
-IsProxyRound p improve (b ∷ bidders) (truth ∷ truths) (j ∷ judged) = IsProxyBid p improve b truth j.submission × IsProxyRound p improve bidders truths judged
+IsProxyRound p improve (b ∷ bidders) (truth ∷ truths) (j ∷ judged) = IsProxyBid p improve b truth j.submission
+    × IsProxyRound p improve bidders truths judged
 IsProxyRound p improve bidders truths judged = ⊥
 
 -- every settlement that goes on has such a round
@@ -38,4 +39,5 @@ AreAccepted judged = AllByRecursion (λ j. j.verdict ≡ Accepted) judged
 -- so it is at each settlement from these bounds on, and each bid is accepted
 abbrev pub HoldThroughout : Exchange → List (List ℤ) → List Bounds → List Going → Type 0
 HoldThroughout ex truths bounds [] = HoldTruths bounds truths
-HoldThroughout ex truths bounds (g ∷ later) = HoldTruths bounds truths × AreAccepted g.judged × HoldThroughout ex truths (bounds_after_round ex bounds g) later
+HoldThroughout ex truths bounds (g ∷ later) = HoldTruths bounds truths × AreAccepted g.judged
+    × HoldThroughout ex truths (bounds_after_round ex bounds g) later

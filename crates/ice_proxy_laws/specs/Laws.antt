@@ -26,20 +26,24 @@ pub record IsQuiet (r : Record) : Type 0 where
 -- the first bidders have bid, in order, each its proxy bid
 abbrev pub IsProxyFront : Prices → ℤ → List Standing → List (List ℤ) → List Judged → Type 0
 IsProxyFront p improve bidders truths [] = Unit {0}
-IsProxyFront p improve (b ∷ bidders) (truth ∷ truths) (j ∷ judged) = IsProxyBid p improve b truth j.submission × IsProxyFront p improve bidders truths judged
+IsProxyFront p improve (b ∷ bidders) (truth ∷ truths) (j ∷ judged) = IsProxyBid p improve b truth j.submission
+    × IsProxyFront p improve bidders truths judged
 IsProxyFront p improve bidders truths (j ∷ judged) = ⊥
 
--- what stands behind settlements that went on: nothing; a settlement without a round; or one with a round as far as it has come
+-- what stands behind settlements that went on: nothing; a settlement
+-- without a round; or one with a round as far as it has come
 pub data IsRest (v : Version) (ex : Exchange) (truths : List (List ℤ)) (number : ℕ) (bounds : List Bounds) : List Record → Type 0 where
   nothing : IsRest v ex truths number bounds []
   begins : (rest : List Record) → AllByRecursion IsQuiet rest → IsRest v ex truths number bounds (line.settle number ∷ rest)
   goes_on : (g : Going) → closes ex.settings number g.settlement.regret ≡ false → IsShownGoing ex bounds g
-      → IsProxyFront g.prices ex.settings.improve (standings ex bounds g.provisional.sets) truths g.judged → IsRest v ex truths number bounds (going_in v (length (exact_of ex)) number g)
+      → IsProxyFront g.prices ex.settings.improve (standings ex bounds g.provisional.sets) truths g.judged
+      → IsRest v ex truths number bounds (going_in v (length (exact_of ex)) number g)
 
 -- the submissions of a journal that is written so far are proxy bids
 abbrev pub RunSubmitsProxies : Type 0
 RunSubmitsProxies =
-    (v : Version) (ex : Exchange) (truths : List (List ℤ)) (going : List Going) (rest : List Record) → IsExchange ex → AreShownGoing ex 0 (opening_bounds ex) going → IsProxyFrom ex truths (opening_bounds ex) going
+    (v : Version) (ex : Exchange) (truths : List (List ℤ)) (going : List Going) (rest : List Record) → IsExchange ex
+    → AreShownGoing ex 0 (opening_bounds ex) going → IsProxyFrom ex truths (opening_bounds ex) going
     → IsRest v ex truths (length going) (bounds_after_rounds ex (opening_bounds ex) going) rest
     → SubmitsProxies (begun v session_kind) truths (section_records ex ++ goings_in v (length (exact_of ex)) 0 going ++ rest)
 
@@ -47,4 +51,5 @@ RunSubmitsProxies =
 abbrev pub SessionSubmitsProxies : Type 0
 SessionSubmitsProxies =
     (v : Version) (s : Session) (truths : List (List ℤ)) → IsShownSession s → IsProxySession truths s
-    → SubmitsProxies (begun v session_kind) truths (section_records s.exchange ++ settlements_in v (length (exact_of s.exchange)) 0 s.going s.closed)
+    → SubmitsProxies (begun v session_kind) truths
+    (section_records s.exchange ++ settlements_in v (length (exact_of s.exchange)) 0 s.going s.closed)

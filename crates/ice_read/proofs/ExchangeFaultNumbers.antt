@@ -1,4 +1,5 @@
--- Each fault of an exchange file has a number, and so it is no want of memory; nor is it a sale above what is owned, but where a bidder is added.
+-- Each fault of an exchange file has a number, and so it is no want of memory;
+-- nor is it a sale above what is owned, but where a bidder is added.
 use Rattle.std.proofs.Common.{◌≡◌, ℕ, zero, suc, Bool, cond, ℤ, pos, neg_ℤ, List, [], ◌∷◌, length, Option, Some, None, refl, subst, arith, ◌-◌, true, false, map}
 use Rattle.std.specs.Prelude.{◌==◌, codes, replicate, position}
 use Rattle.std.specs.Str.{bytes_eq}

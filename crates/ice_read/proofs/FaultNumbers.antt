@@ -1,4 +1,5 @@
--- A fault of a file has a number, and so it is no want of memory; nor is it a sale above what is owned, but where a bidder is added.
+-- A fault of a file has a number, and so it is no want of memory; nor is
+-- it a sale above what is owned, but where a bidder is added.
 use Rattle.std.proofs.Common.{◌≡◌, ◌≢◌, ℕ, suc, Bool, true, false, cond, ltb, ℤ, pos, neg_ℤ, Ok, Err, List, [], ◌∷◌, ap, subst, arith}
 use Rattle.std.specs.Prelude.{codes, ◌&&◌, int_le, unwrap_or}
 use Rattle.serde_json.specs.Data.{unsigned, negative, float, Data, null, boolean, number, string, array, object, Items, no_items, item}

@@ -30,7 +30,8 @@ pub mod Bytes
 pub mod ArrayElements
 -- what is read of the parts of a round file, step by step
 pub mod RoundParts
--- a fault of a file has a number, and so it is no want of memory; nor is it a sale above what is owned, but where a bidder is added
+-- a fault of a file has a number, and so it is no want of memory; nor
+-- is it a sale above what is owned, but where a bidder is added
 pub mod FaultNumbers
 -- so has each fault of an exchange file
 pub mod ExchangeFaultNumbers

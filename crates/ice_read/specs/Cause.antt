@@ -3,7 +3,8 @@ use Rattle.std.specs.Prelude.{ℕ, Option, Some, None}
 use Rattle.ice_tree.specs.Fault.{tree_fault_number}
 use Rattle.ice_trade.specs.Fault.{make_fault_number}
 use Rattle.ice_read.specs.declared.cause.ReadCause.{ReadCause}
-use Rattle.ice_read.specs.declared.cause.ReadCause.TheVariants.{NotJson, Shape, NotWhole, Range, UnknownGood, NoUnits, NoPackages, Tree, Make, NoMemory}
+use Rattle.ice_read.specs.declared.cause.ReadCause.TheVariants.{NotJson, Shape, NotWhole, Range, UnknownGood, NoUnits, NoPackages, Tree}
+use Rattle.ice_read.specs.declared.cause.ReadCause.TheVariants.{Make, NoMemory}
 
 -- want of memory has no number
 abbrev pub cause_number : ReadCause → Option ℕ

@@ -19,7 +19,9 @@ abbrev pub choose_data : ℕ → ℕ → ℤ → ℤ → List Data → Data
 choose_data least most lo hi children = kind_data [] (Choose least most) lo hi children
 
 abbrev pub named_data : List ℕ → Data → Data → Data
-named_data name own tree = object_of (is_called (codes "name") (string name) ∷ is_called (codes "own") own ∷ is_called (codes "tree") tree ∷ [])
+named_data name own tree =
+    object_of (is_called (codes "name") (string name) ∷ is_called (codes "own") own ∷ is_called (codes "tree") tree ∷ [])
 
 abbrev pub file_data : Data → Data → Data → Data
-file_data settings goods bidders = object_of (is_called (codes "settings") settings ∷ is_called (codes "goods") goods ∷ is_called (codes "bidders") bidders ∷ [])
+file_data settings goods bidders =
+    object_of (is_called (codes "settings") settings ∷ is_called (codes "goods") goods ∷ is_called (codes "bidders") bidders ∷ [])

@@ -39,7 +39,8 @@ opened_below goods d path = opened_at goods (levels_below d) (innermost d.opened
 abbrev pub node_below : List (List ℕ) → TreeDraft → Path → Data → Read Draft
 node_below goods d path = node_at goods (levels_below d) (innermost d.opened) path (taken d)
 
--- a tree that another node may come to, and in which no node is told to be under one that isn't there
+-- a tree that another node may come to, and in which no
+-- node is told to be under one that isn't there
 pub record IsWaiting (d : TreeDraft) : Type 0 where
   pub going : is_complete d ≡ false
   pub deep : length d.opened ≤ 16

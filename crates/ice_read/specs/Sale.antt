@@ -16,7 +16,8 @@ use Rattle.ice_read.specs.Places.{dotted}
 abbrev pub TellsOfSale : (List ℕ → ℕ → ℤ → Type 0) → ReadFault → Type 0
 TellsOfSale IsSold fault = (good : ℕ) (amount : ℤ) → fault.cause ≡ Make (OverSale good amount) → IsSold fault.place good amount
 
--- the value is a bidder who may sell so much of the good, more than it owns; there is no lesser good of which it may
+-- the value is a bidder who may sell so much of the good, more
+-- than it owns; there is no lesser good of which it may
 pub record IsSaleOf (goods : List Good) (d : Data) (place : List ℕ) (good : ℕ) (amount : ℤ) : Type 0 where
   pub bidder : Bidder
   pub read : (path : Path) → bidder_at (map (λ g. g.name) goods) path d ≡ Ok bidder

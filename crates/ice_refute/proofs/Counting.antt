@@ -27,7 +27,8 @@ one_less ts side b n m are free taken =
     let node : n < length (fixing_of side b) = omega (arith, free.1, are.nodes b free.0) in
     omega (arith, free_count-with_mark side b n m there node, ap (λ y. number (is_free y)) free.2, ap number taken)
 
--- the steps that are read: fewer branches than leaves of a full tree, and one more closing step than branches
+-- the steps that are read: fewer branches than leaves of a
+-- full tree, and one more closing step than branches
 record IsCounted (free branches_before branches_left steps_before steps_left : ℕ) : Type 0 where
   few : branches_before + 1 ≤ branches_left + 2 ^ free
   odd : steps_before + 2 * branches_left ≡ steps_left + 2 * branches_before + 1

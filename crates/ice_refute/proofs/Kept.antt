@@ -1,4 +1,5 @@
--- Marks and branches that are kept: how many free nodes there are after a mark, and which sides wait.
+-- Marks and branches that are kept: how many free nodes
+-- there are after a mark, and which sides wait.
 use Rattle.std.proofs.Common.{ℕ, zero, suc, ◌+◌, ◌<◌, ◌≤◌, ◌≡◌, ◌≢◌, Bool, true, false, cond, List, [], ◌∷◌, ◌++◌, length, reverse, get_or, set, sum, refl, arith, ap, sym, ◌∙◌, subst, ◌⊎◌, inl, inr, get_or-set_same, get_or-set_other, length-append}
 use Rattle.std.proofs.lemmas.Bool.{cases_lt}
 use Rattle.std.proofs.lemmas.List.{length-set, set-set, set-get_or, get_or_push, get_or_append_left, reverse-append, length-reverse}

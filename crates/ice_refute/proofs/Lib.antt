@@ -4,7 +4,8 @@ pub mod Refutes
 pub mod Same
 -- reading the open sides one after another
 pub mod Reading
--- marks and branches that are kept: how many free nodes there are after a mark, and which sides wait
+-- marks and branches that are kept: how many free nodes
+-- there are after a mark, and which sides wait
 pub mod Kept
 -- a passing log over n free nodes has fewer than 2^n branch steps
 pub mod Counting

@@ -16,7 +16,8 @@ with_number k (NotDead number) = NotDead k
 with_number k Short = Short
 with_number k (Long number) = Long k
 
--- reading the start ends at this fault, and so many steps stand before the step that is named; or it leaves the steps from that one on
+-- reading the start ends at this fault, and so many steps stand before the
+-- step that is named; or it leaves the steps from that one on
 abbrev pub IsLogFault : List Tree → List Bool → List Weights → ℤ → Side → List Step → LogFault → Type 0
 IsLogFault ts exact ws target start log (Fixed k) = (k < length log) × Reads ts exact ws target start log (Err (fixed (drop k log)))
 IsLogFault ts exact ws target start log (Sign k) = (k < length log) × Reads ts exact ws target start log (Err (sign (drop k log)))

@@ -13,12 +13,15 @@ use Rattle.ice_refute.specs.Waiting.{free_count}
 -- a log that passes refutes every greater assignment
 abbrev pub LogRefutes : Type 0
 LogRefutes = (ts : List Tree) (exact : List Bool) (ws : List Weights) (target : ℤ) (start : Side) (log : List Step) (a : Assignment)
-    → AllByRecursion (CountsGoods (length exact)) log → Passes ts exact ws target start log → IsFeasible ts exact a → MeetsAll a start → total_value a ws ≤ℤ target
+    → AllByRecursion (CountsGoods (length exact)) log → Passes ts exact ws target start log → IsFeasible ts exact a → MeetsAll a start
+    → total_value a ws ≤ℤ target
 
--- over n free nodes a passing log has fewer than 2^n branch steps, and fewer than twice that many steps
+-- over n free nodes a passing log has fewer than 2^n
+-- branch steps, and fewer than twice that many steps
 abbrev pub LogIsShort : Type 0
 LogIsShort = (ts : List Tree) (exact : List Bool) (ws : List Weights) (target : ℤ) (start : Side) (log : List Step)
-    → AreFixingsOf ts start → Passes ts exact ws target start log → (branch_count log < 2 ^ free_count start) × (length log < 2 ^ (free_count start + 1))
+    → AreFixingsOf ts start → Passes ts exact ws target start log
+    → (branch_count log < 2 ^ free_count start) × (length log < 2 ^ (free_count start + 1))
 
 -- the open sides after these steps
 abbrev pub open_after : List Side → List Step → List Side

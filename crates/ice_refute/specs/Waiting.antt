@@ -1,5 +1,7 @@
--- The open sides, as they are kept: the marks of the first one, and the branches that led to it, each the number of a bidder and of a node.
-use Rattle.std.specs.Prelude.{ℕ, ◌+◌, ◌<◌, ◌≤◌, Bool, true, false, if◌then◌else◌, List, [], ◌∷◌, length, map, reverse, slice_index_or, sum_by}
+-- The open sides, as they are kept: the marks of the first one, and the
+-- branches that led to it, each the number of a bidder and of a node.
+use Rattle.std.specs.Prelude.{ℕ, ◌+◌, ◌<◌, ◌≤◌, Bool, true, false, if◌then◌else◌, List, [], ◌∷◌, length, map, reverse, slice_index_or}
+use Rattle.std.specs.Prelude.{sum_by}
 use Rattle.ice_defs.specs.declared.Mark.{Mark}
 use Rattle.ice_defs.specs.declared.Mark.TheVariants.{Free, Must, Never}
 use Rattle.ice_defs.specs.Sum.{count_below}
@@ -17,7 +19,8 @@ also_waits Free second sides = sides
 abbrev pub waiting : Side → List (ℕ × ℕ) → List Side
 waiting marks [] = []
 waiting marks (place ∷ outer) =
-    also_waits (mark_of (fixing_of marks place.0) place.1) (with_mark marks place.0 place.1 Never) (waiting (with_mark marks place.0 place.1 Free) outer)
+    also_waits (mark_of (fixing_of marks place.0) place.1) (with_mark marks place.0 place.1 Never)
+    (waiting (with_mark marks place.0 place.1 Free) outer)
 
 -- the open sides, the next one first, by the branches, the outermost first
 abbrev pub open_sides : Bool → Side → List (ℕ × ℕ) → List Side
@@ -42,12 +45,14 @@ free_count side = sum_by free_nodes side
 abbrev pub IsPlace : Side → ℕ × ℕ → Type 0
 IsPlace marks place = (place.0 < length marks) × (place.1 < length (fixing_of marks place.0))
 
--- each branch is at a node that is there, and there is room for as many more as there are free nodes
+-- each branch is at a node that is there, and there is
+-- room for as many more as there are free nodes
 pub record AreKept (marks : Side) (branches : List (ℕ × ℕ)) : Type 0 where
   pub places : (k : ℕ) → k < length branches → IsPlace marks (slice_index_or branches k (0, 0))
   pub room : length branches + free_count marks ≤ 2000
 
--- what is seen of a walk: its open sides, the next one first, and the numbers of nodes of the trees that it is made for
+-- what is seen of a walk: its open sides, the next one first, and
+-- the numbers of nodes of the trees that it is made for
 pub record WalkView : Type 0 where
   pub sides : List Side
   pub nodes : List ℕ

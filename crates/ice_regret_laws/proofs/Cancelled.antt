@@ -1,4 +1,5 @@
--- Under every profile an assignment leads the final one by no more than at perturbed weights, since nodes that both share cancel.
+-- Under every profile an assignment leads the final one by no more
+-- than at perturbed weights, since nodes that both share cancel.
 use Rattle.std.proofs.Common.{ℕ, ◌<◌, ◌≡◌, Bool, true, false, cond, List, length, ℤ, pos, ◌+ℤ◌, ◌*ℤ◌, ◌≤ℤ◌, arith, ap}
 use Rattle.std.proofs.lemmas.Int.{ints}
 use Rattle.std.proofs.Math.IntN.{*ℤ-zero}
@@ -11,7 +12,8 @@ use Rattle.ice_defs.proofs.Sums.{sum_below-le, sum_below-add}
 use Rattle.ice_defs.proofs.Products.{sum_below-times}
 use Rattle.ice_defs.proofs.Weights.{weight_of-perturbed_list, weights_of-lower, weights_of-perturbed}
 
--- a node of both sets counts as much on both sides, one of the first alone at most its upper value, and one of the second alone at least its lower value
+-- a node of both sets counts as much on both sides, one of the first alone at
+-- most its upper value, and one of the second alone at least its lower value
 node-le : (one final : Bool) (k : ℕ) (lo hi v : ℤ) → (pos k *ℤ lo) ≤ℤ v → v ≤ℤ (pos k *ℤ hi)
     → (cond one v (pos 0) +ℤ (pos k *ℤ cond final lo (pos 0))) ≤ℤ (cond final v (pos 0) +ℤ (pos k *ℤ cond one (cond final lo hi) (pos 0)))
 node-le true true k lo hi v low high = omega (arith, ints)

@@ -8,7 +8,8 @@ pub mod Order
 pub mod Keeping
 -- the entries that submissions leave, one after another, are the definition's
 pub mod Entering
--- verdicts that are taken one at a time, by the entries that the earlier ones left, are those of a round
+-- verdicts that are taken one at a time, by the entries
+-- that the earlier ones left, are those of a round
 pub mod Taking
 -- a submission looks at its bidder's entry alone, and changes that one alone
 pub mod Single

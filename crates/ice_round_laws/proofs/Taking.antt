@@ -1,4 +1,5 @@
--- Verdicts that are taken one at a time, by the entries that the earlier ones left, are those of a round.
+-- Verdicts that are taken one at a time, by the entries
+-- that the earlier ones left, are those of a round.
 use Rattle.std.proofs.Common.{ℕ, ◌≡◌, ◌↔◌, Bool, true, false, ◌||◌, IsTrue, List, [], ◌∷◌, ◌++◌, map, ℤ, refl, sym, ◌∙◌, ap, subst}
 use Rattle.std.specs.List.{list_any, AllByRecursion}
 use Rattle.std.specs.Str.{bytes_eq}

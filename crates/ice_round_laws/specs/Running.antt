@@ -10,7 +10,8 @@ use Rattle.ice_defs.specs.Prices.{Prices}
 use Rattle.ice_defs.specs.Round.{Judged, Submission, Standing, stated_bounds, is_accepted, IsVerdict, IsRound, next_bounds, IsNextVerdict}
 use Rattle.ice_defs.specs.Exchange.{Bidder, Exchange, names_of}
 use Rattle.ice_defs.specs.Session.{standings}
-use Rattle.ice_round_laws.specs.Entries.{Entry, entries_before, with_bounds, entry_after, entries_after, entries_after_all, is_entered, IsVerdictBy, AreVerdictsBy, entries_of}
+use Rattle.ice_round_laws.specs.Entries.{Entry, entries_before, with_bounds, entry_after, entries_after, entries_after_all, is_entered}
+use Rattle.ice_round_laws.specs.Entries.{IsVerdictBy, AreVerdictsBy, entries_of}
 
 -- ---- the entries are the definition's
 
@@ -18,13 +19,16 @@ abbrev pub EntriesBegin : Type 0
 EntriesBegin = (bidders : List Standing) → entries_of bidders [] ≡ entries_before bidders
 
 abbrev pub EntriesGoOn : Type 0
-EntriesGoOn = (bidders : List Standing) (earlier : List Judged) (j : Judged) → entries_of bidders (earlier ++ j ∷ []) ≡ entries_after (entries_of bidders earlier) j
+EntriesGoOn = (bidders : List Standing) (earlier : List Judged) (j : Judged)
+    → entries_of bidders (earlier ++ j ∷ []) ≡ entries_after (entries_of bidders earlier) j
 
 abbrev pub EntriesAreDefined : Type 0
-EntriesAreDefined = (bidders : List Standing) (judged : List Judged) → entries_after_all (entries_before bidders) judged ≡ entries_of bidders judged
+EntriesAreDefined = (bidders : List Standing) (judged : List Judged)
+    → entries_after_all (entries_before bidders) judged ≡ entries_of bidders judged
 
 abbrev pub EntriesTellBounds : Type 0
-EntriesTellBounds = (bidders : List Standing) (judged : List Judged) → map (λ (e : Entry). e.next) (entries_of bidders judged) ≡ next_bounds bidders judged
+EntriesTellBounds = (bidders : List Standing) (judged : List Judged)
+    → map (λ (e : Entry). e.next) (entries_of bidders judged) ≡ next_bounds bidders judged
 
 -- ---- the verdicts are the definition's
 
@@ -40,7 +44,8 @@ RoundsBegin = (p : Prices) (improve : ℤ) (bidders : List Standing) → IsRound
 -- one submission more
 abbrev pub RoundsGoOn : Type 0
 RoundsGoOn = (p : Prices) (improve : ℤ) (bidders : List Standing) (earlier : List Judged) (j : Judged)
-    → IsRound p improve bidders (earlier ++ j ∷ []) ↔ (IsRound p improve bidders earlier × IsNextVerdict p improve bidders earlier j.submission j.verdict)
+    → IsRound p improve bidders (earlier ++ j ∷ []) ↔
+    (IsRound p improve bidders earlier × IsNextVerdict p improve bidders earlier j.submission j.verdict)
 
 -- verdicts taken one at a time are those of a round, and no others are
 abbrev pub VerdictsMakeRound : Type 0
@@ -66,14 +71,17 @@ NamesStay = (entries : List Entry) (j : Judged) → names_in (entries_after entr
 
 -- what the bidders of an exchange bring into a round has their names, one each
 abbrev pub StandingsAreNamed : Type 0
-StandingsAreNamed = (ex : Exchange) (bounds : List Bounds) (sets : Assignment) → length bounds ≡ length ex.bidders → length sets ≡ length ex.bidders
+StandingsAreNamed = (ex : Exchange) (bounds : List Bounds) (sets : Assignment) → length bounds ≡ length ex.bidders
+    → length sets ≡ length ex.bidders
     → map (λ (bidder : Standing). bidder.name) (standings ex bounds sets) ≡ names_of ex
 
 -- and each brings its own tree, bounds and set
 abbrev pub StandingIs : Type 0
-StandingIs = (ex : Exchange) (bounds : List Bounds) (sets : Assignment) (b : ℕ) (d : Standing) (bidder : Bidder) → length bounds ≡ length ex.bidders → length sets ≡ length ex.bidders
+StandingIs = (ex : Exchange) (bounds : List Bounds) (sets : Assignment) (b : ℕ) (d : Standing) (bidder : Bidder)
+    → length bounds ≡ length ex.bidders → length sets ≡ length ex.bidders
     → b < length ex.bidders → slice_index_or ex.bidders b bidder ≡ bidder
-    → slice_index_or (standings ex bounds sets) b d ≡ record { name = bidder.name; tree = bidder.tree; bounds = bounds_of bounds b; set = set_of sets b }
+    → slice_index_or (standings ex bounds sets) b d
+    ≡ record { name = bidder.name; tree = bidder.tree; bounds = bounds_of bounds b; set = set_of sets b }
 
 -- ---- one entry at a time
 
@@ -81,7 +89,8 @@ StandingIs = (ex : Exchange) (bounds : List Bounds) (sets : Assignment) (b : ℕ
 abbrev pub OneEntryDecides : Type 0
 OneEntryDecides = (p : Prices) (improve : ℤ) (entries : List Entry) (b : ℕ) (d : Entry) (s : Submission) (verdict : Verdict)
     → IsDistinct bytes_eq (names_in entries) → b < length entries → (slice_index_or entries b d).standing.name ≡ s.name
-    → IsVerdictBy p improve entries s verdict ↔ IsVerdict p improve (slice_index_or entries b d).standing (slice_index_or entries b d).is_taken s verdict
+    → IsVerdictBy p improve entries s verdict ↔ IsVerdict p improve (slice_index_or entries b d).standing
+    (slice_index_or entries b d).is_taken s verdict
 
 -- where no entry has its name, the bidder is unknown
 abbrev pub NoEntryDecides : Type 0

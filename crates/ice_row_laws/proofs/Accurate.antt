@@ -27,7 +27,8 @@ module _ (ts : List Tree) (ws : List Weights) (sets : Assignment) (goods : ℕ) 
       let most = cost_of-le q t asked (λ g h. low g (omega (arith, size, h))) (λ g h. high g (omega (arith, size, h))) in
       omega (arith, ints, most, ap (λ n. t *ℤ sum_below (λ g. int_max (asked g) (pos 0)) n) size)
 
-  -- the rows' worth above what they want at the cap is at most the violation at any prices within the cap
+  -- the rows' worth above what they want at the cap is at
+  -- most the violation at any prices within the cap
   worth-le : (cap : ℤ) (q : Prices) (y : ℤ) (rows : List Row) (den : ℕ) → AreSatisfied ts sets → ArePrices goods cap q → IsViolation ts ws sets q y
       → AllByRecursion (IsRow ts ws sets) rows → total_weight rows ≤ den
       → (pos q.den *ℤ (weighted_sum (worth_above ts ws sets) rows -ℤ (pos 100 *ℤ (cap *ℤ wanted ts ws sets goods rows)))) ≤ℤ (y *ℤ pos den)

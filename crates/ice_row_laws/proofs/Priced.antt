@@ -1,4 +1,5 @@
--- Rows at prices of a violation: their worth is at most what their units cost, and the violation for each weight.
+-- Rows at prices of a violation: their worth is at most what
+-- their units cost, and the violation for each weight.
 use Rattle.std.proofs.Common.{ℕ, List, [], ◌∷◌, ℤ, pos, ◌+ℤ◌, ◌*ℤ◌, ◌≤ℤ◌, arith}
 use Rattle.std.specs.List.{AllByRecursion}
 use Rattle.std.proofs.lemmas.Int.{ints}

@@ -1,4 +1,5 @@
--- A market of a seller at -1150 and a buyer at 1100 that does not trade: the price 11 is balanced, since the buyer's row shows that no lower one is accurate.
+-- A market of a seller at -1150 and a buyer at 1100 that does not trade: the price 11
+-- is balanced, since the buyer's row shows that no lower one is accurate.
 use Rattle.std.proofs.Common.{ℕ, zero, suc, ◌<◌, ◌≡◌, Bool, true, false, List, [], ◌∷◌, length, pos, negsuc, ◌≤ℤ◌, refl, arith}
 use Rattle.std.specs.Prelude.{IsTrue}
 use Rattle.std.proofs.lemmas.Int.{ints}

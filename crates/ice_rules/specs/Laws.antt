@@ -11,4 +11,5 @@ use Rattle.ice_defs.specs.Judging.{IsJudged}
 abbrev pub ExactBidIsAccepted : Type 0
 ExactBidIsAccepted =
     (t : Tree) (p : Prices) (improve : ℤ) (s : NodeSet) (old : Bounds) (v : Weights)
-    → IsTree t → 0 < p.den → pos 0 ≤ℤ improve → IsSatisfied t s → length v ≡ length t → IsInside 1 old v → IsJudged t p improve s old (record { lo = v; hi = v }) Accepted
+    → IsTree t → 0 < p.den → pos 0 ≤ℤ improve → IsSatisfied t s → length v ≡ length t → IsInside 1 old v
+    → IsJudged t p improve s old (record { lo = v; hi = v }) Accepted

@@ -1,4 +1,5 @@
--- A feasible assignment that meets a side meets one child of it, and not both; so one that meets the start meets a part that isn't split.
+-- A feasible assignment that meets a side meets one child of it, and not
+-- both; so one that meets the start meets a part that isn't split.
 use Rattle.std.proofs.Common.{ℕ, suc, ◌<◌, ◌≡◌, Bool, true, false, List, length, Some, None, ◌≤ℤ◌, arith, sym, subst, ◌⊎◌, inl, inr}
 use Rattle.std.specs.List.{Contains}
 use Rattle.std.proofs.lemmas.Int.{ints}

@@ -1,4 +1,5 @@
--- Where no free node leaves both children live, each bidder has one set that it may still take, and a sweep closes the side.
+-- Where no free node leaves both children live, each bidder has one
+-- set that it may still take, and a sweep closes the side.
 use Rattle.std.proofs.Common.{ℕ, zero, suc, ◌^◌, ◌<◌, ◌≤◌, ◌≡◌, Bool, true, false, List, [], length, get_or, set, ℤ, pos, neg_ℤ, ◌+ℤ◌, ◌*ℤ◌, ◌≤ℤ◌, refl, arith, ap, sym, ◌∙◌, subst, ◌⊎◌, inl, inr, get_or-set_same, get_or-set_other}
 use Rattle.std.proofs.lemmas.Int.{ints, by_lt_z}
 use Rattle.std.proofs.lemmas.Bool.{cases_lt, cases_eq, true≢false}

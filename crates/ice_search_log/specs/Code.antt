@@ -12,7 +12,13 @@ abbrev pub split_of : Split → parts.Split
 split_of s = record { bidder = s.bidder; node = s.node; must = s.must }
 
 abbrev pub part_of : Part → parts.Part
-part_of p = record { put = record { above = p.above; bidder = p.bidder; node = p.node; mark = p.mark }; m = p.m; key = p.key; swept = p.swept; split = option_map split_of p.split }
+part_of p = record {
+  put = record { above = p.above; bidder = p.bidder; node = p.node; mark = p.mark };
+  m = p.m;
+  key = p.key;
+  swept = p.swept;
+  split = option_map split_of p.split;
+}
 
 abbrev pub parts_of : List Part → List parts.Part
 parts_of list = map part_of list

@@ -1,5 +1,6 @@
 -- Laws of searches, as statements.
-use Rattle.std.specs.Prelude.{ℕ, suc, ◌+◌, ◌*◌, ◌^◌, ◌<◌, ◌≤◌, ◌≡◌, ◌⊎◌, Bool, true, List, [], ◌∷◌, ◌++◌, length, slice_set, slice_index_or, ℤ, pos, ◌+ℤ◌, ◌*ℤ◌, ◌≤ℤ◌, ◌<ℤ◌, Some, None}
+use Rattle.std.specs.Prelude.{ℕ, suc, ◌+◌, ◌*◌, ◌^◌, ◌<◌, ◌≤◌, ◌≡◌, ◌⊎◌, Bool, true, List, [], ◌∷◌, ◌++◌, length, slice_set, slice_index_or}
+use Rattle.std.specs.Prelude.{ℤ, pos, ◌+ℤ◌, ◌*ℤ◌, ◌≤ℤ◌, ◌<ℤ◌, Some, None}
 use Rattle.std.specs.List.{AllByRecursion, Contains}
 use Rattle.ice_defs.specs.declared.Mark.{Mark}
 use Rattle.ice_defs.specs.declared.Mark.TheVariants.{Free, Must, Never}
@@ -7,7 +8,8 @@ use Rattle.ice_defs.specs.Sum.{sum_below}
 use Rattle.ice_defs.specs.Tree.{Tree}
 use Rattle.ice_defs.specs.Set.{NodeSet, Weights}
 use Rattle.ice_defs.specs.Fixing.{mark_of}
-use Rattle.ice_defs.specs.Trade.{Assignment, tree_of, set_of, weights_of, fixing_of, total_units, is_exact, IsCovered, IsFeasible, MeetsAll, total_value, IsBest}
+use Rattle.ice_defs.specs.Trade.{Assignment, tree_of, set_of, weights_of, fixing_of, total_units, is_exact, IsCovered, IsFeasible, MeetsAll}
+use Rattle.ice_defs.specs.Trade.{total_value, IsBest}
 use Rattle.ice_defs.specs.Bound.{Multipliers, net, IsOpen, IsBound}
 use Rattle.ice_defs.specs.Steps.{Side, branch, leaf, with_mark, branch_count}
 use Rattle.ice_defs.specs.Log.{HasWrongSign, IsFreeNode, Passes}
@@ -16,7 +18,8 @@ use Rattle.ice_defs.specs.Session.{Proved}
 use Rattle.ice_defs.specs.Searched.{IsFound, IsSpentSearch}
 use Rattle.ice_defs.specs.Conditions.{AreFixingsOf}
 use Rattle.ice_refute.specs.Code.{CountsGoods}
-use Rattle.ice_search_log.specs.Parts.{Put, Split, Part, part_at, AreLater, side_at, split_at, split_unless, steps_left, log_of, never_stops, is_closed, split_count}
+use Rattle.ice_search_log.specs.Parts.{Put, Split, Part, part_at, AreLater, side_at, split_at, split_unless, steps_left, log_of}
+use Rattle.ice_search_log.specs.Parts.{never_stops, is_closed, split_count}
 use Rattle.ice_search_log.specs.Nodes.{HasNoNode, AreOpenSets}
 use Rattle.ice_search_log.specs.Searching.{IsPart, IsSearch, IsIncumbent, IsAboveWhole, IsNext, AreOpen, IsAboveOpen}
 
@@ -33,15 +36,19 @@ MeetsOne a one other = (MeetsAll a one × (¬ MeetsAll a other)) ⊎ (MeetsAll a
 -- a feasible assignment that meets a side meets one of its two children, and not both
 abbrev pub SplitCovers : Type 0
 SplitCovers = (ts : List Tree) (exact : List Bool) (side : Side) (b n : ℕ) (a : Assignment)
-    → AreFixingsOf ts side → IsFreeNode ts side b n → IsFeasible ts exact a → MeetsAll a side → MeetsOne a (with_mark side b n Must) (with_mark side b n Never)
+    → AreFixingsOf ts side → IsFreeNode ts side b n → IsFeasible ts exact a → MeetsAll a side
+    → MeetsOne a (with_mark side b n Must) (with_mark side b n Never)
 
--- where each part that isn't split is open or has a bound of at most the value, a feasible assignment that meets the start is worth at most the value or meets an open part
+-- where each part that isn't split is open or has a bound of at most the value, a feasible
+-- assignment that meets the start is worth at most the value or meets an open part
 abbrev pub CoverIsWhole : Type 0
-CoverIsWhole = (ts : List Tree) (exact : List Bool) (ws : List Weights) (start : Side) (first : Assignment) (parts : List Part) (open_parts : List ℕ) (value : ℤ)
+CoverIsWhole = (ts : List Tree) (exact : List Bool) (ws : List Weights) (start : Side) (first : Assignment) (parts : List Part)
+    (open_parts : List ℕ) (value : ℤ)
     → IsSearch ts exact ws start first parts → AreOpen parts value open_parts → (a : Assignment) → IsFeasible ts exact a → MeetsAll a start
     → (total_value a ws ≤ℤ value) ⊎ ((k : ℕ) × (k < length parts) × Contains open_parts k × MeetsAll a (side_at start parts k))
 
--- so no feasible assignment that meets the start is worth more than the greatest bound of a part that isn't split
+-- so no feasible assignment that meets the start is worth
+-- more than the greatest bound of a part that isn't split
 abbrev pub BestIsBelow : Type 0
 BestIsBelow = (ts : List Tree) (exact : List Bool) (ws : List Weights) (start : Side) (first : Assignment) (parts : List Part) (bound : ℤ)
     → IsSearch ts exact ws start first parts → IsAboveWhole parts bound
@@ -49,11 +56,14 @@ BestIsBelow = (ts : List Tree) (exact : List Bool) (ws : List Weights) (start : 
 
 -- ---- the sides
 
--- a part but the first has the marks of the part above it, and one more on a node that is free there
+-- a part but the first has the marks of the part above
+-- it, and one more on a node that is free there
 abbrev pub SideIsBelow : Type 0
-SideIsBelow = (ts : List Tree) (exact : List Bool) (ws : List Weights) (start : Side) (first : Assignment) (parts : List Part) (j : ℕ) (put : Put)
+SideIsBelow = (ts : List Tree) (exact : List Bool) (ws : List Weights) (start : Side) (first : Assignment) (parts : List Part) (j : ℕ)
+    (put : Put)
     → IsSearch ts exact ws start first parts → 0 < j → j < length parts → (part_at parts j).put ≡ put
-    → (put.above < j) × (side_at start parts j ≡ with_mark (side_at start parts put.above) put.bidder put.node put.mark) × IsFreeNode ts (side_at start parts put.above) put.bidder put.node
+    → (put.above < j) × (side_at start parts j ≡ with_mark (side_at start parts put.above) put.bidder put.node put.mark)
+    × IsFreeNode ts (side_at start parts put.above) put.bidder put.node
 
 -- the first part is the start
 abbrev pub SideIsStart : Type 0
@@ -67,17 +77,20 @@ SidesAreFixings = (ts : List Tree) (exact : List Bool) (ws : List Weights) (star
 
 -- what meets a marked side meets the side, where the node was free
 abbrev pub MarkedIsMet : Type 0
-MarkedIsMet = (a : Assignment) (side : Side) (b n : ℕ) (m : Mark) → mark_of (fixing_of side b) n ≡ Free → MeetsAll a (with_mark side b n m) → MeetsAll a side
+MarkedIsMet = (a : Assignment) (side : Side) (b n : ℕ) (m : Mark) → mark_of (fixing_of side b) n ≡ Free → MeetsAll a (with_mark side b n m)
+    → MeetsAll a side
 
 -- what meets a part meets the start
 abbrev pub MeetsStart : Type 0
-MeetsStart = (ts : List Tree) (exact : List Bool) (ws : List Weights) (start : Side) (first : Assignment) (parts : List Part) (k : ℕ) (a : Assignment)
+MeetsStart = (ts : List Tree) (exact : List Bool) (ws : List Weights) (start : Side) (first : Assignment) (parts : List Part) (k : ℕ)
+    (a : Assignment)
     → IsSearch ts exact ws start first parts → k < length parts → MeetsAll a (side_at start parts k) → MeetsAll a start
 
 -- the nets of any assignment and the costs of its goods sum to 64 times its value
 abbrev pub NetsGiveValue : Type 0
 NetsGiveValue = (ts : List Tree) (ws : List Weights) (m : Multipliers) (a : Assignment) → length a ≡ length ts
-    → (sum_below (λ b. net (tree_of ts b) (weights_of ws b) m (set_of a b)) (length ts) +ℤ sum_below (λ g. slice_index_or m g (pos 0) *ℤ total_units ts a g) (length m)) ≡ (pos 64 *ℤ total_value a ws)
+    → (sum_below (λ b. net (tree_of ts b) (weights_of ws b) m (set_of a b)) (length ts) +ℤ sum_below
+    (λ g. slice_index_or m g (pos 0) *ℤ total_units ts a g) (length m)) ≡ (pos 64 *ℤ total_value a ws)
 
 -- a sweep of zeros gives one lawful multiplier per good
 abbrev pub SweepIsLawful : Type 0
@@ -88,7 +101,8 @@ SweepIsLawful = (ts : List Tree) (exact : List Bool) (ws : List Weights) (side :
 abbrev pub SweptIsPart : Type 0
 SweptIsPart = (ts : List Tree) (exact : List Bool) (ws : List Weights) (side : Side) (p : Part) (m : Multipliers) (v : ℤ)
     → IsPart ts exact ws side p → Sweeps ts exact ws side (all_zero ts exact ws) m → IsBound ts ws m side v
-    → IsPart ts exact ws side (record p { m = m; key = v; swept = true }) × (p.key ≤ℤ v → IsPart ts exact ws side (record p { swept = true }))
+    → IsPart ts exact ws side (record p { m = m; key = v; swept = true })
+    × (p.key ≤ℤ v → IsPart ts exact ws side (record p { swept = true }))
 
 -- a side with a bound is live
 abbrev pub BoundIsLive : Type 0
@@ -98,7 +112,8 @@ BoundIsLive = (ts : List Tree) (ws : List Weights) (m : Multipliers) (side : Sid
 
 -- the children of each part come later
 abbrev pub ChildrenAreLater : Type 0
-ChildrenAreLater = (ts : List Tree) (exact : List Bool) (ws : List Weights) (start : Side) (first : Assignment) (parts : List Part) → IsSearch ts exact ws start first parts → AreLater parts
+ChildrenAreLater = (ts : List Tree) (exact : List Bool) (ws : List Weights) (start : Side) (first : Assignment) (parts : List Part)
+    → IsSearch ts exact ws start first parts → AreLater parts
 
 -- at first the whole log is left
 abbrev pub AllIsLeft : Type 0
@@ -106,27 +121,35 @@ AllIsLeft = (stops : Part → Bool) (parts : List Part) → steps_left stops par
 
 -- the last part of the stack is written as a leaf
 abbrev pub LeafIsNext : Type 0
-LeafIsNext = (parts : List Part) (stops : Part → Bool) (stack : List ℕ) (k : ℕ) → AreLater parts → k < length parts → split_unless (stops (part_at parts k)) (part_at parts k).split ≡ None
+LeafIsNext = (parts : List Part) (stops : Part → Bool) (stack : List ℕ) (k : ℕ) → AreLater parts → k < length parts
+    → split_unless (stops (part_at parts k)) (part_at parts k).split ≡ None
     → steps_left stops parts (stack ++ k ∷ []) ≡ leaf (part_at parts k).m ∷ steps_left stops parts stack
 
 -- or as a branch, and its two children take its place
 abbrev pub BranchIsNext : Type 0
-BranchIsNext = (parts : List Part) (stops : Part → Bool) (stack : List ℕ) (k : ℕ) (s : Split) → AreLater parts → k < length parts → split_unless (stops (part_at parts k)) (part_at parts k).split ≡ Some s
-    → (suc s.must < length parts) × (steps_left stops parts (stack ++ k ∷ []) ≡ branch s.bidder s.node ∷ steps_left stops parts ((stack ++ suc s.must ∷ []) ++ s.must ∷ []))
+BranchIsNext = (parts : List Part) (stops : Part → Bool) (stack : List ℕ) (k : ℕ) (s : Split) → AreLater parts → k < length parts
+    → split_unless (stops (part_at parts k)) (part_at parts k).split ≡ Some s
+    → (suc s.must < length parts) ×
+    (steps_left stops parts (stack ++ k ∷ []) ≡ branch s.bidder s.node ∷ steps_left stops parts ((stack ++ suc s.must ∷ []) ++ s.must ∷ []))
 
 -- the bound of a part that is written as a leaf is at most the target
 abbrev pub ClosesAll : (Part → Bool) → List Part → ℤ → Type 0
-ClosesAll stops parts target = (k : ℕ) → k < length parts → (stops (part_at parts k) ≡ true) ⊎ ((part_at parts k).split ≡ None) → (part_at parts k).key ≤ℤ target
+ClosesAll stops parts target = (k : ℕ) → k < length parts → (stops (part_at parts k) ≡ true) ⊎ ((part_at parts k).split ≡ None)
+    → (part_at parts k).key ≤ℤ target
 
 -- then the log passes
 abbrev pub TreeLogPasses : Type 0
-TreeLogPasses = (ts : List Tree) (exact : List Bool) (ws : List Weights) (start : Side) (first : Assignment) (parts : List Part) (stops : Part → Bool) (target : ℤ)
+TreeLogPasses =
+    (ts : List Tree) (exact : List Bool) (ws : List Weights) (start : Side) (first : Assignment) (parts : List Part) (stops : Part → Bool)
+    (target : ℤ)
     → IsSearch ts exact ws start first parts → ClosesAll stops parts target → Passes ts exact ws target start (log_of stops parts)
 
 -- its branch steps are earned, and each leaf has one multiplier per good
 abbrev pub TreeLogIsEarned : Type 0
-TreeLogIsEarned = (ts : List Tree) (exact : List Bool) (ws : List Weights) (start : Side) (first : Assignment) (parts : List Part) (stops : Part → Bool)
-    → IsSearch ts exact ws start first parts → IsEarnedLog ts exact ws start first (log_of stops parts) × AllByRecursion (CountsGoods (length exact)) (log_of stops parts)
+TreeLogIsEarned =
+    (ts : List Tree) (exact : List Bool) (ws : List Weights) (start : Side) (first : Assignment) (parts : List Part) (stops : Part → Bool)
+    → IsSearch ts exact ws start first parts
+    → IsEarnedLog ts exact ws start first (log_of stops parts) × AllByRecursion (CountsGoods (length exact)) (log_of stops parts)
 
 -- where nothing stops, it leaves an earned branch where a part that isn't split has one
 abbrev pub TreeLogLeaves : Type 0
@@ -134,11 +157,14 @@ TreeLogLeaves = (ts : List Tree) (exact : List Bool) (ws : List Weights) (start 
     → IsSearch ts exact ws start first parts → k < length parts → (part_at parts k).split ≡ None → IsFreeNode ts (side_at start parts k) b n
     → IsEarned ts exact ws start first (side_at start parts k) b n → LeavesEarned ts exact ws start first (log_of never_stops parts)
 
--- the log of all parts has a branch step for each part that is split, and any other log of them no more; there are two parts for each such part, and the first
+-- the log of all parts has a branch step for each part that is split, and any other
+-- log of them no more; there are two parts for each such part, and the first
 abbrev pub BranchesAreSplits : Type 0
-BranchesAreSplits = (ts : List Tree) (exact : List Bool) (ws : List Weights) (start : Side) (first : Assignment) (parts : List Part) (stops : Part → Bool)
+BranchesAreSplits =
+    (ts : List Tree) (exact : List Bool) (ws : List Weights) (start : Side) (first : Assignment) (parts : List Part) (stops : Part → Bool)
     → IsSearch ts exact ws start first parts
-    → (branch_count (log_of never_stops parts) ≡ split_count parts) × (branch_count (log_of stops parts) ≤ split_count parts) × (length parts ≡ 2 * split_count parts + 1)
+    → (branch_count (log_of never_stops parts) ≡ split_count parts) × (branch_count (log_of stops parts) ≤ split_count parts)
+    × (length parts ≡ 2 * split_count parts + 1)
 
 -- ---- the best
 
@@ -151,7 +177,8 @@ BestIsThere = (ts : List Tree) (exact : List Bool) (ws : List Weights) (start : 
 
 -- where no open part has a bound above the value, no part that isn't split has one
 abbrev pub NoneIsLeft : Type 0
-NoneIsLeft = (parts : List Part) (value : ℤ) (open_parts : List ℕ) → AreOpen parts value open_parts → IsAboveOpen parts open_parts value → IsAboveWhole parts value
+NoneIsLeft = (parts : List Part) (value : ℤ) (open_parts : List ℕ) → AreOpen parts value open_parts → IsAboveOpen parts open_parts value
+    → IsAboveWhole parts value
 
 -- a swept part of the greatest bound of all open ones is next, where that is above the value
 abbrev pub GreatestIsNext : Type 0
@@ -161,13 +188,16 @@ GreatestIsNext = (parts : List Part) (value : ℤ) (open_parts : List ℕ) (k : 
 
 -- the open parts stay so where the value rises
 abbrev pub OpenRises : Type 0
-OpenRises = (parts : List Part) (value higher : ℤ) (open_parts : List ℕ) → AreOpen parts value open_parts → value ≤ℤ higher → AreOpen parts higher open_parts
+OpenRises = (parts : List Part) (value higher : ℤ) (open_parts : List ℕ) → AreOpen parts value open_parts → value ≤ℤ higher
+    → AreOpen parts higher open_parts
 
 -- and where an open part takes another bound
 abbrev pub OpenBounds : Type 0
-OpenBounds = (parts : List Part) (value : ℤ) (open_parts : List ℕ) (k : ℕ) (p : Part) → AreOpen parts value open_parts → Contains open_parts k → AreOpen (slice_set parts k p) value open_parts
+OpenBounds = (parts : List Part) (value : ℤ) (open_parts : List ℕ) (k : ℕ) (p : Part) → AreOpen parts value open_parts
+    → Contains open_parts k → AreOpen (slice_set parts k p) value open_parts
 
--- a part is split: all other open parts stay open, and each child is open or has a bound of at most the value
+-- a part is split: all other open parts stay open, and each
+-- child is open or has a bound of at most the value
 abbrev pub OpenSplits : Type 0
 OpenSplits = (parts : List Part) (value : ℤ) (open_parts left : List ℕ) (k b n : ℕ) (must never : Part)
     → AreOpen parts value open_parts → k < length parts → ((j : ℕ) → Contains open_parts j → (j ≡ k → ⊥) → Contains left j)
@@ -177,11 +207,14 @@ OpenSplits = (parts : List Part) (value : ℤ) (open_parts left : List ℕ) (k b
 -- a part whose bound is at most the value needn't stay open
 abbrev pub OpenCloses : Type 0
 OpenCloses = (parts : List Part) (value : ℤ) (open_parts left : List ℕ) (k : ℕ)
-    → AreOpen parts value open_parts → (part_at parts k).key ≤ℤ value → ((j : ℕ) → Contains open_parts j → (j ≡ k → ⊥) → Contains left j) → AreOpen parts value left
+    → AreOpen parts value open_parts → (part_at parts k).key ≤ℤ value → ((j : ℕ) → Contains open_parts j → (j ≡ k → ⊥) → Contains left j)
+    → AreOpen parts value left
 
 -- a branch of the next part is earned, where both its children are live
 abbrev pub SplitIsEarned : Type 0
-SplitIsEarned = (ts : List Tree) (exact : List Bool) (ws : List Weights) (start : Side) (first : Assignment) (parts : List Part) (sets : Assignment) (value : ℤ) (k b n : ℕ)
+SplitIsEarned =
+    (ts : List Tree) (exact : List Bool) (ws : List Weights) (start : Side) (first : Assignment) (parts : List Part) (sets : Assignment)
+    (value : ℤ) (k b n : ℕ)
     → IsSearch ts exact ws start first parts → IsIncumbent ts exact ws start first sets value → IsNext parts value k
     → IsLive ts (with_mark (side_at start parts k) b n Must) → IsLive ts (with_mark (side_at start parts k) b n Never)
     → IsEarned ts exact ws start first (side_at start parts k) b n
@@ -196,8 +229,10 @@ abbrev pub OpenSetsMeet : Type 0
 OpenSetsMeet = (ts : List Tree) (exact : List Bool) (side : Side) (a : Assignment) → AreOpenSets ts side a
     → MeetsAll a side × (((g : ℕ) → g < length exact → IsCovered (is_exact exact g) (total_units ts a g) (pos 0)) → IsFeasible ts exact a)
 
--- where no free node leaves both children live, each bidder has one set that it may still take; so the swept bound is at most the value,
--- where those sets are worth no more than the value if they are feasible, and than 2^50 above it in any case
+-- where no free node leaves both children live, each bidder has one set
+-- that it may still take; so the swept bound is at most the value,
+-- where those sets are worth no more than the value if they
+-- are feasible, and than 2^50 above it in any case
 abbrev pub NodeIsThere : Type 0
 NodeIsThere = (ts : List Tree) (exact : List Bool) (ws : List Weights) (side : Side) (v : ℤ) (a : Assignment) (value : ℤ)
     → IsSweptBound ts exact ws side v → HasNoNode ts side → AreOpenSets ts side a
@@ -212,32 +247,42 @@ SearchBegins = (ts : List Tree) (exact : List Bool) (ws : List Weights) (start :
 
 -- a part takes other multipliers, or is swept
 abbrev pub SearchBounds : Type 0
-SearchBounds = (ts : List Tree) (exact : List Bool) (ws : List Weights) (start : Side) (first : Assignment) (parts : List Part) (k : ℕ) (p : Part)
+SearchBounds = (ts : List Tree) (exact : List Bool) (ws : List Weights) (start : Side) (first : Assignment) (parts : List Part) (k : ℕ)
+    (p : Part)
     → IsSearch ts exact ws start first parts → k < length parts → p.put ≡ (part_at parts k).put → p.split ≡ (part_at parts k).split
     → IsPart ts exact ws (side_at start parts k) p → IsSearch ts exact ws start first (slice_set parts k p)
 
 -- a part is split, by an earned branch, and two parts are pushed
 abbrev pub SearchSplits : Type 0
-SearchSplits = (ts : List Tree) (exact : List Bool) (ws : List Weights) (start : Side) (first : Assignment) (parts : List Part) (k b n : ℕ) (must never : Part)
+SearchSplits = (ts : List Tree) (exact : List Bool) (ws : List Weights) (start : Side) (first : Assignment) (parts : List Part) (k b n : ℕ)
+    (must never : Part)
     → IsSearch ts exact ws start first parts → k < length parts → (part_at parts k).split ≡ None
     → IsFreeNode ts (side_at start parts k) b n → IsEarned ts exact ws start first (side_at start parts k) b n
-    → must.put ≡ record { above = k; bidder = b; node = n; mark = Must } → must.split ≡ None → IsPart ts exact ws (with_mark (side_at start parts k) b n Must) must
-    → never.put ≡ record { above = k; bidder = b; node = n; mark = Never } → never.split ≡ None → IsPart ts exact ws (with_mark (side_at start parts k) b n Never) never
+    → must.put ≡ record { above = k; bidder = b; node = n; mark = Must } → must.split ≡ None
+    → IsPart ts exact ws (with_mark (side_at start parts k) b n Must) must
+    → never.put ≡ record { above = k; bidder = b; node = n; mark = Never } → never.split ≡ None
+    → IsPart ts exact ws (with_mark (side_at start parts k) b n Never) never
     → IsSearch ts exact ws start first ((slice_set parts k (split_at (part_at parts k) b n (length parts)) ++ must ∷ []) ++ never ∷ [])
 
 -- ---- what a search gives
 
 -- where no part that isn't split has a bound above the value, the sets are found
 abbrev pub SearchIsFound : Type 0
-SearchIsFound = (ts : List Tree) (exact : List Bool) (ws : List Weights) (start : Side) (first : Assignment) (parts : List Part) (stops : Part → Bool) (p : Proved)
+SearchIsFound =
+    (ts : List Tree) (exact : List Bool) (ws : List Weights) (start : Side) (first : Assignment) (parts : List Part) (stops : Part → Bool)
+    (p : Proved)
     → IsSearch ts exact ws start first parts → IsIncumbent ts exact ws start first p.sets p.value → IsAboveWhole parts p.value
     → ((q : Part) → stops q ≡ true → q.key ≤ℤ p.value) → p.log ≡ log_of stops parts → IsFound ts exact ws start first p
 
--- where the next part has a free node both of whose sides are live, the search is spent, and the bound is the part's
+-- where the next part has a free node both of whose sides are
+-- live, the search is spent, and the bound is the part's
 abbrev pub SearchIsSpent : Type 0
-SearchIsSpent = (ts : List Tree) (exact : List Bool) (ws : List Weights) (start : Side) (first : Assignment) (parts : List Part) (p : Proved) (k b n : ℕ)
+SearchIsSpent =
+    (ts : List Tree) (exact : List Bool) (ws : List Weights) (start : Side) (first : Assignment) (parts : List Part) (p : Proved)
+    (k b n : ℕ)
     → IsSearch ts exact ws start first parts → IsIncumbent ts exact ws start first p.sets p.value → IsNext parts p.value k
-    → IsFreeNode ts (side_at start parts k) b n → IsLive ts (with_mark (side_at start parts k) b n Must) → IsLive ts (with_mark (side_at start parts k) b n Never)
+    → IsFreeNode ts (side_at start parts k) b n → IsLive ts (with_mark (side_at start parts k) b n Must)
+    → IsLive ts (with_mark (side_at start parts k) b n Never)
     → p.log ≡ log_of never_stops parts → IsSpentSearch ts exact ws start first p (part_at parts k).key
 
 -- a log that writes the closed parts as leaves writes none of a bound above the value so

@@ -17,7 +17,8 @@ abbrev pub over_children : (ℕ → ℤ) → Option Split → ℤ
 over_children f None = pos 0
 over_children f (Some s) = f s.must +ℤ f (suc s.must)
 
--- each part but the first is a child of one part, so any sum over the children of all parts and the first part is the sum over all
+-- each part but the first is a child of one part, so any sum over the
+-- children of all parts and the first part is the sum over all
 abbrev pub IsPaired : List Part → Type 0
 IsPaired parts = (f : ℕ → ℤ) → (sum_over (λ p. over_children f p.split) parts +ℤ f 0) ≡ sum_below f (length parts)
 
@@ -76,9 +77,11 @@ pub record IsNext (parts : List Part) (value : ℤ) (k : ℕ) : Type 0 where
 
 -- each part that isn't split is among the open ones, or has a bound of at most the value
 abbrev pub AreOpen : List Part → ℤ → List ℕ → Type 0
-AreOpen parts value open_parts = (k : ℕ) → k < length parts → (part_at parts k).split ≡ None → ((part_at parts k).key ≤ℤ value) ⊎ Contains open_parts k
+AreOpen parts value open_parts = (k : ℕ) → k < length parts → (part_at parts k).split ≡ None
+    → ((part_at parts k).key ≤ℤ value) ⊎ Contains open_parts k
 
 -- no open part that isn't split has a bound above this
 abbrev pub IsAboveOpen : List Part → List ℕ → ℤ → Type 0
 IsAboveOpen parts open_parts bound =
-    (i : ℕ) → i < length open_parts → (part_at parts (slice_index_or open_parts i 0)).split ≡ None → (part_at parts (slice_index_or open_parts i 0)).key ≤ℤ bound
+    (i : ℕ) → i < length open_parts → (part_at parts (slice_index_or open_parts i 0)).split ≡ None
+    → (part_at parts (slice_index_or open_parts i 0)).key ≤ℤ bound

@@ -14,7 +14,8 @@ pub mod Whole
 pub mod NodeRecords
 -- the records that describe a lawful exchange are taken, and give it again
 pub mod BidderRecords
--- the records that describe a lawful exchange are records, and a section takes them and has that exchange
+-- the records that describe a lawful exchange are records,
+-- and a section takes them and has that exchange
 pub mod Describing
 -- the open nodes of a tree from what is kept of them
 pub mod KeptNodes

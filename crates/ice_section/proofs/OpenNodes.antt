@@ -21,7 +21,8 @@ abbrev pub IsAfter : ℕ → List OpenNode → Type 0
 IsAfter n [] = Unit {0}
 IsAfter n (o ∷ outer) = o.number < n
 
--- so many of its children are there as its count says, but for those that are left; one that is there may be incomplete
+-- so many of its children are there as its count says, but for
+-- those that are left; one that is there may be incomplete
 pub record IsWaiting (t : Tree) (extra : ℕ) (stated depth : ℕ → ℕ) (o : OpenNode) (outer : List OpenNode) : Type 0 where
   pub there : o.number < length t
   pub is_choose : kind_of t o.number ≡ Choose o.least o.most

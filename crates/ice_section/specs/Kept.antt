@@ -1,4 +1,5 @@
--- How a section keeps the open nodes of a tree: their numbers, and how many children of each are still to come.
+-- How a section keeps the open nodes of a tree: their numbers,
+-- and how many children of each are still to come.
 use Rattle.std.specs.Prelude.{ℕ, suc, ◌+◌, ◌-◌, ◌<◌, ◌≡◌, List, [], ◌∷◌, length, reverse, ℤ, Option, Some, None, Result, Ok, Err}
 use Rattle.std.specs.List.{AllByRecursion}
 use Rattle.ice_defs.specs.declared.NodeKind.{NodeKind}
@@ -24,7 +25,14 @@ most_of (Sell good units) = 0
 
 -- a choose node waits for so many children; of those that are there, so many are incomplete
 abbrev pub open_node : Tree → ℕ → ℕ → ℕ → OpenNode
-open_node t incomplete n left = record { number = n; least = least_of (kind_of t n); most = most_of (kind_of t n); children = length (children_of t n) + left - incomplete; left = left }
+open_node t incomplete n left =
+    record {
+      number = n;
+      least = least_of (kind_of t n);
+      most = most_of (kind_of t n);
+      children = length (children_of t n) + left - incomplete;
+      left = left;
+    }
 
 -- the open nodes, the innermost first; of each one but the innermost the last child is incomplete
 abbrev pub open_nodes : Tree → ℕ → List ℕ → List ℕ → List OpenNode
@@ -49,7 +57,8 @@ pub record Drafting : Type 0 where
   pub goods : ℕ
   pub draft : Draft
 
--- it has the tree that is being made, and for each open node, from the root down, the number of children to come
+-- it has the tree that is being made, and for each open node,
+-- from the root down, the number of children to come
 abbrev pub drafting_of : List ℕ → List ℕ → Making → List ℕ → Drafting
 drafting_of name own m lefts = record {
   goods = m.goods;

@@ -30,7 +30,8 @@ and_on place (Ok s) next = next s
 -- the records from this line on
 abbrev pub exchange_from : ℕ → Section → List Record → Result Exchange FileFault
 exchange_from place s [] = Err (at_line 50 place)
-exchange_from place s (r ∷ rest) = if is_exchange_end r then ended place s rest else and_on place (take_record s r) (λ next. exchange_from (suc place) next rest)
+exchange_from place s (r ∷ rest) = if is_exchange_end r then ended place s rest
+    else and_on place (take_record s r) (λ next. exchange_from (suc place) next rest)
 
 abbrev pub exchange_of_records : List Record → Result Exchange FileFault
 exchange_of_records (line.head version_1 exchange_kind ∷ rest) = exchange_from 2 no_section rest
@@ -57,7 +58,9 @@ of_lines read (Ok records) = read records
 
 -- what a file in line form gives: the least line at fault comes before every other fault
 abbrev pub IsExchangeOfLines : List ℕ → Result Exchange FileFault → Type 0
-IsExchangeOfLines bytes found = (lines : Result (List Record) LinesFault) × IsJournalOf bytes lines × (found ≡ of_lines exchange_of_records lines)
+IsExchangeOfLines bytes found = (lines : Result (List Record) LinesFault) × IsJournalOf bytes lines
+    × (found ≡ of_lines exchange_of_records lines)
 
 abbrev pub IsPricesOfLines : ℕ → List ℕ → Result Prices FileFault → Type 0
-IsPricesOfLines goods bytes found = (lines : Result (List Record) LinesFault) × IsJournalOf bytes lines × (found ≡ of_lines (prices_of_records goods) lines)
+IsPricesOfLines goods bytes found = (lines : Result (List Record) LinesFault) × IsJournalOf bytes lines
+    × (found ≡ of_lines (prices_of_records goods) lines)

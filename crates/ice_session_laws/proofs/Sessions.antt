@@ -56,8 +56,8 @@ module _ (going : List Going) (s : SessionAt) (run : IsRunning going s) where
   pub run_is_unended : IsUnended (run_records s.exchange going)
   run_is_unended =
       let found =
-          whole_unstopped session_kind (section_records s.exchange ++ goings) run_comes.rest run_comes.earns.carries run_are
-          (takes_open run_comes.rest (go_to (at_group Final) (settling run_comes.state)) (line.settle run_comes.state.number) run_comes.settles) in
+      whole_unstopped session_kind (section_records s.exchange ++ goings) run_comes.rest run_comes.earns.carries run_are
+      (takes_open run_comes.rest (go_to (at_group Final) (settling run_comes.state)) (line.settle run_comes.state.number) run_comes.settles) in
       record { so_far = found.so_far; unstopped = found.unstopped }
 
   -- ---- where it closes

@@ -31,7 +31,8 @@ pub record IsLimited (journal : List Record) : Type 0 where
   pub at : StageAt
   pub kind : LimitKind
   pub pool : List Member
-  pub says : plain journal ≡ line.head version_1 session_kind ∷ before ++ line.limit at.stage kind at.delta at.den ∷ map member_record pool ++ line.end limit_end ∷ []
+  pub says : plain journal ≡ line.head version_1 session_kind ∷ before ++ line.limit at.stage kind at.delta at.den ∷ map member_record pool
+      ++ line.end limit_end ∷ []
   pub now : State
   pub reached : after_all (begun version_1 session_kind) before ≡ Some now
   pub awaited : now.place ≡ at_prices
@@ -43,8 +44,10 @@ pub record IsLimited (journal : List Record) : Type 0 where
 pub data ComesTo : Option Found → Option Regret → Option Found → List Marginal → Position → Type 0 where
   to_final : ComesTo None None None [] before_final
   to_rival : {best : Found} → ComesTo (Some best) None None [] (before_rival (proved_found best))
-  to_provisional : {best : Found} {regret : Regret} → ComesTo (Some best) (Some regret) None [] (before_provisional (settlement_of best regret))
-  to_without : {best : Found} {regret : Regret} {done : List Marginal} → ComesTo (Some best) (Some regret) None done (before_without (settlement_of best regret) (map proved_without done))
+  to_provisional : {best : Found} {regret : Regret}
+      → ComesTo (Some best) (Some regret) None [] (before_provisional (settlement_of best regret))
+  to_without : {best : Found} {regret : Regret} {done : List Marginal}
+      → ComesTo (Some best) (Some regret) None done (before_without (settlement_of best regret) (map proved_without done))
 
 -- ---- in a round
 

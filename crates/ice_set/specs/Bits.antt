@@ -1,5 +1,6 @@
 -- Reading and writing one bit of the list that words are.
-use Rattle.std.proofs.Common.{◌^◌, ◌≡◌, ◌≢◌, ℕ, zero, suc, [], ◌∷◌, ◌/◌, ◌%◌, ◌<◌, List, Bool, true, false, length, get_or, set, refl, sym, ap, ◌∙◌, arith}
+use Rattle.std.proofs.Common.{◌^◌, ◌≡◌, ◌≢◌, ℕ, zero, suc, [], ◌∷◌, ◌/◌, ◌%◌, ◌<◌, List, Bool, true, false, length, get_or, set, refl, sym}
+use Rattle.std.proofs.Common.{ap, ◌∙◌, arith}
 use Rattle.std.specs.Prelude.{nat_eq, replicate}
 use Rattle.std.specs.Int.{bit_at}
 use Rattle.std.proofs.lemmas.List.FromFn.{get_or-map-range_with_len, length-map-range_with_len, fill_by_all}
@@ -22,7 +23,8 @@ unfolding bits_of
 bits_of-same a b n each = fill_by_all (bit_of b) (bits_of a n) n false (length-bits_of a n) (λ k h. get_or-bits_of a n k h ∙ each k h)
 
 -- a write at i is the list of the new words, where they differ at bit i alone
-pub bits_of-set : (old new : List ℕ) (n i : ℕ) (on : Bool) → i < n → bit_of new i ≡ on → ((k : ℕ) → k < n → k ≢ i → bit_of new k ≡ bit_of old k) → bits_of new n ≡ set (bits_of old n) i on
+pub bits_of-set : (old new : List ℕ) (n i : ℕ) (on : Bool) → i < n → bit_of new i ≡ on
+    → ((k : ℕ) → k < n → k ≢ i → bit_of new k ≡ bit_of old k) → bits_of new n ≡ set (bits_of old n) i on
 unfolding bits_of
 bits_of-set old new n i on h same other =
     sym (fill_by_all (bit_of new) (set (bits_of old n) i on) n false (length-set (bits_of old n) i on ∙ length-bits_of old n)
@@ -38,7 +40,8 @@ bits_of-set old new n i on h same other =
         get_or-set_other (bits_of old n) i k on false ne ∙ get_or-bits_of old n k hk ∙ sym (other k hk ne)
 
 -- one word w takes the place of the word with bit i, and differs from it at that bit alone
-module _ (words : List ℕ) (i w : ℕ) (inside : i / 64 < length words) (other : (k : ℕ) → k < 64 → k ≢ i % 64 → bit_at w k ≡ bit_at (get_or words (i / 64) 0) k) where
+module _ (words : List ℕ) (i w : ℕ) (inside : i / 64 < length words)
+    (other : (k : ℕ) → k < 64 → k ≢ i % 64 → bit_at w k ≡ bit_at (get_or words (i / 64) 0) k) where
   pub bit_of-put : (k : ℕ) → k ≢ i → bit_of (set words (i / 64) w) k ≡ bit_of words k
   bit_of-put k ne = by_word (nat_eq (k / 64) (i / 64)) refl
     where
@@ -52,7 +55,8 @@ module _ (words : List ℕ) (i w : ℕ) (inside : i / 64 < length words) (other 
           let ne' : k / 64 ≢ i / 64 = eqb-false (k / 64) (i / 64) e in
           rw (get_or-set_other words (i / 64) (k / 64) w 0 ne') refl
 
-  pub bits_of-put : (n : ℕ) (on : Bool) → i < n → nat_eq (bit_at w (i % 64)) 1 ≡ on → bits_of (set words (i / 64) w) n ≡ set (bits_of words n) i on
+  pub bits_of-put : (n : ℕ) (on : Bool) → i < n → nat_eq (bit_at w (i % 64)) 1 ≡ on
+      → bits_of (set words (i / 64) w) n ≡ set (bits_of words n) i on
   bits_of-put n on h same =
       bits_of-set words (set words (i / 64) w) n i on h (rw (get_or-set_same words (i / 64) w 0 inside) same) (λ k hk ne. bit_of-put k ne)
 
@@ -89,4 +93,5 @@ zeros_unset k = ap (λ w. nat_eq (bit_at w (k % 64)) 1) (zeros_read (k / 64)) �
 pub bits_of-zeros : (n : ℕ) → bits_of (0 ∷ 0 ∷ 0 ∷ 0 ∷ []) n ≡ replicate n false
 unfolding bits_of
 bits_of-zeros n =
-    sym (fill_by_all (bit_of zeros) (replicate n false) n false (length-replicate n false) (λ k h. get_or-replicate n k false false h ∙ sym (zeros_unset k)))
+    sym (fill_by_all (bit_of zeros) (replicate n false) n false (length-replicate n false)
+    (λ k h. get_or-replicate n k false false h ∙ sym (zeros_unset k)))

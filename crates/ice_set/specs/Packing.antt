@@ -1,5 +1,6 @@
 -- Four words are found again from their bits.
-use Rattle.std.proofs.Common.{◌≡◌, ◌≢◌, ℕ, zero, suc, ◌+◌, ◌-◌, ◌*◌, ◌^◌, ◌/◌, ◌%◌, ◌<◌, ◌≤◌, List, [], ◌∷◌, Bool, true, false, length, get_or, refl, sym, ap, ◌∙◌, ◌⊎◌, inl, inr, subst, arith}
+use Rattle.std.proofs.Common.{◌≡◌, ◌≢◌, ℕ, zero, suc, ◌+◌, ◌-◌, ◌*◌, ◌^◌, ◌/◌, ◌%◌, ◌<◌, ◌≤◌, List, [], ◌∷◌, Bool, true, false, length}
+use Rattle.std.proofs.Common.{get_or, refl, sym, ap, ◌∙◌, ◌⊎◌, inl, inr, subst, arith}
 use Rattle.std.specs.Prelude.{nat_eq}
 use Rattle.std.specs.Bool.{Decides, beq}
 use Rattle.std.specs.Int.{bit_at}
@@ -29,11 +30,13 @@ unfolding number_of
 bit_at-number_of p zero i h = absurd (omega arith)
 bit_at-number_of p (suc n) i h = by (cases_lt i n) (λ l. bit_at-number_of p n i l)
   where
-    by : (i < n) ⊎ (n ≤ i) → (i < n → nat_eq (bit_at (number_of p n) i) 1 ≡ p i) → nat_eq (bit_at (digit (p n) * 2 ^ n + number_of p n) i) 1 ≡ p i
+    by : (i < n) ⊎ (n ≤ i) → (i < n → nat_eq (bit_at (number_of p n) i) 1 ≡ p i)
+        → nat_eq (bit_at (digit (p n) * 2 ^ n + number_of p n) i) 1 ≡ p i
     by (inl l) before = ap (λ b. nat_eq b 1) (bit_at_cat_low (digit (p n)) n (number_of p n) i l) ∙ before l
     by (inr l) before =
         let same : n ≡ i = omega arith in
-        ap (λ b. nat_eq b 1) (bit_at_cat_high (digit (p n)) n (number_of p n) i (number_of-lt p n) l) ∙ digit_bit (p n) (i - n) (omega arith) ∙ ap p same
+        ap (λ b. nat_eq b 1) (bit_at_cat_high (digit (p n)) n (number_of p n) i (number_of-lt p n) l)
+        ∙ digit_bit (p n) (i - n) (omega arith) ∙ ap p same
 
 -- two bits with the same test are equal
 same_bit : (a b : ℕ) → a < 2 → b < 2 → nat_eq a 1 ≡ nat_eq b 1 → a ≡ b
@@ -57,7 +60,8 @@ word_back : (words : List ℕ) (n k : ℕ) → ArePacked words n → k < 4 → w
 word_back words n k packed h =
     same_from_bits_below 64 (word_from (bits_of words n) (k * 64)) (get_or words k 0) (number_of-lt _ 64) (packed.small k h)
     (λ i l. same_bit _ _ (bit_at-lt _ i) (bit_at-lt _ i)
-    (bit_at-number_of (λ j. get_or (bits_of words n) (k * 64 + j) false) 64 i l ∙ bits_read words n packed (k * 64 + i) (omega arith) ∙ place i l))
+    (bit_at-number_of (λ j. get_or (bits_of words n) (k * 64 + j) false) 64 i l ∙ bits_read words n packed (k * 64 + i) (omega arith)
+    ∙ place i l))
   where
     place : (i : ℕ) → i < 64 → bit_of words (k * 64 + i) ≡ nat_eq (bit_at (get_or words k 0) i) 1
     place i l =
@@ -119,7 +123,8 @@ module _ (a b : List ℕ) (n m : ℕ) (first : ArePacked a n) (second : ArePacke
   words_eq-bits same =
       same_decision (pointwise nat_eq a b) (pointwise beq (bits_of a n) (bits_of b m)) (bits_of a n ≡ bits_of b m) (
         λ w. ap (λ (xs : List ℕ). bits_of xs n) ((bytes_eq-Decides a b).0 w) ∙ ap (bits_of b) same,
-        λ bits. (bytes_eq-Decides a b).1 (words-same a b n first (subst (ArePacked b) (sym same) second) (bits ∙ ap (bits_of b) (sym same))),
+        λ bits. (bytes_eq-Decides a b).1
+            (words-same a b n first (subst (ArePacked b) (sym same) second) (bits ∙ ap (bits_of b) (sym same))),
       )
       (bits_eq-Decides (bits_of a n) (bits_of b m))
 
@@ -135,7 +140,8 @@ module _ (words : List ℕ) (n : ℕ) (packed : ArePacked words n) where
       let same : words ≡ 0 ∷ 0 ∷ 0 ∷ 0 ∷ [] = (bytes_eq-Decides words (0 ∷ 0 ∷ 0 ∷ 0 ∷ [])).0 e in
       get_or-bits_of words n k h ∙ ap (λ w. bit_of w k) same ∙ zeros_unset k
 
-  pub zeros-from_all_false : ((k : ℕ) → k < n → get_or (bits_of words n) k false ≡ false) → pointwise nat_eq words (0 ∷ 0 ∷ 0 ∷ 0 ∷ []) ≡ true
+  pub zeros-from_all_false : ((k : ℕ) → k < n → get_or (bits_of words n) k false ≡ false)
+      → pointwise nat_eq words (0 ∷ 0 ∷ 0 ∷ 0 ∷ []) ≡ true
   zeros-from_all_false each =
       (bytes_eq-Decides words (0 ∷ 0 ∷ 0 ∷ 0 ∷ [])).1
       (words-same words (0 ∷ 0 ∷ 0 ∷ 0 ∷ []) n packed (ArePacked-zeros n packed.few)

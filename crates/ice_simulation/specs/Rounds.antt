@@ -14,12 +14,14 @@ use Rattle.ice_proxy.specs.Proposals.{IsProxyBid}
 -- one of each bidder in order
 abbrev pub AreProxyBids : Prices → ℤ → List Standing → List (List ℤ) → List Submission → Type 0
 AreProxyBids p improve [] truths [] = Unit {0}
-AreProxyBids p improve (b ∷ bidders) (truth ∷ truths) (s ∷ bids) = IsProxyBid p improve b truth s × AreProxyBids p improve bidders truths bids
+AreProxyBids p improve (b ∷ bidders) (truth ∷ truths) (s ∷ bids) = IsProxyBid p improve b truth s
+    × AreProxyBids p improve bidders truths bids
 AreProxyBids p improve bidders truths bids = ⊥
 
 -- in a round that stands so
 abbrev pub AreProxyBidsIn : RoundAt → List (List ℤ) → List Submission → Type 0
-AreProxyBidsIn r truths bids = AreProxyBids r.round.prices r.exchange.settings.improve (standings r.exchange r.round.bounds r.round.sets) truths bids
+AreProxyBidsIn r truths bids =
+    AreProxyBids r.round.prices r.exchange.settings.improve (standings r.exchange r.round.bounds r.round.sets) truths bids
 
 abbrev pub submissions_in : List Judged → List Submission
 submissions_in judged = map (λ j. j.submission) judged
@@ -33,7 +35,13 @@ pub record Stands (r : RoundAt) : Type 0 where
 
 -- this bidder's
 abbrev pub standing_in : RoundAt → ℕ → Standing
-standing_in r b = record { name = slice_index_or (names_of r.exchange) b []; tree = tree_of (trees_of r.exchange) b; bounds = bounds_of r.round.bounds b; set = set_of r.round.sets b }
+standing_in r b =
+    record {
+      name = slice_index_or (names_of r.exchange) b [];
+      tree = tree_of (trees_of r.exchange) b;
+      bounds = bounds_of r.round.bounds b;
+      set = set_of r.round.sets b;
+    }
 
 abbrev pub IsProxyBidOf : RoundAt → List (List ℤ) → ℕ → Submission → Type 0
 IsProxyBidOf r truths b s = IsProxyBid r.round.prices r.exchange.settings.improve (standing_in r b) (slice_index_or truths b []) s

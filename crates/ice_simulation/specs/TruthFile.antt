@@ -1,5 +1,6 @@
 -- A file of true values: why it is refused, and what it says.
-use Rattle.std.specs.Prelude.{ℕ, suc, Bool, true, false, if◌then◌else◌, List, [], ◌∷◌, ◌++◌, map, codes, decimal, ℤ, int_lt, ◌&&◌, Option, Some, None, find}
+use Rattle.std.specs.Prelude.{ℕ, suc, Bool, true, false, if◌then◌else◌, List, [], ◌∷◌, ◌++◌, map, codes, decimal, ℤ, int_lt, ◌&&◌, Option}
+use Rattle.std.specs.Prelude.{Some, None, find}
 use Rattle.std.specs.List.{list_any}
 use Rattle.std.specs.Str.{bytes_eq}
 use Rattle.ice_defs.specs.Round.{Submission}
@@ -24,7 +25,8 @@ abbrev pub is_truth_of : Submission → Option Bidder → Bool
 is_truth_of s None = false
 is_truth_of s (Some b) = same_values s.lo s.hi && are_inside b.bounds.lo s.lo b.bounds.hi
 
--- the first bid that is no truth, from this index on: of no bidder, of one that an earlier bid has named, or of other numbers
+-- the first bid that is no truth, from this index on: of no bidder, of
+-- one that an earlier bid has named, or of other numbers
 abbrev pub not_truth_from : Exchange → ℕ → List Submission → List Submission → Option ℕ
 not_truth_from ex i earlier [] = None
 not_truth_from ex i earlier (s ∷ later) =

@@ -1,4 +1,5 @@
-//! Tests of searches and regrets of worked exchanges, of certificates of prices, and of both ways to
+//! Tests of searches and regrets of worked exchanges, of
+//! certificates of prices, and of both ways to
 //! prices. What a session prints is shown by the built program (tests/).
 #![tactic(auto)]
 

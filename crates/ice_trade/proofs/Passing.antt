@@ -1,4 +1,5 @@
--- What the makers take of a lawful exchange: its nodes, the close of its choose nodes, its goods and its bidders.
+-- What the makers take of a lawful exchange: its nodes, the
+-- close of its choose nodes, its goods and its bidders.
 use Rattle.std.proofs.Common.{ℕ, suc, ◌+◌, ◌<◌, ◌≤◌, ◌≡◌, true, false, ◌&&◌, ◌||◌, not, eqb, ltb, leb, List, [], ◌∷◌, length, map, ℤ, pos, neg_ℤ, ◌+ℤ◌, ◌≤ℤ◌, None, ap, ◌∙◌, refl, arith}
 use Rattle.std.specs.Prelude.{int_lt, is_some, slice_index, slice_index_or}
 use Rattle.std.specs.List.{AllByRecursion, list_any}

@@ -4,7 +4,8 @@ use Rattle.ice_defs.specs.Tree.{Tree}
 use Rattle.ice_defs.specs.Sale.{greatest_sale}
 use Rattle.ice_defs.specs.Making.{over_sale}
 use Rattle.ice_trade.specs.declared.faults.MakeFault.{MakeFault}
-use Rattle.ice_trade.specs.declared.faults.MakeFault.TheVariants.{DuplicateGood, DuplicateBidder, TooMany, BadName, OverSale, Empty, Late, NoMemory}
+use Rattle.ice_trade.specs.declared.faults.MakeFault.TheVariants.{DuplicateGood, DuplicateBidder, TooMany, BadName, OverSale, Empty, Late}
+use Rattle.ice_trade.specs.declared.faults.MakeFault.TheVariants.{NoMemory}
 
 -- want of memory has no number
 abbrev pub make_fault_number : MakeFault → Option ℕ
@@ -17,7 +18,8 @@ make_fault_number Empty = Some 16
 make_fault_number Late = Some 17
 make_fault_number NoMemory = None
 
--- a call is refused exactly where a refusal is due, and with its number, so never for want of memory
+-- a call is refused exactly where a refusal is due, and
+-- with its number, so never for want of memory
 abbrev pub RefusedBy : {T : Type 0} → Result T MakeFault → Option ℕ → Type 0
 RefusedBy (Ok x) due = due ≡ None
 RefusedBy (Err fault) due = (due ≡ make_fault_number fault) × IsSome due

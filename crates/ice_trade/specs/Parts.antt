@@ -19,7 +19,8 @@ bidders_from [] owned trees bounds = []
 bidders_from (name ∷ names) [] trees bounds = []
 bidders_from (name ∷ names) (own ∷ owned) [] bounds = []
 bidders_from (name ∷ names) (own ∷ owned) (tree ∷ trees) [] = []
-bidders_from (name ∷ names) (own ∷ owned) (tree ∷ trees) (b ∷ bounds) = record { name = name; own = own; tree = tree; bounds = b } ∷ bidders_from names owned trees bounds
+bidders_from (name ∷ names) (own ∷ owned) (tree ∷ trees) (b ∷ bounds) =
+    record { name = name; own = own; tree = tree; bounds = b } ∷ bidders_from names owned trees bounds
 
 abbrev pub no_exchange : Settings → Exchange
 no_exchange settings = record { settings = settings; goods = []; bidders = [] }

@@ -1,5 +1,6 @@
 -- What new bounds are refused for, in the order of looking.
-use Rattle.std.specs.Prelude.{ℕ, ◌≡◌, ◌==◌, ◌&&◌, not, int_lt, Bool, if◌then◌else◌, List, length, zip, ℤ, Option, Some, None, Result, Ok, Err}
+use Rattle.std.specs.Prelude.{ℕ, ◌≡◌, ◌==◌, ◌&&◌, not, int_lt, Bool, if◌then◌else◌, List, length, zip, ℤ, Option, Some, None, Result, Ok}
+use Rattle.std.specs.Prelude.{Err}
 use Rattle.std.specs.List.{list_any, list_all}
 use Rattle.ice_defs.specs.Making.{is_value}
 use Rattle.ice_tree.specs.declared.faults.BoundsFault.{BoundsFault}

@@ -1,5 +1,6 @@
 -- A tree that is being made.
-use Rattle.std.specs.Prelude.{ℕ, suc, ◌+◌, ◌<◌, ◌≤◌, ◌≡◌, ◌≢◌, ◌==◌, if◌then◌else◌, List, [], ◌∷◌, ◌++◌, length, reverse, slice_index, slice_set, Option, Some, None, ℤ}
+use Rattle.std.specs.Prelude.{ℕ, suc, ◌+◌, ◌<◌, ◌≤◌, ◌≡◌, ◌≢◌, ◌==◌, if◌then◌else◌, List, [], ◌∷◌, ◌++◌, length, reverse, slice_index}
+use Rattle.std.specs.Prelude.{slice_set, Option, Some, None, ℤ}
 use Rattle.ice_defs.specs.declared.Node.{Node}
 use Rattle.ice_defs.specs.declared.NodeKind.{NodeKind}
 use Rattle.ice_defs.specs.declared.NodeKind.TheVariants.{Choose, Buy, Sell}
@@ -24,10 +25,12 @@ kind_close_refusal (Choose least most) children = close_refusal least most child
 kind_close_refusal (Buy good units) children = if children == 0 then None else Some 20
 kind_close_refusal (Sell good units) children = if children == 0 then None else Some 20
 
--- no node is open, or the innermost open one has no child or an interval that doesn't fit its children
+-- no node is open, or the innermost open one has no
+-- child or an interval that doesn't fit its children
 abbrev pub draft_close_refusal : TreeDraft → Option ℕ
 draft_close_refusal d =
-    if length d.opened == 0 then Some 25 else kind_close_refusal (kind_of d.tree (innermost d.opened)) (length (children_of d.tree (innermost d.opened)))
+    if length d.opened == 0 then Some 25
+    else kind_close_refusal (kind_of d.tree (innermost d.opened)) (length (children_of d.tree (innermost d.opened)))
 
 abbrev pub all_but_first : List ℕ → List ℕ
 all_but_first [] = []
@@ -57,7 +60,8 @@ pub record IsGrown (nodes : List Node) (path : List ℕ) : Type 0 where
   pub path_there : (k : ℕ) → k < length path → slice_index path k < length nodes
   pub path_up : (i j : ℕ) → i < j → j < length path → slice_index path i < slice_index path j
   pub path_over : (k j : ℕ) → k < length path → slice_index path k < j → j < length nodes → slice_index path k ≤ parent_of nodes j
-  pub closed : (n : ℕ) → n < length nodes → ((k : ℕ) → k < length path → slice_index path k ≢ n) → IsInterval (kind_of nodes n) (length (children_of nodes n))
+  pub closed : (n : ℕ) → n < length nodes → ((k : ℕ) → k < length path → slice_index path k ≢ n)
+      → IsInterval (kind_of nodes n) (length (children_of nodes n))
 
 pub record AreCounts (nodes : List Node) (children : List ℕ) : Type 0 where
   pub there : length children ≡ length nodes

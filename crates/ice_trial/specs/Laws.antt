@@ -18,14 +18,19 @@ use Rattle.ice_trial.specs.Truths.{AreExact, AreTruths, truth_bids}
 -- where all values are exact, an assignment that none beats has no regret
 abbrev pub ExactBoundsHaveNoRegret : Type 0
 ExactBoundsHaveNoRegret = (market : Market) (bounds : List Bounds) (final : Assignment) (regret : ℤ)
-    → length bounds ≡ length market.trees → ((b : ℕ) → b < length market.trees → AreBounds (length (tree_of market.trees b)) (bounds_of bounds b))
-    → AreExact bounds → IsFeasible market.trees market.exact final → IsBestOfAll market.trees market.exact (lower_weights bounds) (total_value final (lower_weights bounds))
+    → length bounds ≡ length market.trees
+    → ((b : ℕ) → b < length market.trees → AreBounds (length (tree_of market.trees b)) (bounds_of bounds b))
+    → AreExact bounds → IsFeasible market.trees market.exact final
+    → IsBestOfAll market.trees market.exact (lower_weights bounds) (total_value final (lower_weights bounds))
     → IsRegret market bounds final regret → regret ≡ pos 0
 
--- where each bidder states its true values in a round, all are accepted, and they are the next bounds
+-- where each bidder states its true values in a round, all
+-- are accepted, and they are the next bounds
 abbrev pub TruthsAreAccepted : Type 0
 TruthsAreAccepted = (ex : Exchange) (bounds truths : List Bounds) (sets : Assignment) (p : Prices) (improve : ℤ) (judged : List Judged)
-    → IsExchange ex → length bounds ≡ length ex.bidders → ((b : ℕ) → b < length ex.bidders → AreBounds (length (tree_of (trees_of ex) b)) (bounds_of bounds b))
+    → IsExchange ex → length bounds ≡ length ex.bidders
+    → ((b : ℕ) → b < length ex.bidders → AreBounds (length (tree_of (trees_of ex) b)) (bounds_of bounds b))
     → length sets ≡ length ex.bidders → ((b : ℕ) → b < length ex.bidders → IsSatisfied (tree_of (trees_of ex) b) (set_of sets b))
-    → AreTruths bounds truths → IsRound p improve (standings ex bounds sets) judged → map (λ j. j.submission) judged ≡ truth_bids (names_of ex) truths
+    → AreTruths bounds truths → IsRound p improve (standings ex bounds sets) judged
+    → map (λ j. j.submission) judged ≡ truth_bids (names_of ex) truths
     → AllByRecursion (λ j. j.verdict ≡ Accepted) judged × (next_bounds (standings ex bounds sets) judged ≡ truths)

@@ -20,7 +20,8 @@ submissions_in judged = map (λ j. j.submission) judged
 -- with these judged submissions the round goes on
 abbrev pub GoesOnBy : RoundAt → RoundAt → List Judged → Type 0
 GoesOnBy before after judged =
-    (going : List Going) (s : SessionAt) (last : Going) → IsInRound going s last before → IsInRound going s (record last { judged = last.judged ++ judged }) after
+    (going : List Going) (s : SessionAt) (last : Going) → IsInRound going s last before
+    → IsInRound going s (record last { judged = last.judged ++ judged }) after
 
 -- and they are these bids in their order
 abbrev pub Submits : RoundAt → RoundAt → List Submission → Type 0

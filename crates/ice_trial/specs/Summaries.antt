@@ -1,4 +1,5 @@
--- The figures of a session that closed, in which each bidder stated its true values after settlement 0 where that went on.
+-- The figures of a session that closed, in which each bidder stated
+-- its true values after settlement 0 where that went on.
 use Rattle.std.specs.Prelude.{ℕ, ◌≡◌, ◌==◌, if◌then◌else◌, IsTrue, List, length, slice_get, ℤ, Some, unsigned_abs}
 use Rattle.std.specs.Int.{IsGcd}
 use Rattle.ice_defs.specs.Trade.{Assignment, IsFeasible, total_value, IsBestOfAll}
@@ -17,7 +18,8 @@ module _ (ex : Exchange) (bounds : List Bounds) where
   abbrev pub AreFinal : ℤ → ℤ → Type 0
   AreFinal value regret =
       IsBestOfAll (trees_of ex) (exact_of ex) (lower_weights bounds) value
-      × ((final : Assignment) × IsFeasible (trees_of ex) (exact_of ex) final × (total_value final (lower_weights bounds) ≡ value) × IsRegret (market_of ex) bounds final regret)
+      × ((final : Assignment) × IsFeasible (trees_of ex) (exact_of ex) final × (total_value final (lower_weights bounds) ≡ value)
+      × IsRegret (market_of ex) bounds final regret)
 
   -- what the Threshold discounts leave of this total, in lowest terms
   abbrev pub IsLeft : ℤ → Fraction → Type 0

@@ -1,4 +1,5 @@
--- Verdicts by whether the bidder is marked and whether the values count its nodes; and accepted values are bounds.
+-- Verdicts by whether the bidder is marked and whether the
+-- values count its nodes; and accepted values are bounds.
 use Rattle.std.proofs.Common.{◌≡◌, Bool, true, false, length, ℤ, refl, sym, ◌∙◌, subst}
 use Rattle.std.specs.Prelude.{IsTrue, ◌==◌, None}
 use Rattle.std.specs.List.{list_all}

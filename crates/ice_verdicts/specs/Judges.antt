@@ -1,5 +1,7 @@
--- What is known of a round while its submissions come in, and the lists of judged submissions that lead there.
-use Rattle.std.specs.Prelude.{ℕ, ◌<◌, ◌≡◌, Bool, true, false, if◌then◌else◌, List, [], length, map, slice_index_or, slice_set, ℤ, Option, Some, None}
+-- What is known of a round while its submissions come in, and
+-- the lists of judged submissions that lead there.
+use Rattle.std.specs.Prelude.{ℕ, ◌<◌, ◌≡◌, Bool, true, false, if◌then◌else◌, List, [], length, map, slice_index_or, slice_set, ℤ, Option}
+use Rattle.std.specs.Prelude.{Some, None}
 use Rattle.std.specs.List.{list_any, position}
 use Rattle.std.specs.Str.{bytes_eq}
 use Rattle.ice_defs.specs.declared.Verdict.{Verdict}
@@ -13,7 +15,8 @@ use Rattle.ice_defs.specs.Exchange.{Exchange, trees_of, names_of}
 use Rattle.ice_defs.specs.Lawful.{AreBounds}
 use Rattle.ice_defs.specs.Session.{standings}
 
--- the bounds, provisional sets and prices at the start; and of each bidder the next bounds, and whether a submission was accepted
+-- the bounds, provisional sets and prices at the start; and of each
+-- bidder the next bounds, and whether a submission was accepted
 pub record Round : Type 0 where
   pub bounds : List Bounds
   pub sets : Assignment
@@ -21,7 +24,8 @@ pub record Round : Type 0 where
   pub next : List Bounds
   pub marks : List Bool
 
--- of each bidder of an exchange bounds of its tree at the start and the next ones, a satisfied set, and a mark
+-- of each bidder of an exchange bounds of its tree at the
+-- start and the next ones, a satisfied set, and a mark
 pub record IsRoundOf (ex : Exchange) (r : Round) : Type 0 where
   pub bounds_count : length r.bounds ≡ length ex.bidders
   pub bounds : (b : ℕ) → b < length ex.bidders → AreBounds (length (tree_of (trees_of ex) b)) (bounds_of r.bounds b)

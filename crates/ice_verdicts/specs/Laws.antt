@@ -8,7 +8,8 @@ use Rattle.ice_verdicts.specs.Judges.{Round, IsRoundOf, bidders_in, IsVerdictIn,
 
 -- where no bounds are changed and no bidder is marked, no submission came yet
 abbrev pub RoundBegins : Type 0
-RoundBegins = (ex : Exchange) (r : Round) → IsRoundOf ex r → r.next ≡ r.bounds → r.marks ≡ replicate (length ex.bidders) false → IsAfter ex [] r
+RoundBegins = (ex : Exchange) (r : Round) → IsRoundOf ex r → r.next ≡ r.bounds → r.marks ≡ replicate (length ex.bidders) false
+    → IsAfter ex [] r
 
 -- the verdict by what is known is the next one
 abbrev pub VerdictIsNext : Type 0

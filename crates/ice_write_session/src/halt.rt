@@ -1,5 +1,5 @@
 //! A settlement that was halted: as far as it came, and where a pricing run ended.
-ghost use Rattle.std.specs.Prelude.{◌≡◌, ◌∷◌, [], IfSome, length, map};
+ghost use Rattle.std.specs.Prelude.{◌∷◌, [], IfSome, length, map};
 ghost use Rattle.ice_defs.specs.Exchange.{exact_of};
 ghost use Rattle.ice_defs.specs.PricingLimit.{limit_of, stage_of};
 ghost use Rattle.std.specs.List.{AllByRecursion};

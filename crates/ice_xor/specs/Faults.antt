@@ -15,7 +15,8 @@ maker_fault_number (Make fault) = make_fault_number fault
 
 -- a refusal of this number is due, of this bidder; want of memory is free
 abbrev pub IsTranslateFault : Option Refusal → TranslateFault → Type 0
-IsTranslateFault due (Refused bidder cause) = (number : ℕ) × (maker_fault_number cause ≡ Some number) × (due ≡ Some (record { bidder = bidder; fault = number }))
+IsTranslateFault due (Refused bidder cause) = (number : ℕ) × (maker_fault_number cause ≡ Some number)
+    × (due ≡ Some (record { bidder = bidder; fault = number }))
 IsTranslateFault due NoMemory = Unit {0}
 
 -- a bidder is refused exactly where a refusal is due, and with its number
@@ -23,7 +24,8 @@ abbrev pub IsRefusedBy : {T : Type 0} → Result T MakerFault → Option ℕ →
 IsRefusedBy (Ok x) due = due ≡ None
 IsRefusedBy (Err fault) due = IsSome due × (due ≡ maker_fault_number fault)
 
--- a refused sale names the least good of which the packages may sell more than is owned, and how much of it
+-- a refused sale names the least good of which the packages
+-- may sell more than is owned, and how much of it
 abbrev pub TellsSaleOf : ℕ → FlatBidder → MakerFault → Type 0
 TellsSaleOf goods b (Tree fault) = Unit {0}
 TellsSaleOf goods b (Make fault) = TellsSale fault goods (flat_tree b) b.own

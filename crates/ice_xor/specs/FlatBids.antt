@@ -1,5 +1,6 @@
 -- Flat bids: packages of which one, or any, may be taken; and the tree that says the same.
-use Rattle.std.specs.Prelude.{ℕ, suc, ◌+◌, ◌<◌, ◌≤◌, ◌≡◌, ◌↔◌, ◌==◌, Bool, false, if◌then◌else◌, List, [], ◌∷◌, ◌++◌, length, map, replicate, slice_index_or, unsigned_abs, int_lt, ℤ, pos}
+use Rattle.std.specs.Prelude.{ℕ, suc, ◌+◌, ◌<◌, ◌≤◌, ◌≡◌, ◌↔◌, ◌==◌, Bool, false, if◌then◌else◌, List, [], ◌∷◌, ◌++◌, length, map}
+use Rattle.std.specs.Prelude.{replicate, slice_index_or, unsigned_abs, int_lt, ℤ, pos}
 use Rattle.ice_defs.specs.declared.NodeKind.{NodeKind}
 use Rattle.ice_defs.specs.declared.NodeKind.TheVariants.{Choose, Buy, Sell}
 use Rattle.ice_defs.specs.Sum.{sum_below, sum_over, count_below}
@@ -37,7 +38,8 @@ no_package = record { lo = pos 0; hi = pos 0; units = [] }
 
 -- the units of the packages that are taken
 abbrev pub taken_units : List Package → NodeSet → ℕ → ℤ
-taken_units packages s g = sum_below (λ j. if has s j then package_units (slice_index_or packages j no_package) g else pos 0) (length packages)
+taken_units packages s g =
+    sum_below (λ j. if has s j then package_units (slice_index_or packages j no_package) g else pos 0) (length packages)
 
 -- packages that may be taken together, and that the trade covers
 pub record ServesFlat (exact : List Bool) (b : FlatBidder) (trade : Trade) (s : NodeSet) : Type 0 where
@@ -56,7 +58,9 @@ leaf_kind u = if int_lt u.amount (pos 0) then Sell u.good (unsigned_abs u.amount
 
 -- a package is a choose node that takes all its leaves
 abbrev pub package_nodes : ℕ → Package → Tree
-package_nodes number p = record { kind = Choose (length p.units) (length p.units); parent = 0 } ∷ map (λ u. record { kind = leaf_kind u; parent = number }) p.units
+package_nodes number p =
+    record { kind = Choose (length p.units) (length p.units); parent = 0 }
+    ∷ map (λ u. record { kind = leaf_kind u; parent = number }) p.units
 
 abbrev pub packages_nodes : ℕ → List Package → Tree
 packages_nodes number [] = []
@@ -87,7 +91,8 @@ translated flat = record { settings = flat.settings; goods = flat.goods; bidders
 abbrev pub package_bounds : FlatBidder → Bounds
 package_bounds b = record { lo = map (λ p. p.lo) b.packages; hi = map (λ p. p.hi) b.packages }
 
--- for every profile and trade, the tree's worth is the flat one, and one is missing exactly where the other is
+-- for every profile and trade, the tree's worth is the flat
+-- one, and one is missing exactly where the other is
 abbrev pub KeepsWorth : List Bool → FlatBidder → Type 0
 KeepsWorth exact b =
     (k : ℕ) (v : List ℤ) (trade : Trade) (worth : ℤ) → 1 ≤ k → IsInside k (package_bounds b) v

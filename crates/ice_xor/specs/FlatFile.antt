@@ -1,5 +1,6 @@
 -- The flat bids of a JSON file, or its first fault.
-use Rattle.std.specs.Prelude.{ℕ, zero, suc, ◌==◌, ◌||◌, not, nat_lt, nat_le, Bool, true, false, if◌then◌else◌, List, [], ◌∷◌, ◌++◌, length, map, position, codes, ℤ, pos, neg_ℤ, Option, Some, None, Ok}
+use Rattle.std.specs.Prelude.{ℕ, zero, suc, ◌==◌, ◌||◌, not, nat_lt, nat_le, Bool, true, false, if◌then◌else◌, List, [], ◌∷◌, ◌++◌, length}
+use Rattle.std.specs.Prelude.{map, position, codes, ℤ, pos, neg_ℤ, Option, Some, None, Ok}
 use Rattle.std.specs.List.{list_any}
 use Rattle.std.specs.Str.{bytes_eq}
 use Rattle.serde_json.specs.Data.{Data, Items, no_items, item, Members, no_members, member}
@@ -42,7 +43,8 @@ units_from goods path units no_members = Ok units
 units_from goods path units (member name d rest) = units_one goods path units name d >>= λ more. units_from goods path more rest
 
 abbrev pub units_at : List (List ℕ) → Path → Data → Read (List GoodUnits)
-units_at goods path d = object_of path d >>= λ members. if members_len members == 0 then refuse 90 path else units_from goods path [] members
+units_at goods path d = object_of path d >>= λ members. if members_len members == 0 then refuse 90 path
+    else units_from goods path [] members
 
 -- a package: its shape, its values, its units
 abbrev pub package_at : List (List ℕ) → Path → Data → Read Package
@@ -55,7 +57,8 @@ package_at goods path d =
     else refuse 2 path
 
 abbrev pub packages_at : List (List ℕ) → Path → Data → Read (List Package)
-packages_at goods path d = array_of path d >>= λ items. if items_len items == 0 then refuse 91 path else each (package_at goods) path 0 items
+packages_at goods path d = array_of path d >>= λ items. if items_len items == 0 then refuse 91 path
+    else each (package_at goods) path 0 items
 
 abbrev pub flat_bidder_of : List (List ℕ) → Path → Data → List ℕ → Bool → Read FlatBidder
 flat_bidder_of goods path d word any =

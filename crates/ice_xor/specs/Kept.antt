@@ -1,4 +1,5 @@
--- How a flat exchange is kept: its settings and goods in a maker of exchanges that has no bidder, and its bidders apart.
+-- How a flat exchange is kept: its settings and goods in a maker of
+-- exchanges that has no bidder, and its bidders apart.
 use Rattle.std.specs.Prelude.{◌≡◌, List, []}
 use Rattle.ice_defs.specs.Exchange.{Exchange}
 use Rattle.ice_xor.specs.FlatBids.{FlatBidder, FlatExchange}
