@@ -1,12 +1,14 @@
 -- The parts of a line, tested one by one: where all hold the line passes, and where one fails it does not.
-use Rattle.std.proofs.Common.{◌≡◌, List, ℤ, pos, ◌-ℤ◌, ◌*ℤ◌, ◌≤ℤ◌, ◌<ℤ◌, sym, ◌∙◌, subst}
+use Rattle.std.proofs.Common.{◌≡◌, List, ℤ, pos, ◌-ℤ◌, ◌*ℤ◌, ◌≤ℤ◌, ◌<ℤ◌, [], refl, sym, ◌∙◌, subst}
 use Rattle.ice_defs.specs.Sum.{sum_over}
 use Rattle.ice_defs.specs.Fraction.{Fraction, whole, IsFraction, AtMost, Equals}
+use Rattle.ice_defs.specs.Cut.{cut_down}
 use Rattle.ice_defs.specs.Session.{Payment}
 use Rattle.ice_threshold.specs.CutOff.{cut_num}
 use Rattle.ice_journal_laws.specs.Tests.{IsThresholdLine, IsPaymentLine}
 use Rattle.ice_journal_laws.proofs.Charged.{line_passes, passing_pays, payment_passes, passing_owes, any_discount, discount_of_any}
-use Rattle.ice_check_charge.specs.Tests.{vickreys_of, IsSpent, IsReached}
+use Rattle.ice_journal_laws.proofs.Charged as charged
+use Rattle.ice_check_charge.specs.Tests.{vickreys_of, IsSpent, IsReached, IsPaidAt}
 
 -- ---- the cut and the surplus
 
@@ -59,28 +61,48 @@ module _ (withouts : List ℤ) (total : ℤ) (cut surplus : Fraction) (proper : 
 
 -- ---- a payment
 
-module _ (vickrey worth : ℤ) (cut : Fraction) (p : Payment) (proper : IsFraction cut) where
+module _ (cut : Fraction) (vickrey worth : ℤ) (discount payment : Fraction) (proper : IsFraction cut) where
+  -- a payment line of any name with these amounts
+  abbrev Stated : Payment
+  Stated = record { name = []; vickrey = vickrey; discount = discount; payment = payment }
+
   abbrev IsDiscount : ℤ → Type 0
-  IsDiscount left = Equals p.discount (record { num = left; den = cut.den })
+  IsDiscount left = Equals discount (record { num = left; den = cut.den })
 
   abbrev IsOwed : ℤ → Type 0
-  IsOwed owed = Equals p.payment (record { num = owed; den = p.discount.den })
+  IsOwed owed = Equals payment (record { num = owed; den = discount.den })
 
-  pub not_vickrey : ¬ (p.vickrey ≡ vickrey) → ¬ IsPaymentLine vickrey worth cut p
-  not_vickrey other line = other line.vickrey_is
+  owes : IsPaidAt cut vickrey worth discount payment → charged.IsOwed vickrey worth cut Stated
+  owes is = passing_owes vickrey worth cut Stated proper (record { vickrey_is = refl; discount = is.discounted; payment = is.paid })
 
   module _ (left : ℤ) (left_is : left ≡ cut_num cut.num cut.den vickrey) where
-    pub not_discount : ¬ Equals p.discount (record { num = left; den = cut.den }) → ¬ IsPaymentLine vickrey worth cut p
-    not_discount other line = other (subst IsDiscount (sym left_is) (passing_owes vickrey worth cut p proper line).discount)
+    pub not_discount : ¬ Equals discount (record { num = left; den = cut.den }) → ¬ IsPaidAt cut vickrey worth discount payment
+    not_discount other is = other (subst IsDiscount (sym left_is) (owes is).discount)
 
-    pub amounts_pass : (owed : ℤ) → owed ≡ worth *ℤ pos p.discount.den -ℤ p.discount.num → p.vickrey ≡ vickrey → Equals p.discount (record { num = left; den = cut.den })
-        → Equals p.payment (record { num = owed; den = p.discount.den }) → IsPaymentLine vickrey worth cut p
-    amounts_pass owed owed_is same discount payment =
-        payment_passes vickrey worth cut p proper (record {
-          vickrey_is = same;
-          discount = subst IsDiscount left_is discount;
-          payment = subst IsOwed owed_is payment;
-        })
+    pub amounts_pass : (owed : ℤ) → owed ≡ worth *ℤ pos discount.den -ℤ discount.num → Equals discount (record { num = left; den = cut.den })
+        → Equals payment (record { num = owed; den = discount.den }) → IsPaidAt cut vickrey worth discount payment
+    amounts_pass owed owed_is discounted paid =
+        let passes : IsPaymentLine vickrey worth cut Stated = payment_passes vickrey worth cut Stated proper (record {
+          vickrey_is = refl;
+          discount = subst IsDiscount left_is discounted;
+          payment = subst IsOwed owed_is paid;
+        }) in
+        record { discounted = passes.discount; paid = passes.payment }
 
-  pub not_owed : (owed : ℤ) → owed ≡ worth *ℤ pos p.discount.den -ℤ p.discount.num → ¬ Equals p.payment (record { num = owed; den = p.discount.den }) → ¬ IsPaymentLine vickrey worth cut p
-  not_owed owed owed_is other line = other (subst IsOwed (sym owed_is) (passing_owes vickrey worth cut p proper line).payment)
+  pub not_owed : (owed : ℤ) → owed ≡ worth *ℤ pos discount.den -ℤ discount.num → ¬ Equals payment (record { num = owed; den = discount.den }) → ¬ IsPaidAt cut vickrey worth discount payment
+  not_owed owed owed_is other is = other (subst IsOwed (sym owed_is) (owes is).payment)
+
+-- the line of a payment
+module _ (vickrey worth : ℤ) (cut : Fraction) (p : Payment) where
+  pub line_of_paid : p.vickrey ≡ vickrey → IsPaidAt cut p.vickrey worth p.discount p.payment → IsPaymentLine vickrey worth cut p
+  line_of_paid same is = record {
+    vickrey_is = same;
+    discount = subst (λ (z : ℤ). Equals p.discount (cut_down cut z)) same is.discounted;
+    payment = is.paid;
+  }
+
+  pub paid_of_line : IsPaymentLine vickrey worth cut p → IsPaidAt cut p.vickrey worth p.discount p.payment
+  paid_of_line line = record {
+    discounted = subst (λ (z : ℤ). Equals p.discount (cut_down cut z)) (sym line.vickrey_is) line.discount;
+    paid = line.payment;
+  }

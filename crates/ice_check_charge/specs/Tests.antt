@@ -1,6 +1,7 @@
 -- What is tested of a closing session, in whole numbers.
 use Rattle.std.specs.Prelude.{◌≡◌, ◌*◌, ◌^◌, List, map, Any, ℤ, pos, neg_ℤ, ◌-ℤ◌, ◌≤ℤ◌, ◌<ℤ◌}
-use Rattle.ice_defs.specs.Fraction.{Fraction, whole, AtMost}
+use Rattle.ice_defs.specs.Fraction.{Fraction, whole, AtMost, Equals, less}
+use Rattle.ice_defs.specs.Cut.{cut_down}
 
 -- the Vickrey discounts by the total and the values without each bidder
 abbrev pub vickreys_of : ℤ → List ℤ → List ℤ
@@ -20,3 +21,8 @@ IsReached cut total withouts = Any (λ without. AtMost cut (whole (total -ℤ wi
 pub record IsWorth (worth : ℤ) : Type 0 where
   pub low : neg_ℤ (pos (200 * 2 ^ 90)) ≤ℤ worth
   pub high : worth ≤ℤ pos (200 * 2 ^ 90)
+
+-- the discount that the cut leaves of a Vickrey discount, and the payment that the discount leaves of the value of a set
+pub record IsPaidAt (cut : Fraction) (vickrey worth : ℤ) (discount payment : Fraction) : Type 0 where
+  pub discounted : Equals discount (cut_down cut vickrey)
+  pub paid : Equals payment (less (whole worth) discount)

@@ -12,4 +12,4 @@ mod payment;
 pub use charge::Charge;
 pub use cut::take_threshold;
 pub use due::Due;
-pub use payment::take_payment;
+pub use payment::{is_paid, take_payment};

@@ -4,7 +4,7 @@ ghost use Rattle.std.specs.Str.{bytes_eq};
 ghost use Rattle.ice_journal.specs.Lines.{record_of, fraction_of};
 ghost use Rattle.ice_journal.specs.Ranges.{IsRecord};
 ghost use Rattle.ice_journal_laws.specs.Tests.{IsPaymentLine};
-ghost use Rattle.ice_check_charge.specs.Tests.{IsWorth};
+ghost use Rattle.ice_check_charge.specs.Tests.{IsWorth, IsPaidAt};
 ghost use Rattle.ice_check_charge.specs.Stated.{payment_of, payment_record};
 ghost use Rattle.ice_check_charge.specs.Charging.{TakesPayment};
 
@@ -23,6 +23,34 @@ fn is_named(name: &Name, other: &Name) -> bool
     name == other
 }
 
+/// Whether this is the discount that the cut leaves of a Vickrey discount, and this the payment
+/// that the discount leaves of the value of a set: discount = max(0, vickrey - cut), and payment =
+/// worth - discount, as fractions, whatever they are over.
+///
+/// The cut's denominator is positive, the discount's at most 1,000, and the value of a set is in
+/// the range of such values. It takes no memory.
+pub fn is_paid(
+    cut: &LowestFraction,
+    vickrey: i64,
+    worth: i128,
+    discount: &LowestFraction,
+    payment: &LowestFraction,
+) -> bool
+    requires proper { 0 < cut.now.den }
+    requires worth { IsWorth worth }
+    requires den { discount.now.den ≤ 1000 }
+    ensures yes { IsTrue result → IsPaidAt (fraction_of cut.now) vickrey worth
+        (fraction_of discount.now) (fraction_of payment.now) }
+    ensures no { result ≡ false → ¬ IsPaidAt (fraction_of cut.now) vickrey worth
+        (fraction_of discount.now) (fraction_of payment.now) }
+{
+    if !equals(discount, cut_off(i128::from(vickrey), cut), cut.den) {
+        return false;
+    }
+    let paid = owed(worth, discount);
+    equals(payment, paid, discount.den)
+}
+
 /// Whether a payment is what is due at this cut.
 fn is_due(cut: &LowestFraction, due: &Due<'_>, stated: &StatedPayment<'_>) -> bool
     requires proper { 0 < cut.now.den }
@@ -33,15 +61,16 @@ fn is_due(cut: &LowestFraction, due: &Due<'_>, stated: &StatedPayment<'_>) -> bo
     ensures no { result ≡ false → ¬ IsPaymentLine (due.now.total -ℤ due.now.without) due.now.worth
         (fraction_of cut.now) (payment_of stated.now) }
 {
-    let whole = vickrey(due.total, due.without);
-    if i128::from(stated.vickrey) != whole {
+    if i128::from(stated.vickrey) != vickrey(due.total, due.without) {
         return false;
     }
-    if !equals(&stated.discount, cut_off(whole, cut), cut.den) {
-        return false;
-    }
-    let paid = owed(due.worth, &stated.discount);
-    equals(&stated.payment, paid, stated.discount.den)
+    is_paid(
+        cut,
+        stated.vickrey,
+        due.worth,
+        &stated.discount,
+        &stated.payment,
+    )
 }
 
 /// A stated payment.

@@ -10,3 +10,5 @@ pub mod Listed
 pub mod Judging
 -- values of a record are in range
 pub mod Values
+-- the rule that a set breaks by itself
+pub mod Breaking

@@ -36,12 +36,6 @@ use Rattle.ice_check_offer.specs.Rounds.{Opens}
 use Rattle.ice_check_offer.specs.Taking.{GoesOn, FailsBy}
 use Rattle.ice_check_offer.proofs.Standing.{from_place, at_now, trees_are, accuracy_holds, holds_accuracy, balance_holds, holds_balance}
 
--- a set at fault breaks the rule of its fault
-pub broken_by : (ts : List Tree) (b : ℕ) (x : NodeSet) (k : SatRule) → b < length ts → length x ≡ length (tree_of ts b) → set_fault (tree_of ts b) x ≡ Some k → IsBrokenRow ts b x (Some (rule_of k))
-broken_by ts b x Parent there counts faulty = (there, counts, Parent, faulty, refl)
-broken_by ts b x Few there counts faulty = (there, counts, Few, faulty, refl)
-broken_by ts b x Many there counts faulty = (there, counts, Many, faulty, refl)
-
 -- which row is the last one
 pub not_last : (n m : ℕ) → m ≡ suc n → nat_lt m 200 ≡ true → eqb (suc n) 200 ≡ true → ⊥
 not_last n m e room last = omega (arith, e, ltb-true m 200 room, eqb-true (suc n) 200 last)

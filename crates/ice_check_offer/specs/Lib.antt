@@ -1,3 +1,4 @@
+pub mod Broken
 pub mod Offers
 pub mod Rows
 pub mod Rounds

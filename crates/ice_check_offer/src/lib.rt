@@ -2,6 +2,7 @@
 //! them, tested record by record.
 #![tactic(auto)]
 
+mod broken;
 mod fault;
 mod lines;
 mod offer;
@@ -10,6 +11,7 @@ mod pricing;
 mod rounds;
 mod rows;
 
+pub use broken::broken_rule;
 pub use fault::Fault;
 pub use offer::Offer;
 pub use place::{CertificateList, Place, Went};

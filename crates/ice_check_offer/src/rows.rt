@@ -12,6 +12,7 @@ ghost use Rattle.ice_check_offer.specs.Taking.{Takes};
 ghost use Rattle.ice_journal_laws.specs.Fields.{row_in};
 ghost use Rattle.ice_pricing.specs.Tallies.{IsTallyOf};
 
+use crate::broken::broken_rule;
 use crate::fault::Fault;
 use crate::lines::{balance_in, row_in, stops_round};
 use crate::offer::Offer;
@@ -49,14 +50,7 @@ fn broken_row(exchange: &Exchange, bidder: u8, set: &NodeSet) -> Option<Rule>
     if bidders <= bidder {
         return Some(Rule::Count);
     }
-    let tree = exchange.tree(bidder);
-    if set.len() != tree.nodes() {
-        return Some(Rule::Count);
-    }
-    match tree.is_satisfied(set) {
-        Ok(()) => None,
-        Err(fault) => Some(Rule::of(fault.rule)),
-    }
+    broken_rule(exchange.tree(bidder), set)
 }
 
 impl Offer {

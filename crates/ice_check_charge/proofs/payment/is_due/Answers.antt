@@ -1,41 +1,33 @@
-use Rattle.std.proofs.Common.{◌≡◌, ℤ, pos, ◌-ℤ◌, ◌*ℤ◌, sym, ◌∙◌, rules, to_z, of_z}
-use mir.Syntax.{w128}
-use Rattle.std.proofs.lemmas.Bool.{false≢true}
+use Rattle.std.proofs.Common.{◌≡◌, ℤ, ◌-ℤ◌, rules, sym, subst}
+use Rattle.std.proofs.lemmas.Int.{to_z-of_z}
+use mir.Syntax.{w64, w128}
+use mir.Val.{SFits, to_z, of_z}
 use Rattle.ice_journal.specs.Lines.{fraction_of}
-use Rattle.ice_threshold.specs.CutOff.{cut_num}
+use Rattle.ice_check_charge.specs.Tests.{IsPaidAt}
 use Rattle.ice_check_charge.specs.Stated.{payment_of}
-use Rattle.ice_check_charge.proofs.Parts.{amounts_pass, not_discount, not_owed}
+use Rattle.ice_check_charge.proofs.Parts.{line_of_paid, paid_of_line}
 use Rattle.ice_check_charge.proofs.payment.is_due.Goals as goal
-
-pub returns-then-not-equals-clause-no : goal.returns-then-not-equals-clause-no
-returns-then-not-equals-clause-no c = λ _.
-    let due = c.args.due.now in
-    let cut = c.args.cut.now in
-    let stated = c.args.stated.now in
-    let left : ℤ = to_z w128 (of_z w128 c.cut_off.result) in
-    let left_is : left ≡ cut_num cut.num cut.den (due.total -ℤ due.without) = search rules in
-    not_discount (due.total -ℤ due.without) due.worth (fraction_of cut) (payment_of stated) c.requires.proper left left_is
-    (λ is. false≢true (sym c.if-not-equals.true ∙ c.equals.ensures.1 is))
 
 pub returns-clause-yes : goal.returns-clause-yes
 returns-clause-yes c = λ yes.
     let due = c.args.due.now in
-    let cut = c.args.cut.now in
-    let stated = c.args.stated.now in
-    let left : ℤ = to_z w128 (of_z w128 c.cut_off.result) in
-    let left_is : left ≡ cut_num cut.num cut.den (due.total -ℤ due.without) = search rules in
-    let paid : ℤ = to_z w128 (of_z w128 c.owed-paid.result) in
-    let paid_is : paid ≡ due.worth *ℤ pos stated.discount.den -ℤ stated.discount.num = search rules in
-    let same : stated.vickrey ≡ due.total -ℤ due.without = search rules in
-    amounts_pass (due.total -ℤ due.without) due.worth (fraction_of cut) (payment_of stated) c.requires.proper left left_is paid paid_is same
-    (c.equals.ensures.0 c.if-not-equals.false) (c.equals-2.ensures.0 yes)
+    let cut = fraction_of c.args.cut.now in
+    let p = payment_of c.args.stated.now in
+    let same : p.vickrey ≡ due.total -ℤ due.without = search rules in
+    let fits : SFits w64 p.vickrey = search rules in
+    let worth_fits : SFits w128 due.worth = search rules in
+    let paid : IsPaidAt cut p.vickrey due.worth p.discount p.payment =
+        subst (λ (z : ℤ). IsPaidAt cut p.vickrey z p.discount p.payment) (to_z-of_z w128 due.worth worth_fits)
+        (subst (λ (z : ℤ). IsPaidAt cut z (to_z w128 (of_z w128 due.worth)) p.discount p.payment) (to_z-of_z w64 p.vickrey fits) (c.is_paid.ensures.yes yes)) in
+    line_of_paid (due.total -ℤ due.without) due.worth cut p same paid
 
 pub returns-clause-no : goal.returns-clause-no
-returns-clause-no c = λ no.
+returns-clause-no c = λ no line.
     let due = c.args.due.now in
-    let cut = c.args.cut.now in
-    let stated = c.args.stated.now in
-    let paid : ℤ = to_z w128 (of_z w128 c.owed-paid.result) in
-    let paid_is : paid ≡ due.worth *ℤ pos stated.discount.den -ℤ stated.discount.num = search rules in
-    not_owed (due.total -ℤ due.without) due.worth (fraction_of cut) (payment_of stated) c.requires.proper paid paid_is
-    (λ is. false≢true (sym no ∙ c.equals-2.ensures.1 is))
+    let cut = fraction_of c.args.cut.now in
+    let p = payment_of c.args.stated.now in
+    let fits : SFits w64 p.vickrey = search rules in
+    let worth_fits : SFits w128 due.worth = search rules in
+    c.is_paid.ensures.no no
+    (subst (λ (z : ℤ). IsPaidAt cut z (to_z w128 (of_z w128 due.worth)) p.discount p.payment) (sym (to_z-of_z w64 p.vickrey fits))
+    (subst (λ (z : ℤ). IsPaidAt cut p.vickrey z p.discount p.payment) (sym (to_z-of_z w128 due.worth worth_fits)) (paid_of_line (due.total -ℤ due.without) due.worth cut p line)))
