@@ -1,4 +1,4 @@
--- The parts of a line, tested one by one: where all hold the line passes, and where one fails it does not.
+-- The parts of a line, tested one by one: it passes where all hold, and only there.
 use Rattle.std.proofs.Common.{◌≡◌, List, ℤ, pos, ◌-ℤ◌, ◌*ℤ◌, ◌≤ℤ◌, ◌<ℤ◌, [], refl, sym, ◌∙◌, subst}
 use Rattle.ice_defs.specs.Sum.{sum_over}
 use Rattle.ice_defs.specs.Fraction.{Fraction, whole, IsFraction, AtMost, Equals}

@@ -7,7 +7,8 @@ use Rattle.ice_defs.specs.Cut.{cut_down}
 abbrev pub vickreys_of : ℤ → List ℤ → List ℤ
 vickreys_of total withouts = map (λ without. total -ℤ without) withouts
 
--- a cut of this numerator leaves so much, over its denominator: no more than the total, and no less unless the cut is 0
+-- a cut of this numerator leaves so much, over its denominator: no more than the total, and
+-- no less unless the cut is 0
 pub record IsSpent (num left total : ℤ) : Type 0 where
   pub low : pos 0 ≤ℤ num
   pub paid : left ≤ℤ total
@@ -22,7 +23,8 @@ pub record IsWorth (worth : ℤ) : Type 0 where
   pub low : neg_ℤ (pos (200 * 2 ^ 90)) ≤ℤ worth
   pub high : worth ≤ℤ pos (200 * 2 ^ 90)
 
--- the discount that the cut leaves of a Vickrey discount, and the payment that the discount leaves of the value of a set
+-- the discount that the cut leaves of a Vickrey discount, and the payment that the discount
+-- leaves of the value of a set
 pub record IsPaidAt (cut : Fraction) (vickrey worth : ℤ) (discount payment : Fraction) : Type 0 where
   pub discounted : Equals discount (cut_down cut vickrey)
   pub paid : Equals payment (less (whole worth) discount)

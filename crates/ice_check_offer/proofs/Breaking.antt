@@ -1,5 +1,5 @@
 -- The rule that a set breaks by itself, and that a row's set does.
-use Rattle.std.proofs.Common.{◌≡◌, ◌<◌, ℕ, List, length, refl, ◌⊎◌, inl}
+use Rattle.std.proofs.Common.{◌≡◌, ◌<◌, ℕ, List, length, refl, inl}
 use Rattle.std.specs.Prelude.{Option, Some, None}
 use Rattle.ice_defs.specs.declared.SatRule.{SatRule}
 use Rattle.ice_defs.specs.declared.SatRule.TheVariants.{Parent, Few, Many}

@@ -4,7 +4,6 @@ use Rattle.std.specs.Prelude.{Some, None, nat_lt}
 use borrow.Author.Tests.{ltb-true, ltb-false}
 use Rattle.std.proofs.lemmas.Bool.{eqb-true, eq-eqb}
 use Rattle.ice_defs.specs.declared.SatRule.{SatRule}
-use Rattle.ice_defs.specs.declared.SatRule.TheVariants.{Parent, Few, Many}
 use Rattle.ice_defs.specs.Tree.{Tree}
 use Rattle.ice_defs.specs.Set.{NodeSet, IsSatisfied}
 use Rattle.ice_defs.specs.SetFault.{set_fault}

@@ -6,7 +6,8 @@ use Rattle.ice_defs.specs.Round.{Submission, IsNextVerdict}
 use Rattle.ice_defs.specs.Exchange.{Exchange}
 use Rattle.ice_defs.specs.Weighing.{weighted_weights}
 use Rattle.ice_journal_laws.specs.State as tests
-use Rattle.ice_journal_laws.specs.State.{State, exchange_at, at_prices, at_accuracy, at_accuracy_rows, at_balance_rows, at_round, at_verdict}
+use Rattle.ice_journal_laws.specs.State.{State, exchange_at}
+use Rattle.ice_journal_laws.specs.State.{at_prices, at_accuracy, at_accuracy_rows, at_balance_rows, at_round, at_verdict}
 use Rattle.ice_pricing.specs.Provisional.{ProvisionalTrade, provisional_of}
 use Rattle.ice_pricing.specs.Tallies.{IsTallyOf}
 use Rattle.ice_verdicts.specs.Judges.{Round, IsRoundOf, bidders_in, IsAfter}

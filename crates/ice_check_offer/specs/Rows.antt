@@ -20,7 +20,8 @@ use Rattle.ice_pricing.specs.Tallies.{IsTallyOf}
 abbrev pub IsBrokenRow : List Tree → ℕ → NodeSet → Option Rule → Type 0
 IsBrokenRow ts b x None = (b < length ts) × IsSatisfied (tree_of ts b) x
 IsBrokenRow ts b x (Some rule.Count) = (length x ≢ length (tree_of ts b)) ⊎ (length ts ≤ b)
-IsBrokenRow ts b x (Some other) = (b < length ts) × (length x ≡ length (tree_of ts b)) × (k : SatRule) × (set_fault (tree_of ts b) x ≡ Some k) × (other ≡ rule_of k)
+IsBrokenRow ts b x (Some other) = (b < length ts) × (length x ≡ length (tree_of ts b))
+    × (k : SatRule) × (set_fault (tree_of ts b) x ≡ Some k) × (other ≡ rule_of k)
 
 abbrev pub rule_of_list : CertificateList → Rule
 rule_of_list list.Accuracy = rule.Accuracy
@@ -28,8 +29,10 @@ rule_of_list list.Balance = rule.Balance
 
 -- the list passes its test
 abbrev pub Passes : Exchange → Offer → CertificateList → List Row → Type 0
-Passes ex o list.Accuracy rows = (let t = trade_of ex o in PassesAccuracy t.trees t.weights t.sets t.goods t.cap o.judge.prices o.violation (record { den = o.den; rows = rows }))
-Passes ex o list.Balance rows = (let t = trade_of ex o in PassesBalance t.trees t.weights t.sets t.goods o.judge.prices o.violation (record { den = o.den; rows = rows }))
+Passes ex o list.Accuracy rows = (let t = trade_of ex o in
+    PassesAccuracy t.trees t.weights t.sets t.goods t.cap o.judge.prices o.violation (record { den = o.den; rows = rows }))
+Passes ex o list.Balance rows = (let t = trade_of ex o in
+    PassesBalance t.trees t.weights t.sets t.goods o.judge.prices o.violation (record { den = o.den; rows = rows }))
 
 -- rows of it that came pass, where there are fewer than 200
 abbrev pub HasPassed : Exchange → Offer → CertificateList → Type 0

@@ -17,7 +17,8 @@ pub record Goes (ex : Exchange) (s : State) (r : Record) (after : Offer) : Type 
   pub state : State
   pub passes : TakesOn s r (passing state)
   pub line : state.line ≡ suc s.line
-  pub same : state ≡ record s { line = state.line; place = state.place; prices = state.prices; violation = state.violation; judged = state.judged }
+  pub same : state
+      ≡ record s { line = state.line; place = state.place; prices = state.prices; violation = state.violation; judged = state.judged }
   pub stands : IsOfferOf ex after state
 
 pub record GoesOn (ex : Exchange) (number : ℕ) (o : Offer) (r : Record) (after : Offer) : Type 0 where
@@ -34,8 +35,10 @@ pub record GoesToSettlement (ex : Exchange) (number : ℕ) (o : Offer) (r : Reco
 
 -- it fails this test first; or the list of rows before it does
 abbrev pub FailsBy : Exchange → ℕ → Offer → Record → Fault → Type 0
-FailsBy ex number o r (Here rule) = (s : State) → IsOfferOf ex o s → s.number ≡ number → TakesOn s r (failed (record { line = s.line; rule = rule }))
-FailsBy ex number o r (OfList rule) = (s : State) → IsOfferOf ex o s → s.number ≡ number → TakesOn s r (failed (record { line = s.line - 1; rule = rule }))
+FailsBy ex number o r (Here rule) = (s : State) → IsOfferOf ex o s → s.number ≡ number
+    → TakesOn s r (failed (record { line = s.line; rule = rule }))
+FailsBy ex number o r (OfList rule) = (s : State) → IsOfferOf ex o s → s.number ≡ number
+    → TakesOn s r (failed (record { line = s.line - 1; rule = rule }))
 
 abbrev pub Takes : Exchange → ℕ → Offer → Record → Result Went Fault → Offer → Type 0
 Takes ex number o r (Ok On) after = GoesOn ex number o r after

@@ -36,6 +36,7 @@ pub(crate) fn trade_at<'a>(
     ensures { result ≡ provisional_of exchange.now
         (weighted_weights exchange.now.settings.weight judge.now.bounds) judge.now.sets }
 {
+    // The call says that the exchange is lawful.
     let _bidders = exchange.bidders();
     Provisional::of(exchange, weights, judge.sets())
 }
@@ -160,6 +161,7 @@ impl Offer {
         ensures { (number : ℕ) → Takes exchange.now number self.old
             (records.accuracy stated.now.violation stated.now.den) result self.new }
     {
+        // The call says that the exchange is lawful.
         let _goods = exchange.goods();
         let found = self.violation(exchange, weights);
         if is_same(found, stated.violation) {

@@ -224,6 +224,7 @@ impl Offer {
         ensures { (number : ℕ) → Takes exchange.now number self.old (records.balance den) result
             self.new }
     {
+        // The call says that the exchange is lawful.
         let _goods = exchange.goods();
         self.begin_list(CertificateList::Balance, den);
         Ok(Went::On)

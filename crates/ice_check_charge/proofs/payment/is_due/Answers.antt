@@ -17,8 +17,8 @@ returns-clause-yes c = λ yes.
     let fits : SFits w64 p.vickrey = search rules in
     let worth_fits : SFits w128 due.worth = search rules in
     let paid : IsPaidAt cut p.vickrey due.worth p.discount p.payment =
-        subst (λ (z : ℤ). IsPaidAt cut p.vickrey z p.discount p.payment) (to_z-of_z w128 due.worth worth_fits)
-        (subst (λ (z : ℤ). IsPaidAt cut z (to_z w128 (of_z w128 due.worth)) p.discount p.payment) (to_z-of_z w64 p.vickrey fits) (c.is_paid.ensures.yes yes)) in
+    subst (λ (z : ℤ). IsPaidAt cut p.vickrey z p.discount p.payment) (to_z-of_z w128 due.worth worth_fits)
+    (subst (λ (z : ℤ). IsPaidAt cut z (to_z w128 (of_z w128 due.worth)) p.discount p.payment) (to_z-of_z w64 p.vickrey fits) (c.is_paid.ensures.yes yes)) in
     line_of_paid (due.total -ℤ due.without) due.worth cut p same paid
 
 pub returns-clause-no : goal.returns-clause-no
