@@ -1,7 +1,7 @@
 -- The bytes that a checker stands for.
 use Rattle.std.proofs.Common.{◌≡◌, ◌<◌, ◌+◌, ℕ, Bool, true, false, IsTrue, List, [], ◌∷◌, ◌++◌, length, Contains, refl, sym, ◌∙◌, ap, subst, arith, append_assoc, append-nil, length-append, ⊎_elim}
 use Rattle.std.proofs.lemmas.List.Elements.{Contains-append_cases}
-use Rattle.std.specs.Prelude.{Result, Err}
+use Rattle.std.specs.Prelude.{Result, Ok, Err, OnOk}
 use Rattle.ice_journal.specs.Journal.{IsNoRecord}
 use Rattle.ice_journal_laws.specs.declared.answer.Answer.{Answer}
 use Rattle.ice_journal_laws.specs.declared.answer.CheckEnd.{CheckEnd}
@@ -13,8 +13,10 @@ use Rattle.ice_journal_laws.proofs.Leading.{finds}
 use Rattle.ice_check_records.specs.Checking.{HasCome}
 use Rattle.ice_check_records.specs.Checking as records
 use Rattle.ice_check.specs.declared.begun.Begun.{Begun}
+use Rattle.ice_check_records.proofs.Staged.{stopped_stays}
 use Rattle.ice_check.specs.declared.lines.Lines.{Lines}
-use Rattle.ice_check.specs.Standing.{Checking, StandsFor, AreTaken, AreRead, IsTextOf, IsKeptText, is_ready_at}
+use Rattle.ice_check.specs.declared.lines.Lines.TheVariants as known
+use Rattle.ice_check.specs.Standing.{Checking, StandsFor, AreTaken, AreRead, AreStopped, IsTextOf, IsKeptText, is_ready_at}
 use Rattle.ice_check.proofs.Short.{records_are_short}
 
 pub no_byte : ¬ Contains {X = ℕ} [] 10
@@ -44,6 +46,10 @@ line_ends old new bytes text h count empty read = record {
     text = empty;
   };
 }
+
+pub on_ok : {E P Q : Type 0} (result : Result (Unit {0}) E) → (P → Q) → OnOk result P → OnOk result Q
+on_ok (Ok unit) f h = f h
+on_ok (Err error) f h = tt
 
 -- it goes on with this text
 pub line_goes_on : (old new : Checking) (bytes text : List ℕ) → ¬ Contains text 10 → new.count ≡ old.count + length text → new.lines ≡ old.lines
@@ -127,3 +133,10 @@ pub wants_none : (whole : List ℕ) (c : records.Checking) (answer : Result Answ
 wants_none whole c answer h ends e =
     ends_otherwise h.progress (λ out. finds h.journal out_of_memory (subst (λ (p : Progress). Leads nothing h.journal p) out h.leads))
     (subst (λ (a : Result Answer CheckEnd). EndsWith h.progress a) e (ends h.progress h.come))
+
+-- a checker that has stopped stands for no lines
+pub none_stopped : (lines : Lines) (whole : List ℕ) → AreStopped lines → ¬ AreRead lines whole
+none_stopped (known.Records c) whole stopped h =
+    let out : h.progress ≡ out_of_memory = stopped_stays c.line c.stage h.progress stopped h.come in
+    finds h.journal out_of_memory (subst (λ (p : Progress). Leads nothing h.journal p) out h.leads)
+none_stopped (known.Grammar line) whole stopped h = stopped

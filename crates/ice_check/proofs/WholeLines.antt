@@ -7,8 +7,8 @@ use Rattle.ice_journal.specs.Journal.{bytes_of, IsNoRecord, grammar, unended, Is
 use Rattle.ice_journal_laws.specs.Progress.{Progress, is_ready}
 use Rattle.ice_check_records.specs.Checking.{Checking, HasCome, ComesTo}
 use Rattle.ice_check_records.proofs.Reading.{HasRead, one_read, grammar_fault, unended_fault, all_read}
-use Rattle.ice_check.specs.Standing.{AreTaken, AreRead, AreReadiness, ReadsOn, IsWithin}
-use Rattle.std.specs.Prelude.{Some, Result, Ok, Err, IfOk}
+use Rattle.ice_check.specs.Standing.{AreTaken, AreReadiness, ReadsOn, IsWithin}
+use Rattle.std.specs.Prelude.{Option, Some, None, Result, Ok, Err, OnOk, OnErr}
 use Rattle.ice_check.specs.declared.lines.Lines.{Lines}
 use Rattle.ice_check.specs.declared.lines.Lines.TheVariants as known
 
@@ -72,12 +72,27 @@ pub taken_readiness : (c : Checking) (whole : List ℕ) (ready : Bool) → AreTa
 taken_readiness c whole true h is = inr (h.progress, (h.journal, h.spelled, h.leads), sym (is h.progress h.come))
 taken_readiness c whole false h is = (h.progress, (h.journal, h.spelled, h.leads), sym (is h.progress h.come))
 
--- a line more, where its record is known
-pub with_record : {E : Type 0} (lines : Lines) (r : Record) (result : Result Lines E) → IfOk result (λ next. (whole : List ℕ) → AreRead lines whole → AreRead next (whole ++ line_of r)) → IfOk result (ReadsOn lines (Some r))
-with_record lines r (Ok next) goes = λ whole text read one_line reads. subst (λ (t : List ℕ). AreRead next (whole ++ (t ++ 10 ∷ []))) (sym reads.1) (goes whole read)
-with_record lines r (Err error) goes = tt
+-- ---- a line more
+
+-- that of a record
+pub record_reads_on : {E : Type 0} (result : Result (Unit {0}) E) (c d : Checking) (r : Record) → IsRecord r → OnOk result ((p : Progress) → HasCome c p → ComesTo p r d) → OnOk result (d.line ≡ suc c.line)
+    → OnOk result (ReadsOn (known.Records c) (Some r) (known.Records d))
+record_reads_on (Ok unit) c d r is takes line = λ whole text taken one_line reads. subst (λ (t : List ℕ). AreTaken d (whole ++ (t ++ 10 ∷ []))) (sym reads.1) (one_more c d whole r taken is takes line)
+record_reads_on (Err error) c d r is takes line = tt
+
+-- that of none
+pub none_reads_on : (c : Checking) → ReadsOn (known.Records c) None (known.Grammar c.line)
+none_reads_on c = λ whole text taken one_line reads. at_fault c whole text taken one_line reads
+
+-- behind a line that is none
+pub fault_reads_on : (n : ℕ) (found : Option Record) → ReadsOn (known.Grammar n) found (known.Grammar n)
+fault_reads_on n found = λ whole text fault one_line reads. fault_stays whole (text ++ 10 ∷ []) n fault
 
 pub within_more : (m n : ℕ) (lines : Lines) → m ≤ n → IsWithin m lines → IsWithin n lines
 within_more m n (known.Records checker) le h = omega (arith, le, h)
 within_more m n (known.Grammar line) le h = tt
-within_more m n known.OutOfMemory le h = tt
+
+-- the number of the next line, where a record is taken or no memory is left for it
+pub within_fed : {E : Type 0} (result : Result (Unit {0}) E) (n line after : ℕ) → line ≤ n → OnOk result (after ≡ suc line) → OnErr result (after ≡ line) → after ≤ suc n
+within_fed (Ok unit) n line after le up still = omega (arith, le, up)
+within_fed (Err error) n line after le up still = omega (arith, le, still)

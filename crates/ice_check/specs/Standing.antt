@@ -5,7 +5,7 @@ use Rattle.ice_journal.specs.Records.{Record}
 use Rattle.ice_journal.specs.Ranges.{IsRecord}
 use Rattle.ice_journal.specs.Spelling.{text_of}
 use Rattle.ice_journal.specs.Journal.{IsJournal, grammar, IsLinesFault}
-use Rattle.ice_journal_laws.specs.Progress.{Progress, nothing, is_ready, Leads}
+use Rattle.ice_journal_laws.specs.Progress.{Progress, nothing, out_of_memory, is_ready, Leads}
 use Rattle.ice_journal_laws.specs.Answers.{HoldsJournal}
 use Rattle.ice_check_records.specs.Checking.{HasCome, is_ready_checker}
 use Rattle.ice_check_records.specs.Checking as records
@@ -13,7 +13,8 @@ use Rattle.ice_check.specs.declared.begun.Begun.{Begun}
 use Rattle.ice_check.specs.declared.lines.Lines.{Lines}
 use Rattle.ice_check.specs.declared.lines.Lines.TheVariants as known
 
--- how many bytes were taken, what is kept of the line that has begun, and what is known of the whole lines
+-- how many bytes were taken, what is kept of the line that has begun, and what is known of the
+-- whole lines
 pub record Checking : Type 0 where
   pub count : ℕ
   pub begun : Begun
@@ -50,22 +51,25 @@ pub record AreTaken (c : records.Checking) (whole : List ℕ) : Type 0 where
 abbrev pub AreRead : Lines → List ℕ → Type 0
 AreRead (known.Records checker) whole = AreTaken checker whole
 AreRead (known.Grammar line) whole = IsLinesFault whole (grammar line)
-AreRead known.OutOfMemory whole = ⊥
 
 -- one more line is read: that of this record, or of none
 abbrev pub ReadsOn : Lines → Option Record → Lines → Type 0
-ReadsOn lines r next = (whole text : List ℕ) → AreRead lines whole → ¬ Contains text 10 → Reads r IsRecord text_of text → AreRead next (whole ++ (text ++ 10 ∷ []))
+ReadsOn lines r next = (whole text : List ℕ) → AreRead lines whole → ¬ Contains text 10
+    → Reads r IsRecord text_of text → AreRead next (whole ++ (text ++ 10 ∷ []))
 
 -- the next line's number is at most this
 abbrev pub IsWithin : ℕ → Lines → Type 0
 IsWithin n (known.Records checker) = checker.line ≤ n
 IsWithin n (known.Grammar line) = Unit {0}
-IsWithin n known.OutOfMemory = Unit {0}
 
 abbrev pub is_ready_lines : Lines → Bool
 is_ready_lines (known.Records checker) = is_ready_checker checker
 is_ready_lines (known.Grammar line) = true
-is_ready_lines known.OutOfMemory = false
+
+-- no memory was left for one of them
+abbrev pub AreStopped : Lines → Type 0
+AreStopped (known.Records checker) = HasCome checker out_of_memory
+AreStopped (known.Grammar line) = ⊥
 
 -- ---- all bytes
 
@@ -85,13 +89,14 @@ pub record StandsFor (c : Checking) (bytes : List ℕ) : Type 0 where
 
 -- memory ran out: it stands for no bytes
 abbrev pub IsStopped : Checking → Type 0
-IsStopped c = c.lines ≡ known.OutOfMemory
+IsStopped c = AreStopped c.lines
 
 -- the next bytes want no memory
 abbrev pub is_ready_at : Checking → Bool
 is_ready_at c = is_ready_lines c.lines
 
--- a whole line is no record; or the records of all lead to where the exchange and one record after it are taken, or no record matters any more
+-- a whole line is no record; or the records of all lead to where the exchange and one record after
+-- it are taken, or no record matters any more
 abbrev pub WantNoMemory : List ℕ → Type 0
 WantNoMemory whole = ((line : ℕ) × IsLinesFault whole (grammar line)) ⊎ ((p : Progress) × HoldsJournal whole p × IsTrue (is_ready p))
 

@@ -10,7 +10,6 @@ use ice_journal_laws::{Answer, CheckEnd};
 use ice_line::split_line;
 use std::alloc::{AllocError, Global};
 use std::marker::Model;
-use std::mem;
 
 /// A checker of one journal, seen as the number of its bytes, what is kept of the line that has
 /// begun, and what is known of the whole lines. It takes the bytes in pieces, and keeps none but
@@ -40,7 +39,7 @@ impl Checker {
         ensures count { IfOk result (λ c. c.count ≡ 0) }
     {
         let begun = Box::new(alloc, Begun::new())?;
-        let lines = Lines::Records(RecordChecker::new(alloc)?);
+        let lines = Lines::Records(RecordChecker::new(alloc));
         Ok(Checker {
             count: 0,
             begun,
@@ -62,10 +61,7 @@ impl Checker {
     {
         let record = self.begun.end(text);
         self.count += text.len() as u64 + 1;
-        let lines = mem::replace(&mut self.lines, Lines::OutOfMemory);
-        let next = lines.after(&record)?;
-        mem::replace(&mut self.lines, next).discard();
-        Ok(())
+        self.lines.take(&record)
     }
 
     /// Takes bytes that end no line.
@@ -123,6 +119,9 @@ impl Checker {
         ensures memory { (bytes : List ℕ) → StandsFor self bytes → result ≢ Err CheckEnd.NoMemory }
         ensures stopped { IsStopped self → result ≡ Err CheckEnd.NoMemory }
     {
+        if self.lines.are_stopped() {
+            return Err(CheckEnd::NoMemory);
+        }
         let Checker {
             count: _,
             begun,
@@ -133,13 +132,12 @@ impl Checker {
                 if begun.is_empty() {
                     checker.finish()
                 } else {
-                    let line = checker.next_line();
-                    checker.discard();
-                    Err(CheckEnd::Unended { line })
+                    Err(CheckEnd::Unended {
+                        line: checker.next_line(),
+                    })
                 }
             }
             Lines::Grammar { line } => Err(CheckEnd::Grammar { line }),
-            Lines::OutOfMemory => Err(CheckEnd::NoMemory),
         }
     }
 }

@@ -10,3 +10,15 @@ pub enum Fault {
     /// line.
     List(Rule),
 }
+
+impl From<Rule> for Fault {
+    ghost use Rattle.std.specs.Prelude.{◌≡◌};
+    ghost use Rattle.ice_check_offer.specs.declared.fault.Fault.TheVariants.{Here};
+
+    ghost from_gives = { λ rule fault. fault ≡ Here rule };
+
+    /// What fails outside a list of rows, fails at the record itself.
+    fn from(rule: Rule) -> Fault {
+        Fault::Here(rule)
+    }
+}

@@ -1,4 +1,5 @@
--- What the records behind a group make of what is known of a journal: the regret, the offer, the cut, the payments and the end; and what is answered.
+-- What the records behind a group make of what is known of a journal: the regret, the offer, the
+-- cut, the payments and the end; and what is answered.
 use Rattle.std.proofs.Common.{◌≡◌, ◌≢◌, ◌<◌, ◌-ℤ◌, ℕ, suc, Bool, true, false, cond, eqb, List, [], length, ℤ, pos, refl, sym, ◌∙◌, ap, subst, arith, ◌⊎◌, inl, inr}
 use Rattle.std.specs.Prelude.{int_le, Some, None, Result, Ok, Err}
 use Rattle.std.proofs.lemmas.Bool.{eqb-false, or_parts, false≢true}

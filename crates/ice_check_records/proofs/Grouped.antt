@@ -1,4 +1,4 @@
--- What the records of a group's head and sets make of what is known of a journal behind its exchange.
+-- What the records of a group's head and sets make of what is known of a journal.
 use Rattle.std.proofs.Common.{◌≡◌, ◌≢◌, ◌<◌, suc, Bool, List, [], ◌∷◌, ◌++◌, length, ℤ, true, refl, sym, ◌∙◌, ap, subst, arith, length-append}
 use Rattle.std.specs.Prelude.{Some, Result, Ok, Err}
 use Rattle.std.proofs.lemmas.Bool.{false≢true}
@@ -17,6 +17,7 @@ use Rattle.ice_check_records.specs.declared.head.Head.{Head}
 use Rattle.ice_check_records.specs.declared.head.Head.TheVariants as head
 use Rattle.ice_journal_laws.specs.declared.rule.Rule.{Rule}
 use Rattle.ice_journal_laws.specs.declared.rule.Rule.TheVariants as rule
+use Rattle.ice_check_offer.specs.declared.fault.Fault.{Fault}
 use Rattle.ice_check_offer.specs.declared.fault.Fault.TheVariants.{Here}
 use Rattle.ice_check_records.specs.declared.next.Next.{Next}
 use Rattle.ice_check_records.specs.declared.next.Next.TheVariants as coming
@@ -31,9 +32,9 @@ use Rattle.ice_journal_laws.proofs.Settling.{head_opens}
 use Rattle.ice_journal_laws.proofs.Sets.{IsFit, set_on, sets_short, sets_misvalued, sets_complete}
 use Rattle.ice_check_records.specs.Heads.{end_of, IsGroupOf, HasLog}
 use Rattle.ice_check_records.specs.Stating.{Stating}
-use Rattle.ice_check_records.specs.Stages.{IsBroken}
+use Rattle.ice_check_offer.specs.Broken.{IsBroken}
 use Rattle.ice_check_records.specs.Groups.{at_hand, known_in, weights_for, AreKept, IsGroupAt}
-use Rattle.ice_check_records.specs.Taking.{IsTaken, Fails, Takes, HasOpened, HasBegun, HasKeptFinal, with_final, FollowsSets, FailsAsWhole, are_short, are_misvalued, LogFollows, Closes}
+use Rattle.ice_check_records.specs.Taking.{failure_at, IsTaken, Fails, Takes, HasOpened, HasBegun, HasKeptFinal, with_final, FollowsSets, FailsAsWhole, are_short, are_misvalued, LogFollows, Closes}
 use Rattle.ice_check_records.proofs.Knowing.{goes_on}
 use Rattle.ice_check_records.proofs.Placing.{broken_fails, left_out_fails, is_fit}
 
@@ -125,8 +126,8 @@ module _ (g : Groups) (x : NodeSet) (s : State) (last : suc (length g.stated.set
   complete_set Provisional is fit valued = sets_complete (known_in g (coming.Set Provisional) s) Provisional (at_hand g) x fit last balanced (λ v. valued)
   complete_set (Without b) is fit valued = sets_complete (known_in g (coming.Set (Without b)) s) (Without b) (at_hand g) x fit last balanced (λ v. valued)
 
-short_set : (group : Group) (g : Groups) (x : NodeSet) (y : Rule) (s : State) → IsFit (known_in g (coming.Set group) s) group (at_hand g) x → suc (length g.stated.sets) ≡ length (trees_of g.stated.exchange)
-    → FailsAsWhole group (record g { stated = record { exchange = g.stated.exchange; sets = g.stated.sets ++ x ∷ [] } }) y → TakesOn (known_in g (coming.Set group) s) (line.set x) (failed (record { line = s.line; rule = y }))
+short_set : (group : Group) (g : Groups) (x : NodeSet) (y : Fault) (s : State) → IsFit (known_in g (coming.Set group) s) group (at_hand g) x → suc (length g.stated.sets) ≡ length (trees_of g.stated.exchange)
+    → FailsAsWhole group (record g { stated = record { exchange = g.stated.exchange; sets = g.stated.sets ++ x ∷ [] } }) y → TakesOn (known_in g (coming.Set group) s) (line.set x) (failed (failure_at s.line y))
 short_set group g x y s fit last (are_short short) = sets_short (known_in g (coming.Set group) s) group (at_hand g) x fit last short
 short_set group g x y s fit last (are_misvalued balanced valued other) =
     sets_misvalued (known_in g (coming.Set group) s) group (at_hand g) x fit last balanced valued
@@ -179,7 +180,7 @@ module _ (g : Groups) (x : NodeSet) (room : length g.stated.sets < length (trees
     follows (Without b) is taken weights h = begun (Without b) is tt taken weights h
 
   -- the sets are all there: they pass, or they don't
-  pub sets_closed : (group : Group) → IsGroupAt g group → ¬ HasLeftOut (at_sets group (at_hand g)) (line.set x) → (stated : Stating) (result : Result (Unit {0}) Rule) (after : Groups) → AreKept g → g.log.weights ≡ weights_for g group
+  pub sets_closed : (group : Group) → IsGroupAt g group → ¬ HasLeftOut (at_sets group (at_hand g)) (line.set x) → (stated : Stating) (result : Result (Unit {0}) Fault) (after : Groups) → AreKept g → g.log.weights ≡ weights_for g group
       → stated ≡ record { exchange = g.stated.exchange; sets = g.stated.sets ++ x ∷ [] } → length stated.sets ≡ length (trees_of stated.exchange) → Closes group (record g { stated = stated }) result after
       → Takes (coming.Set group) g (line.set x) result after
   sets_closed group is taken stated result after kept weights same full h = by result (subst (λ (s : Stating). Closes group (record g { stated = s }) result after) same h)
@@ -187,12 +188,12 @@ module _ (g : Groups) (x : NodeSet) (room : length g.stated.sets < length (trees
       last : suc (length g.stated.sets) ≡ length (trees_of g.stated.exchange)
       last = omega (arith, subst (λ (s : Stating). length s.sets ≡ length (trees_of s.exchange)) same full, length-append g.stated.sets (x ∷ []))
 
-      by : (result : Result (Unit {0}) Rule) → Closes group Full result after → Takes (coming.Set group) g (line.set x) result after
+      by : (result : Result (Unit {0}) Fault) → Closes group Full result after → Takes (coming.Set group) g (line.set x) result after
       by (Ok u) f = follows after kept last f.0 group is taken weights f.1
       by (Err y) f = λ s quiet. short_set group g x y s (fit group g x room sat taken s) last f
 
 -- a log follows the sets of any other group than those of an assignment
-pub log_follows : (group : Group) (g : Groups) (result : Result (Unit {0}) Rule) (after : Groups) → group ≢ Assign → AreBalanced g.stated.exchange g.stated.sets
+pub log_follows : (group : Group) (g : Groups) (result : Result (Unit {0}) Fault) (after : Groups) → group ≢ Assign → AreBalanced g.stated.exchange g.stated.sets
     → LogFollows group g result after → Closes group g result after
 log_follows Assign g result after other balanced h = absurd (other refl)
 log_follows Final g (Ok u) after other balanced h = (balanced, h)

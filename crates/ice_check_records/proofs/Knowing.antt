@@ -1,10 +1,8 @@
 -- A state keeps what is known of it.
 use Rattle.std.proofs.Common.{◌≡◌, ℕ, suc, refl, sym, subst}
-use Rattle.std.specs.Prelude.{Result, Ok, Err}
 use Rattle.ice_defs.specs.declared.Group.{Group}
 use Rattle.ice_defs.specs.declared.Group.TheVariants.{Assign, Final, Rival, Provisional, Without}
 use Rattle.ice_journal.specs.Records.{Record}
-use Rattle.ice_journal_laws.specs.declared.rule.Rule.{Rule}
 use Rattle.ice_journal_laws.specs.State.{Stated, State}
 use Rattle.ice_journal_laws.specs.Next.{to_line}
 use Rattle.ice_journal_laws.specs.Progress.{passing, failed, TakesOn}
@@ -13,7 +11,7 @@ use Rattle.ice_check_records.specs.declared.next.Next.{Next}
 use Rattle.ice_check_records.specs.declared.next.Next.TheVariants as coming
 use Rattle.ice_check_records.specs.declared.groups.Groups.{Groups}
 use Rattle.ice_check_records.specs.Groups.{final_stated, final_in, known_in, IsOffering, StandsFor}
-use Rattle.ice_check_records.specs.Taking.{Goes, failure_at, IsTaken, Fails, Takes, TakesOrFails, as_faults}
+use Rattle.ice_check_records.specs.Taking.{Goes, failure_at, IsTaken, Fails}
 
 final_again : (stated : Stated) (group : Group) (old : Stated) → final_in stated group old ≡ final_in stated group (final_in stated group old)
 final_again stated Assign old = refl
@@ -69,8 +67,3 @@ stands_goes g r after h s stands = subst (λ (t : State). Goes t r after) (sym s
 
 pub stands_fails : (g : Groups) (r : Record) (fault : Fault) → Fails g.next g r fault → (s : State) → StandsFor g s → TakesOn s r (failed (failure_at s.line fault))
 stands_fails g r fault h s stands = subst (λ (t : State). TakesOn t r (failed (failure_at s.line fault))) (sym stands.known) (h s (subst (IsOffering g g.next) stands.known stands.offer))
-
--- outside an offer a fault is that of the record itself
-pub as_taken : (now : Next) (g : Groups) (r : Record) (outcome : Result (Unit {0}) Rule) (after : Groups) → Takes now g r outcome after → TakesOrFails now g r (as_faults outcome) after
-as_taken now g r (Ok unit) after h = h
-as_taken now g r (Err rule) after h = h

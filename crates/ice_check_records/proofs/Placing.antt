@@ -1,10 +1,8 @@
 -- What the stages of the checker make of a record.
-use Rattle.std.proofs.Common.{◌≡◌, ◌<◌, ◌≤◌, ◌+◌, ℕ, false, [], length, map, take, set, replicate, refl, sym, ◌∙◌, ap, subst, arith, ◌⊎◌, inl, inr}
+use Rattle.std.proofs.Common.{◌≡◌, ◌<◌, ◌≤◌, ◌+◌, ℕ, false, [], length, map, take, set, replicate, sym, ◌∙◌, ap, subst, arith, ◌⊎◌, inl, inr}
 use Rattle.std.specs.Prelude.{◌&&◌, Option, Some, None, IfSome, Err}
 use Rattle.std.proofs.lemmas.Bool.{cases_order}
 use Rattle.std.proofs.lemmas.List.{get_or-set_other, get_or-set_same, get_or-map, length-set, length-map, length-replicate, length-take-le}
-use Rattle.ice_defs.specs.declared.SatRule.{SatRule}
-use Rattle.ice_defs.specs.declared.SatRule.TheVariants.{Parent, Few, Many}
 use Rattle.ice_defs.specs.Tree.{Tree}
 use Rattle.ice_defs.specs.Set.{NodeSet, IsSatisfied}
 use Rattle.ice_defs.specs.SetFault.{set_fault}
@@ -29,9 +27,10 @@ use Rattle.ice_journal_laws.specs.State.{Stated, at_sets, State, trees_at}
 use Rattle.ice_journal_laws.specs.Next.{go_to}
 use Rattle.ice_journal_laws.specs.Tests.{is_refusal, HasLeftOut}
 use Rattle.ice_journal_laws.specs.Progress.{Progress, passing, failed, TakesOn, IsAfter}
-use Rattle.ice_journal_laws.specs.Assigning.{describing, rule_of}
+use Rattle.ice_journal_laws.specs.Assigning.{describing}
+use Rattle.ice_check_offer.specs.Broken.{IsBroken}
 use Rattle.ice_check_records.specs.Stating.{Stating, AreStated}
-use Rattle.ice_check_records.specs.Stages.{Halts, IsBroken, numbered_halt, section_halt}
+use Rattle.ice_check_records.specs.Stages.{Halts, numbered_halt, section_halt}
 use Rattle.ice_journal_laws.proofs.Places.{section_refused}
 use Rattle.ice_check_records.proofs.Behind.{section_misplaced}
 use Rattle.ice_journal_laws.proofs.Sets.{set_miscounted, set_unsatisfied, set_left_out, IsFit}
@@ -59,12 +58,6 @@ section_halts h s r (fault.Make refusal) more taken = by (make_fault_number refu
     by None taken = tt
     by (Some number) taken = described_fails h s r rule.Exchange (λ n. section_refused (version_of_head h) (kind_of_head h) n s r (ap is_refusal taken))
 section_halts h s r fault.NoMemory more taken = tt
-
--- the rule of a set that isn't satisfied
-pub broken_by : (t : Tree) (s : NodeSet) (k : SatRule) → length s ≡ length t → set_fault t s ≡ Some k → IsBroken t s (Some (rule_of k))
-broken_by t s Parent count is = (count, Parent, is, refl)
-broken_by t s Few count is = (count, Few, is, refl)
-broken_by t s Many count is = (count, Many, is, refl)
 
 -- a set that is broken by itself
 pub broken_fails : (s : State) (g : Group) (found : Stated) (x : NodeSet) (y : Rule) → length found.sets < length (trees_at s) → IsBroken (tree_of (trees_at s) (length found.sets)) x (Some y)

@@ -24,7 +24,8 @@ abbrev pub awaits_prices : Progress → Bool
 awaits_prices (passing s) = is_prices_place s.place
 awaits_prices other = false
 
--- the tests have come to the regret of the settlement with this number, of this exchange, at these bounds, with final sets of this value
+-- the tests have come to the regret of the settlement with this number, of this exchange, at
+-- these bounds, with final sets of this value
 pub record IsDue (number : ℕ) (ex : Exchange) (bounds : List Bounds) (final : ℤ) (p : Progress) : Type 0 where
   pub state : State
   pub come : p ≡ passing state

@@ -14,7 +14,8 @@ use Rattle.ice_check_offer.specs.Offers as offers
 use Rattle.ice_check_records.specs.declared.next.Next.{Next}
 use Rattle.ice_check_records.specs.declared.next.Next.TheVariants as next
 use Rattle.ice_check_records.specs.declared.groups.Groups.{Groups}
-use Rattle.ice_check_records.specs.Heads.{version_of_head, kind_of_head, end_of, HasRegret, IsSession, IsGroupOf, HasLog, IsThere, withouts_before}
+use Rattle.ice_check_records.specs.Heads.{version_of_head, kind_of_head, end_of}
+use Rattle.ice_check_records.specs.Heads.{HasRegret, IsSession, IsGroupOf, HasLog, IsThere, withouts_before}
 use Rattle.ice_check_records.specs.Logs.{IsWalkOf}
 
 -- the value and the sets of the group at hand
@@ -102,7 +103,8 @@ abbrev pub HasRound : Groups → Group → Type 0
 HasRound g Provisional = g.number < g.stated.exchange.settings.rounds
 HasRound g other = Unit {0}
 
--- a group of the journal, with the values without a bidder that come before it; no submission of its settlement was judged
+-- a group of the journal, with the values without a bidder that come before it; no submission
+-- of its settlement was judged
 pub record IsGroupAt (g : Groups) (group : Group) : Type 0 where
   pub of : IsGroupOf g.head group
   pub there : IsThere (length (trees_of g.stated.exchange)) group
@@ -138,7 +140,8 @@ pub record HasOpen (g : Groups) (group : Group) : Type 0 where
 -- what is ready where this is next
 abbrev pub IsReady : Groups → Next → Type 0
 IsReady g (next.Head group) = IsGroupAt g group × (g.stated.sets ≡ [])
-IsReady g (next.Set group) = IsGroupAt g group × (length g.stated.sets < length (trees_of g.stated.exchange)) × (g.log.weights ≡ weights_for g group)
+IsReady g (next.Set group) = IsGroupAt g group × (length g.stated.sets < length (trees_of g.stated.exchange))
+    × (g.log.weights ≡ weights_for g group)
 IsReady g (next.Step group) = HasOpen g group × (0 < length g.log.walk.sides)
 IsReady g next.Amount = HasSettled g
 IsReady g next.Offer = HasOffered g

@@ -2,7 +2,8 @@
 use Rattle.std.specs.Prelude.{ℕ, ◌==◌, ◌<◌, Bool, false}
 use Rattle.ice_defs.specs.declared.Group.{Group}
 use Rattle.ice_defs.specs.declared.Group.TheVariants as group
-use Rattle.ice_journal.specs.Records.{Record, Version, version_1, Kind, assign_kind, regret_kind, session_kind, EndWord, assign_end, regret_end, closed_end}
+use Rattle.ice_journal.specs.Records.{Record, Version, version_1, Kind, assign_kind, regret_kind, session_kind}
+use Rattle.ice_journal.specs.Records.{EndWord, assign_end, regret_end, closed_end}
 use Rattle.ice_journal.specs.Records as line
 use Rattle.ice_journal.specs.Lines.{version_of}
 use Rattle.ice_check_records.specs.declared.head.Head.{Head}

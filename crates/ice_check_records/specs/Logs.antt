@@ -31,7 +31,8 @@ pub record IsWalkOf (ts : List Tree) (exact : List Bool) (log : LogWalk) : Type 
   pub flags : log.desk.room ≡ exact
   pub goods : length log.before ≡ length exact
 
--- where a log begins: at the side where all nodes are free, but for the root of a bidder that is left out
+-- where a log begins: at the side where all nodes are free, but for the root of a bidder that
+-- is left out
 abbrev pub started : Side → Group → Side
 started free (Without b) = with_mark free b 0 Never
 started free other = free
@@ -65,7 +66,8 @@ FailsThere ts target log x y = FailsAt ts log.desk.room log.weights target (firs
 
 -- a record takes a log on, of a journal of this version and with this target
 abbrev pub GoesOn : List Tree → ℤ → Version → LogWalk → Record → LogWalk → Type 0
-GoesOn ts target version old r new = PassesStep ts old.desk.room old.weights target version old.walk.sides old.before r new.walk.sides new.before
+GoesOn ts target version old r new =
+    PassesStep ts old.desk.room old.weights target version old.walk.sides old.before r new.walk.sides new.before
 
 -- or it fails this test first
 abbrev pub BreaksOff : List Tree → ℤ → Version → LogWalk → Record → Rule → Type 0

@@ -52,6 +52,7 @@ stops_first Assign r = false
 stops_first (Regret version) r = is_spent r
 stops_first (Session version) r = false
 
--- the record may stand behind a complete exchange: what is stated then begins, or a stop stands in its place
+-- the record may stand behind a complete exchange: what is stated then begins, or a stop stands
+-- in its place
 abbrev pub ends_section : Head → Record → Bool
 ends_section head r = opens head r || stops_first head r

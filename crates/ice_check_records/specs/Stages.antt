@@ -1,15 +1,10 @@
 -- What the stages of the checker stand for.
-use Rattle.std.specs.Prelude.{ℕ, suc, ◌≡◌, ◌≢◌, Bool, true, false, length, Option, Some, None, Result, Ok, Err}
-use Rattle.ice_defs.specs.declared.SatRule.{SatRule}
-use Rattle.ice_defs.specs.Tree.{Tree}
-use Rattle.ice_defs.specs.Set.{NodeSet, IsSatisfied}
-use Rattle.ice_defs.specs.SetFault.{set_fault}
+use Rattle.std.specs.Prelude.{ℕ, suc, ◌≡◌, Bool, true, false, Option, Some, None, Result, Ok, Err}
 use Rattle.ice_journal.specs.Records.{Record}
 use Rattle.ice_check_records.specs.declared.stage.Stage.{Stage}
 use Rattle.ice_check_records.specs.declared.stage.Stage.TheVariants as stage
 use Rattle.ice_check_records.specs.declared.halt.Halt.{Halt}
 use Rattle.ice_check_records.specs.declared.halt.Halt.TheVariants as halt
-use Rattle.ice_journal_laws.specs.declared.rule.Rule.{Rule}
 use Rattle.ice_journal_laws.specs.declared.rule.Rule.TheVariants as rule
 use Rattle.ice_section.specs.declared.faults.SectionFault.{SectionFault}
 use Rattle.ice_section.specs.declared.faults.SectionFault.TheVariants as fault
@@ -17,7 +12,7 @@ use Rattle.ice_journal_laws.specs.State.{State}
 use Rattle.ice_journal_laws.specs.Checks.{Failure}
 use Rattle.ice_check_offer.specs.declared.fault.Fault.TheVariants.{Here}
 use Rattle.ice_journal_laws.specs.Progress.{Progress, nothing, other_kind, passing, failed, out_of_memory, IsAfter}
-use Rattle.ice_journal_laws.specs.Assigning.{describing, rule_of}
+use Rattle.ice_journal_laws.specs.Assigning.{describing}
 use Rattle.ice_check_records.specs.Stating.{HasSettings}
 use Rattle.ice_check_records.specs.Heads.{version_of_head, kind_of_head}
 use Rattle.ice_check_records.specs.Groups.{StandsFor, AreKept, IsReady}
@@ -80,12 +75,6 @@ LeadsOn s r (Err why) = Halts (λ n p. IsProgress n s p) r why
 -- the stage of the first failed test
 abbrev pub failed_stage : Failure → Stage
 failed_stage failure = stage.Failed failure.line failure.rule
-
--- the rule that a set of this tree breaks by itself, if it breaks one
-abbrev pub IsBroken : Tree → NodeSet → Option Rule → Type 0
-IsBroken t s None = IsSatisfied t s
-IsBroken t s (Some rule.Count) = length s ≢ length t
-IsBroken t s (Some other) = (length s ≡ length t) × (k : SatRule) × (set_fault t s ≡ Some k) × (other ≡ rule_of k)
 
 -- want of memory alone has no number
 abbrev pub numbered_halt : Option ℕ → Halt

@@ -1,5 +1,6 @@
 -- What a record makes of a journal behind its exchange.
-use Rattle.std.specs.Prelude.{ℕ, suc, ◌-◌, ◌≡◌, ◌≢◌, ◌==◌, Bool, if◌then◌else◌, IsTrue, List, [], ◌∷◌, length, ℤ, Option, Some, None, Result, Ok, Err}
+use Rattle.std.specs.Prelude.{ℕ, suc, ◌-◌, ◌≡◌, ◌≢◌, ◌==◌, Bool, if◌then◌else◌, IsTrue, List, [], ◌∷◌, length, ℤ}
+use Rattle.std.specs.Prelude.{Option, Some, None, Result, Ok, Err}
 use Rattle.ice_defs.specs.declared.Group.{Group}
 use Rattle.ice_defs.specs.declared.Group.TheVariants.{Assign, Final, Provisional, Without}
 use Rattle.ice_defs.specs.Exchange.{Exchange, trees_of, exact_of}
@@ -55,18 +56,9 @@ pub record IsTaken (now : Next) (g : Groups) (r : Record) (after : Groups) : Typ
 abbrev pub Fails : Next → Groups → Record → Fault → Type 0
 Fails now g r fault = (s : State) → IsOffering g now (known_in g now s) → TakesOn (known_in g now s) r (failed (failure_at s.line fault))
 
-abbrev pub TakesOrFails : Next → Groups → Record → Result (Unit {0}) Fault → Groups → Type 0
-TakesOrFails now g r (Ok unit) after = IsTaken now g r after
-TakesOrFails now g r (Err fault) after = Fails now g r fault
-
--- outside an offer a test fails at the record itself
-abbrev pub Takes : Next → Groups → Record → Result (Unit {0}) Rule → Groups → Type 0
+abbrev pub Takes : Next → Groups → Record → Result (Unit {0}) Fault → Groups → Type 0
 Takes now g r (Ok unit) after = IsTaken now g r after
-Takes now g r (Err rule) after = Fails now g r (Here rule)
-
-abbrev pub as_faults : Result (Unit {0}) Rule → Result (Unit {0}) Fault
-as_faults (Ok unit) = Ok unit
-as_faults (Err rule) = Err (Here rule)
+Takes now g r (Err fault) after = Fails now g r fault
 
 -- ---- what comes next
 
@@ -114,30 +106,33 @@ pub record HasBegun (group : Group) (g after : Groups) : Type 0 where
 
 -- the final group is complete: its sets are kept, and this is next
 abbrev pub with_final : Next → Groups → Groups
-with_final now g = record g { next = now; stated = record { exchange = g.stated.exchange; sets = [] }; final_sets = g.stated.sets; final_value = g.value }
+with_final now g =
+    record g { next = now; stated = record { exchange = g.stated.exchange; sets = [] }; final_sets = g.stated.sets; final_value = g.value }
 
 pub record HasKeptFinal (now : Next) (g after : Groups) : Type 0 where
   pub same : after ≡ with_final now g
   pub kept : AreKept after
 
--- the sets of a group are all there and balanced: those of an assignment are the final ones, and a log follows any others
+-- the sets of a group are all there and balanced: those of an assignment are the final ones, and
+-- a log follows any others
 abbrev pub FollowsSets : Group → Groups → Groups → Type 0
 FollowsSets Assign g after = HasKeptFinal next.End g after
 FollowsSets group g after = HasBegun group g after
 
 -- or they are short of a good, or have another value
-pub data FailsAsWhole (group : Group) (g : Groups) : Rule → Type 0 where
-  are_short : AreShort g.stated.exchange g.stated.sets → FailsAsWhole group g rule.Excess
-  are_misvalued : AreBalanced g.stated.exchange g.stated.sets → IsTrue (is_valued group) → total_value g.stated.sets (weights_for g group) ≢ g.value → FailsAsWhole group g rule.Value
+pub data FailsAsWhole (group : Group) (g : Groups) : Fault → Type 0 where
+  are_short : AreShort g.stated.exchange g.stated.sets → FailsAsWhole group g (Here rule.Excess)
+  are_misvalued : AreBalanced g.stated.exchange g.stated.sets → IsTrue (is_valued group)
+      → total_value g.stated.sets (weights_for g group) ≢ g.value → FailsAsWhole group g (Here rule.Value)
 
-abbrev pub Closes : Group → Groups → Result (Unit {0}) Rule → Groups → Type 0
+abbrev pub Closes : Group → Groups → Result (Unit {0}) Fault → Groups → Type 0
 Closes group g (Ok unit) after = AreBalanced g.stated.exchange g.stated.sets × FollowsSets group g after
-Closes group g (Err rule) after = FailsAsWhole group g rule
+Closes group g (Err fault) after = FailsAsWhole group g fault
 
 -- the sets have the value that the group states, and its log begins; or they have another
-abbrev pub LogFollows : Group → Groups → Result (Unit {0}) Rule → Groups → Type 0
+abbrev pub LogFollows : Group → Groups → Result (Unit {0}) Fault → Groups → Type 0
 LogFollows group g (Ok unit) after = HasBegun group g after
-LogFollows group g (Err y) after = (y ≡ rule.Value) × (total_value g.stated.sets (weights_for g group) ≢ g.value)
+LogFollows group g (Err y) after = (y ≡ Here rule.Value) × (total_value g.stated.sets (weights_for g group) ≢ g.value)
 
 -- what is known behind a complete group, or behind a step of its log, in whichever line
 pub record HasLeft (now : State → State) (group : Group) (g after : Groups) : Type 0 where

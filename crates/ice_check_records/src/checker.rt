@@ -1,5 +1,5 @@
 //! The checker, which takes one record at a time.
-ghost use Rattle.std.specs.Prelude.{◌≡◌, ◌<◌, ◌^◌, suc, length, IsTrue, IfSome, OnOk, OnErr, IsOk, IsOkAnd};
+ghost use Rattle.std.specs.Prelude.{◌≡◌, ◌<◌, ◌^◌, ◌↔◌, suc, length, IsTrue, IfSome, OnOk, OnErr, IsOk};
 ghost use Rattle.ice_journal.specs.Lines.{record_of};
 ghost use Rattle.ice_journal.specs.Ranges.{IsRecord};
 ghost use Rattle.ice_journal_laws.specs.Progress.{Progress, nothing, out_of_memory, is_ready};
@@ -13,7 +13,6 @@ use ice_journal::Line;
 use ice_journal_laws::{Answer, CheckEnd};
 use std::alloc::{AllocError, Global};
 use std::marker::Model;
-use std::mem;
 
 /// A checker of one journal, seen as the number of the next line and what is known of how far the
 /// tests have come. It takes the records one after another, and keeps neither them nor their bytes.
@@ -37,15 +36,15 @@ impl Model for Checker {
 
 impl Checker {
     /// A checker that has taken no record.
-    pub fn new(alloc: Global) -> Result<Checker, AllocError>
-        ensures made { IsOkAnd result (λ c. HasCome c nothing) }
-        ensures first { IsOkAnd result (λ c. c.line ≡ 1) }
+    pub fn new(alloc: Global) -> Checker
+        ensures made { HasCome result nothing }
+        ensures first { result.line ≡ 1 }
     {
-        Ok(Checker {
+        Checker {
             alloc,
             next_line: 1,
             stage: Stage::Begin,
-        })
+        }
     }
 
     /// Takes the next record.
@@ -59,14 +58,13 @@ impl Checker {
             → ComesTo p (record_of line.now) self.new) }
         ensures line { OnOk result (self.new.line ≡ suc self.old.line) }
         ensures stopped { OnErr result (HasCome self.new out_of_memory) }
+        ensures still { OnErr result (self.new.line ≡ self.old.line) }
         ensures ready { (p : Progress) → HasCome self.old p → IsTrue (is_ready p) → IsOk result }
         ensures once { IsTrue (is_ready_checker self.old) → IsOk result }
         ensures stays { OnOk result (IsTrue (is_ready_checker self.old)
             → IsTrue (is_ready_checker self.new)) }
     {
-        let stage = mem::replace(&mut self.stage, Stage::OutOfMemory);
-        let next = stage.after(self.alloc, self.next_line, line)?;
-        mem::replace(&mut self.stage, next).discard();
+        self.stage.take(self.alloc, self.next_line, line)?;
         self.next_line += 1;
         Ok(())
     }
@@ -81,6 +79,13 @@ impl Checker {
             self.stage,
             Stage::Begin | Stage::Describing(_, _) | Stage::OutOfMemory
         )
+    }
+
+    /// Whether memory ran out at a record: then `feed` takes no more.
+    pub fn is_stopped(&self) -> bool
+        ensures { IsTrue result ↔ HasCome self.now out_of_memory }
+    {
+        matches!(self.stage, Stage::OutOfMemory)
     }
 
     /// The number of the next record's line.
@@ -113,23 +118,6 @@ impl Checker {
     pub fn finish(self) -> Result<Answer, CheckEnd>
         ensures { (p : Progress) → HasCome self p → EndsWith p result }
     {
-        let Checker {
-            alloc: _,
-            next_line,
-            stage,
-        } = self;
-        let answer = stage.answer(next_line);
-        stage.discard();
-        answer
-    }
-
-    /// Drops the checker.
-    pub fn discard(self) {
-        let Checker {
-            alloc: _,
-            next_line: _,
-            stage,
-        } = self;
-        stage.discard();
+        self.stage.answer(self.next_line)
     }
 }

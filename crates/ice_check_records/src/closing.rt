@@ -7,7 +7,7 @@ ghost use Rattle.ice_journal.specs.Lines.{record_of};
 ghost use Rattle.ice_journal.specs.Ranges.{IsRecord};
 ghost use Rattle.ice_check_charge.specs.Tests.{IsWorth};
 ghost use Rattle.ice_check_records.specs.Groups.{weights_for, AreKept, IsReady};
-ghost use Rattle.ice_check_records.specs.Taking.{Takes, TakesOrFails, moved_on, behind_payment, Pays};
+ghost use Rattle.ice_check_records.specs.Taking.{Takes, moved_on, behind_payment, Pays};
 
 use crate::groups::Groups;
 use crate::next::Next;
@@ -33,7 +33,7 @@ impl Groups {
         requires next { self.old.next ≡ Next.Offer }
         requires kept { AreKept self.old }
         requires ready { IsReady self.old Next.Offer }
-        ensures { TakesOrFails Next.Offer self.old (record_of line.now) result self.new }
+        ensures { Takes Next.Offer self.old (record_of line.now) result self.new }
     {
         let exchange = self.stated.exchange();
         match self
@@ -47,7 +47,7 @@ impl Groups {
     }
 
     /// A record in the place of the cut and the surplus.
-    pub(crate) fn take_threshold(&mut self, line: &Line) -> Result<(), Rule>
+    pub(crate) fn take_threshold(&mut self, line: &Line) -> Result<(), Fault>
         requires lawful { IsRecord (record_of line.now) }
         requires kept { AreKept self.old }
         requires ready { IsReady self.old Next.Threshold }
@@ -103,7 +103,7 @@ impl Groups {
     }
 
     /// A record in the place of this bidder's payment, or of what comes behind it.
-    pub(crate) fn take_payment(&mut self, bidder: u8, line: &Line) -> Result<(), Rule>
+    pub(crate) fn take_payment(&mut self, bidder: u8, line: &Line) -> Result<(), Fault>
         requires lawful { IsRecord (record_of line.now) }
         requires kept { AreKept self.old }
         requires ready { IsReady self.old (Next.Payment bidder) }

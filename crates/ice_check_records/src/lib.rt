@@ -2,11 +2,12 @@
 //! failed test.
 #![tactic(auto)]
 
-mod broken;
 mod checker;
 mod closing;
 mod describing;
 mod due;
+mod end;
+mod group;
 mod groups;
 mod halt;
 mod head;
@@ -14,6 +15,7 @@ mod lines;
 mod log;
 mod next;
 mod opening;
+mod regret;
 mod stage;
 mod stated;
 mod steps_in;
@@ -21,3 +23,4 @@ mod steps_in;
 pub use checker::Checker;
 pub use due::DueRegret;
 pub use ice_journal_laws::{Answer, CheckEnd, Rule};
+pub use lines::amount_in;

@@ -127,8 +127,8 @@ pub(crate) fn is_spent(line: &Line) -> bool
     matches!(line, Line::Spent { .. })
 }
 
-/// The amount of the regret that the record states.
-pub(crate) fn amount_in(line: &Line) -> Option<i64>
+/// The regret that the record states, where it states one. It takes no memory.
+pub fn amount_in(line: &Line) -> Option<i64>
     ensures { MatchOption result (amount_in (record_of line.now) ≡ None)
         (λ amount. record_of line.now ≡ records.regret amount) }
 {

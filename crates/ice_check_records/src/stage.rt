@@ -1,5 +1,5 @@
 //! How far the records of a journal have come.
-ghost use Rattle.std.specs.Prelude.{◌≡◌, ◌≢◌, ℕ, suc, length, Err, IsTrue, IfOk, IfSome, IsOk};
+ghost use Rattle.std.specs.Prelude.{◌≡◌, ℕ, suc, false, length, IsTrue, IfSome, OnOk, OnErr, IsOk};
 ghost use Rattle.ice_journal.specs.Lines.{record_of};
 ghost use Rattle.ice_journal.specs.Ranges.{IsRecord};
 ghost use Rattle.ice_journal_laws.specs.Progress.{Progress};
@@ -18,6 +18,7 @@ use ice_journal::Line;
 use ice_journal_laws::{Answer, CheckEnd, Rule};
 use ice_section::Section;
 use std::alloc::{AllocError, Global};
+use std::mem;
 
 /// How far the records of a journal have come.
 #[derive(Drop)]
@@ -36,18 +37,6 @@ pub(crate) enum Stage {
     OutOfMemory,
 }
 
-/// A record behind a complete exchange.
-fn take(mut groups: Box<Groups>, line: &Line) -> Result<Stage, Halt>
-    requires kept { IsKept (Stage.Behind groups) }
-    requires lawful { IsRecord (record_of line.now) }
-    ensures leads { LeadsOn (Stage.Behind groups) (record_of line.now) result }
-    ensures ready { result ≢ Err Halt.NoMemory }
-    ensures stays { IfOk result (λ next. IsTrue (is_ready_stage next)) }
-{
-    groups.take(line)?;
-    Ok(Stage::Behind(groups))
-}
-
 /// The stage of a fault that is found at the line with this number.
 fn failed(number: u64, fault: Fault) -> Stage
     ensures { result ≡ failed_stage (failure_at number fault) }
@@ -62,40 +51,68 @@ fn failed(number: u64, fault: Fault) -> Stage
 }
 
 impl Stage {
-    /// The stage after a record.
-    fn step(self, alloc: Global, line: &Line) -> Result<Stage, Halt>
+    /// The stage after a record up to the one that ends the exchange.
+    fn described(self, alloc: Global, line: &Line) -> Result<Stage, Halt>
+        requires before { is_ready_stage self ≡ false }
         requires kept { IsKept self }
         requires lawful { IsRecord (record_of line.now) }
-        ensures leads { LeadsOn self (record_of line.now) result }
-        ensures ready { IsTrue (is_ready_stage self) → result ≢ Err Halt.NoMemory }
-        ensures stays { IsTrue (is_ready_stage self)
-            → IfOk result (λ next. IsTrue (is_ready_stage next)) }
+        ensures { LeadsOn self (record_of line.now) result }
     {
         match self {
             Stage::Begin => begin(alloc, line),
-            Stage::OtherKind => Ok(Stage::OtherKind),
             Stage::Describing(head, section) => describe(alloc, head, section, line),
-            Stage::Behind(groups) => take(groups, line),
-            Stage::Failed { line, rule } => Ok(Stage::Failed { line, rule }),
             Stage::OutOfMemory => Err(Halt::NoMemory),
+            Stage::OtherKind | Stage::Behind(_) | Stage::Failed { .. } => unreachable!(),
         }
     }
 
-    /// The stage after a record, which stands in the line with this number.
-    pub(crate) fn after(self, alloc: Global, number: u64, line: &Line) -> Result<Stage, AllocError>
-        requires within { IsAtLine number self }
+    /// Takes a record up to the one that ends the exchange. Where memory runs out, no more records
+    /// are taken.
+    fn describe(&mut self, alloc: Global, number: u64, line: &Line) -> Result<(), AllocError>
+        requires before { is_ready_stage self.old ≡ false }
+        requires within { IsAtLine number self.old }
         requires lawful { IsRecord (record_of line.now) }
-        ensures after { IfOk result (λ next. (p : Progress) → IsProgress number self p
-            → TakesFurther number next p (record_of line.now)) }
-        ensures within { IfOk result (λ next. IsAtLine (suc number) next) }
-        ensures ready { IsTrue (is_ready_stage self) → IsOk result }
-        ensures stays { IsTrue (is_ready_stage self)
-            → IfOk result (λ next. IsTrue (is_ready_stage next)) }
+        ensures after { OnOk result ((p : Progress) → IsProgress number self.old p
+            → TakesFurther number self.new p (record_of line.now)) }
+        ensures within { IsAtLine (suc number) self.new }
+        ensures stopped { OnErr result (self.new ≡ Stage.OutOfMemory) }
     {
-        match self.step(alloc, line) {
-            Ok(next) => Ok(next),
-            Err(Halt::Fails(fault)) => Ok(failed(number, fault)),
+        match mem::replace(self, Stage::OutOfMemory).described(alloc, line) {
+            Ok(next) => {
+                *self = next;
+                Ok(())
+            }
+            Err(Halt::Fails(fault)) => {
+                *self = failed(number, fault);
+                Ok(())
+            }
             Err(Halt::NoMemory) => Err(AllocError),
+        }
+    }
+
+    /// Takes a record, which stands in the line with this number. Where memory runs out, no more
+    /// records are taken.
+    pub(crate) fn take(&mut self, alloc: Global, number: u64, line: &Line) -> Result<(), AllocError>
+        requires within { IsAtLine number self.old }
+        requires lawful { IsRecord (record_of line.now) }
+        ensures after { OnOk result ((p : Progress) → IsProgress number self.old p
+            → TakesFurther number self.new p (record_of line.now)) }
+        ensures within { IsAtLine (suc number) self.new }
+        ensures stopped { OnErr result (self.new ≡ Stage.OutOfMemory) }
+        ensures ready { IsTrue (is_ready_stage self.old) → IsOk result }
+        ensures stays { IsTrue (is_ready_stage self.old) → IsTrue (is_ready_stage self.new) }
+    {
+        match self {
+            Stage::Behind(groups) => {
+                if let Err(fault) = groups.take(line) {
+                    *self = failed(number, fault);
+                }
+                Ok(())
+            }
+            Stage::OtherKind | Stage::Failed { .. } => Ok(()),
+            Stage::Begin | Stage::Describing(_, _) | Stage::OutOfMemory => {
+                self.describe(alloc, number, line)
+            }
         }
     }
 
@@ -143,7 +160,4 @@ impl Stage {
             _ => false,
         }
     }
-
-    /// Drops the stage.
-    pub(crate) fn discard(self) {}
 }

@@ -60,14 +60,9 @@ fn read_all(
 pub fn replay(alloc: Global, bytes: &[u8], number: u8) -> Result<Replay, ReplayEnd>
     ensures { ReplaysBytes bytes.now number result }
 {
-    let Ok(mut checker) = Checker::new(alloc) else {
-        return Err(ReplayEnd::NoMemory);
-    };
+    let mut checker = Checker::new(alloc);
     match read_all(alloc, bytes, number, &mut checker) {
         Ok(watch) => conclude(watch, checker.finish()),
-        Err(end) => {
-            checker.discard();
-            Err(end)
-        }
+        Err(end) => Err(end),
     }
 }

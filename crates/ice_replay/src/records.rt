@@ -2,7 +2,7 @@
 ghost use Rattle.std.specs.Prelude.{◌≡◌, ℕ, None, MatchOption};
 ghost use Rattle.ice_journal.specs.Lines.{record_of};
 ghost use Rattle.ice_journal.specs.Records as records;
-ghost use Rattle.ice_journal_laws.specs.Fields.{amount_in, prices_in};
+ghost use Rattle.ice_journal_laws.specs.Fields.{prices_in};
 ghost use Rattle.ice_replay.specs.Settlements.{is_session_head};
 
 use ice_journal::{Kind, Line};
@@ -19,17 +19,6 @@ pub(crate) fn is_session_head(line: &Line) -> bool
             ..
         }
     )
-}
-
-/// The regret that the record states.
-pub(crate) fn amount_in(line: &Line) -> Option<i64>
-    ensures { MatchOption result (amount_in (record_of line.now) ≡ None)
-        (λ amount. record_of line.now ≡ records.regret amount) }
-{
-    match line {
-        Line::Regret { amount } => Some(*amount),
-        _ => None,
-    }
 }
 
 /// The prices that the record states.

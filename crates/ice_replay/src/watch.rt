@@ -6,9 +6,9 @@ ghost use Rattle.ice_check_records.specs.Checking as checker;
 ghost use Rattle.ice_replay.specs.Watching.{IsComeTo, IsStated, WatchesOn};
 
 use crate::bidders::all_bidders;
-use crate::records::{amount_in, is_session_head, prices_in};
+use crate::records::{is_session_head, prices_in};
 use crate::settlement::Replay;
-use ice_check_records::{Checker, DueRegret};
+use ice_check_records::{Checker, DueRegret, amount_in};
 use ice_journal::Line;
 use std::alloc::{AllocError, Global};
 

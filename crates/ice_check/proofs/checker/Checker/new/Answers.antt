@@ -14,7 +14,7 @@ returns-clause-stands c =
         begun = [];
         cut = refl;
         one_line = no_byte;
-        lines = nothing_taken c.in_ok-new.field-0 c.in_ok-new.ensures.made c.in_ok-new.ensures.first;
+        lines = nothing_taken c.new-3.result c.new-3.ensures.made c.new-3.ensures.first;
         text = subst (λ (b : Begun). IsTextOf b []) (sym same) c.new.ensures;
       };
     }

@@ -1,7 +1,7 @@
 use Rattle.std.proofs.Common.{subst}
 use Rattle.std.specs.Prelude.{Some}
 use Rattle.ice_defs.specs.Tree.{Tree}
-use Rattle.ice_check_records.specs.Stages.{IsBroken}
+use Rattle.ice_check_offer.specs.Broken.{IsBroken}
 use Rattle.ice_check_records.proofs.Grouped.{broken_set}
 use Rattle.ice_check_records.proofs.groups.Groups.put_any.Goals as goal
 
