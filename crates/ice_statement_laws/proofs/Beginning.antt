@@ -1,5 +1,5 @@
 -- What the audit passes begins with the section of one bidder's exchange.
-use Rattle.std.proofs.Common.{◌≡◌, ℕ, suc, Bool, true, false, cond, eqb, List, [], ◌∷◌, ◌++◌, map, length, ℤ, pos, refl, sym, ◌∙◌, ap, subst, arith, inl, inr, ◌⊎◌, Result, Ok, Err}
+use Rattle.std.proofs.Common.{◌≡◌, ℕ, suc, Bool, true, false, cond, eqb, List, [], ◌∷◌, ◌++◌, map, length, ℤ, pos, refl, sym, ◌∙◌, ap, subst, arith, inl, inr, Result, Ok, Err}
 use Rattle.std.specs.Prelude.{◌&&◌, ◌||◌, ◌==◌, not, nat_lt, is_none, is_some, Option, Some, None, option_map}
 use Rattle.std.specs.List.{AllByRecursion}
 use Rattle.std.proofs.lemmas.Bool.{eqb-true}
@@ -23,6 +23,7 @@ use Rattle.ice_journal_laws.specs.declared.rule.Rule.TheVariants as rule
 use Rattle.ice_journal_laws.specs.Tests.{is_refusal}
 use Rattle.ice_statement_laws.specs.Statement.{StatementLine, named, shown, kept, offered, ended}
 use Rattle.ice_statement_laws.specs.Audit.{at_regret, AuditState, bidder_at, begin_settlement, is_named, section_taken, to_line, Audited, passes, goes_on, IsAudit}
+use Rattle.ice_statement_laws.specs.Sections.{IsDraftNamed, Before, Complete, IsOwnSection}
 use Rattle.ice_statement_laws.specs.Own.{OwnSession, own_exchange, own_lines, IsRightOwn}
 use Rattle.ice_statement_laws.specs.Texts.{IsLine, AreLines, paid_in}
 use Rattle.ice_statement_laws.specs.Laws.{YesIsRight}
@@ -41,55 +42,35 @@ ok_err : {A : Type 0} (f : SectionFault) (t : Section) → (let o : Result Secti
 ok_err f t e = absurd cc
 
 module _ (name : List ℕ) where
-  -- an incomplete bidder has the name
-  abbrev IsDraftNamed : Option Draft → Type 0
-  IsDraftNamed None = Unit {0}
-  IsDraftNamed (Some d) = d.bidder.name ≡ name
-
-  -- no bidder is complete
-  record Before (s : Section) : Type 0 where
-    none : s.bidders ≡ []
-    draft : IsDraftNamed s.draft
-
-  -- one is, which has the name
-  record Complete (s : Section) : Type 0 where
-    bidder : Bidder
-    one : s.bidders ≡ bidder ∷ []
-    ended : s.draft ≡ None
-    called : bidder.name ≡ name
-
-  abbrev Phase : Section → Type 0
-  Phase s = Before s ⊎ Complete s
-
   -- ---- one record more
 
-  kept_before : (s after : Section) → Before s → s ≡ after → Phase after
-  kept_before s after b e = inl (subst Before e b)
+  kept_before : (s after : Section) → Before name s → s ≡ after → IsOwnSection name after
+  kept_before s after b e = inl (subst (Before name) e b)
 
-  when_ok : (b : Bool) (next : Result Section SectionFault) (fault : SectionFault) (after : Section) → (next ≡ Ok after → Phase after) → cond b (Err fault) next ≡ Ok after → Phase after
+  when_ok : (b : Bool) (next : Result Section SectionFault) (fault : SectionFault) (after : Section) → (next ≡ Ok after → IsOwnSection name after) → cond b (Err fault) next ≡ Ok after → IsOwnSection name after
   when_ok true next fault after f e = ok_err fault after e
   when_ok false next fault after f e = f e
 
-  if_ok : (b : Bool) (next : Result Section SectionFault) (fault : SectionFault) (after : Section) → (next ≡ Ok after → Phase after) → cond b next (Err fault) ≡ Ok after → Phase after
+  if_ok : (b : Bool) (next : Result Section SectionFault) (fault : SectionFault) (after : Section) → (next ≡ Ok after → IsOwnSection name after) → cond b next (Err fault) ≡ Ok after → IsOwnSection name after
   if_ok true next fault after f e = f e
   if_ok false next fault after f e = ok_err fault after e
 
-  unrefused : (refusal : Option ℕ) (s after : Section) → Phase s → unless_refused refusal s ≡ Ok after → Phase after
-  unrefused None s after p e = subst Phase (ok_same s after e) p
+  unrefused : (refusal : Option ℕ) (s after : Section) → IsOwnSection name s → unless_refused refusal s ≡ Ok after → IsOwnSection name after
+  unrefused None s after p e = subst (IsOwnSection name) (ok_same s after e) p
   unrefused (Some number) s after p e = ok_err _ after e
 
-  unmade : (refusal : Option ℕ) (next : Result Section SectionFault) (after : Section) → (next ≡ Ok after → Phase after) → unless_unmade refusal next ≡ Ok after → Phase after
+  unmade : (refusal : Option ℕ) (next : Result Section SectionFault) (after : Section) → (next ≡ Ok after → IsOwnSection name after) → unless_unmade refusal next ≡ Ok after → IsOwnSection name after
   unmade None next after f e = f e
   unmade (Some number) next after f e = ok_err _ after e
 
-  went_on : (s : Section) (b : Bidder) (o : Result (List OpenNode) SectionFault) (after : Section) → s.bidders ≡ [] → b.name ≡ name → go_on s b o ≡ Ok after → Phase after
+  went_on : (s : Section) (b : Bidder) (o : Result (List OpenNode) SectionFault) (after : Section) → s.bidders ≡ [] → b.name ≡ name → go_on s b o ≡ Ok after → IsOwnSection name after
   went_on s b (Err fault) after none is e = ok_err fault after e
   went_on s b (Ok []) after none is e =
       unrefused (bidder_refusal (length s.goods) s.bidders b) (record s { bidders = s.bidders ++ b ∷ []; draft = None }) after
       (inr (record { bidder = b; one = ap (λ (bs : List Bidder). bs ++ b ∷ []) none; ended = refl; called = is })) e
   went_on s b (Ok (node ∷ outer)) after none is e = kept_before (record s { draft = Some (record { bidder = b; opened = node ∷ outer }) }) after (record { none = none; draft = is }) (ok_same _ after e)
 
-  noded : (s : Section) (d : Option Draft) (kind : NodeKind) (children : ℕ) (lo hi : ℤ) (after : Section) → s.bidders ≡ [] → IsDraftNamed d → take_node_at s d kind children lo hi ≡ Ok after → Phase after
+  noded : (s : Section) (d : Option Draft) (kind : NodeKind) (children : ℕ) (lo hi : ℤ) (after : Section) → s.bidders ≡ [] → IsDraftNamed name d → take_node_at s d kind children lo hi ≡ Ok after → IsOwnSection name after
   noded s None kind children lo hi after none is e = ok_err order after e
   noded s (Some draft) kind children lo hi after none is e =
       when_ok (names_no_good kind (length s.goods)) _ no_good after
@@ -97,16 +78,16 @@ module _ (name : List ℕ) where
       (went_on s (with_node draft.bidder draft.opened kind lo hi) (open_after kind (length draft.bidder.tree) children draft.opened) after none is))
       e
 
-  abbrev IsNamed : Record → Type 0
+  abbrev pub IsNamed : Record → Type 0
   IsNamed (line.bidder other own) = other ≡ name
   IsNamed other = Unit {0}
 
-  good_taken : (s : Section) (x : Good) (after : Section) → Before s → take_good s x ≡ Ok after → Phase after
+  good_taken : (s : Section) (x : Good) (after : Section) → Before name s → take_good s x ≡ Ok after → IsOwnSection name after
   good_taken s x after b e =
       when_ok (is_none s.settings || nat_lt 0 (length s.bidders) || is_some s.draft) _ order after
       (unrefused (good_refusal s.goods s.bidders x.name) (record s { goods = s.goods ++ x ∷ [] }) after (inl (record { none = b.none; draft = b.draft }))) e
 
-  phase_next : (s : Section) (r : Record) (after : Section) → Before s → IsNamed r → take_record s r ≡ Ok after → Phase after
+  pub phase_next : (s : Section) (r : Record) (after : Section) → Before name s → IsNamed r → take_record s r ≡ Ok after → IsOwnSection name after
   phase_next s (line.settings x) after b is e = if_ok (is_none s.settings) (Ok (record s { settings = Some x })) order after (λ f. kept_before (record s { settings = Some x }) after (record { none = b.none; draft = b.draft }) (ok_same _ after f)) e
   phase_next s (line.good n) after b is e = good_taken s (record { name = n; exact = false }) after b e
   phase_next s (line.exact n) after b is e = good_taken s (record { name = n; exact = true }) after b e
@@ -133,7 +114,7 @@ module _ (name : List ℕ) where
     line_number : ℕ
     lines_is : lines ≡ map shown records ++ (shown (line.settle 0) ∷ rest)
     taken : take_records s records ≡ Ok end
-    whole : Complete end
+    whole : Complete name end
     later : Audited (behind_section line_number end) rest None
 
   more : (s after : Section) (r : Record) (rest : List StatementLine) → take_record s r ≡ Ok after → Sectioned after rest → Sectioned s (shown r ∷ rest)
@@ -148,14 +129,14 @@ module _ (name : List ℕ) where
     later = x.later;
   }
 
-  complete_ends : (s : Section) → Complete s → may_end s ≡ true
+  pub complete_ends : (s : Section) → Complete name s → may_end s ≡ true
   complete_ends s c = ap (λ (bs : List Bidder). nat_lt 0 (length bs) && is_none s.draft) c.one ∙ ap (λ (d : Option Draft). nat_lt 0 (length (c.bidder ∷ [])) && is_none d) c.ended
 
-  before_goes : (s : Section) → Before s → may_end s ≡ false
+  pub before_goes : (s : Section) → Before name s → may_end s ≡ false
   before_goes s b = ap (λ (bs : List Bidder). nat_lt 0 (length bs) && is_none s.draft) b.none
 
   -- the number of the first settlement
-  begins : (n : ℕ) (s : Section) (r : Record) (rest : List StatementLine) (after : AuditState) → Complete s
+  begins : (n : ℕ) (s : Section) (r : Record) (rest : List StatementLine) (after : AuditState) → Complete name s
       → option_map (to_line (suc n)) (begin_settlement (record (in_section name n s) { bounds = (bidder_at (in_section name n s)).bounds }) 0 r) ≡ Some after → Audited after rest None → Sectioned s (shown r ∷ rest)
   begins n s (line.settle number) rest after c is t = by (eqb number 0) refl is
     where
@@ -177,7 +158,7 @@ module _ (name : List ℕ) where
   named_of n s (line.bidder other own) e = sym (same-bytes_eq name other e)
   named_of n s other e = tt
 
-  inv_section : (n : ℕ) (s : Section) (lines : List StatementLine) → Phase s → Audited (in_section name n s) lines None → Sectioned s lines
+  inv_section : (n : ℕ) (s : Section) (lines : List StatementLine) → IsOwnSection name s → Audited (in_section name n s) lines None → Sectioned s lines
   inv_section n s [] p (passes e) = absurd cc
   inv_section n s (shown r ∷ rest) (inr c) (goes_on {after = after} none holds is t) =
       begins n s r rest after c
@@ -188,7 +169,7 @@ module _ (name : List ℕ) where
       (λ next p d. inv_section (suc n) next rest p d)
     where
       by : (t : Bool) (o : Result Section SectionFault) → is_named (in_section name n s) r ≡ t → take_record s r ≡ o → option_map (to_line (suc n)) (cond t (section_taken (in_section name n s) o) None) ≡ Some after
-          → ((next : Section) → Phase next → Audited (in_section name (suc n) next) rest None → Sectioned next rest) → Sectioned s (shown r ∷ rest)
+          → ((next : Section) → IsOwnSection name next → Audited (in_section name (suc n) next) rest None → Sectioned next rest) → Sectioned s (shown r ∷ rest)
       by false o e f g h = absurd (none-some after g)
       by true (Ok next) e f g h =
           more s next r rest f (h next (phase_next s r next b (named_of n s r e) f) (subst (λ (x : AuditState). Audited x rest None) (sym (some_same (in_section name (suc n) next) after g)) t))

@@ -5,3 +5,4 @@ pub mod Parts
 pub mod Texts
 pub mod Laws
 pub mod Gathering
+pub mod Sections
