@@ -1,0 +1,5 @@
+pub mod Answers
+pub mod Auditing
+pub mod Lines
+pub mod Standing
+pub mod Taking

@@ -1,0 +1,132 @@
+//! The lines of a statement, read.
+ghost use Rattle.std.specs.Prelude.{◌≡◌, ◌≢◌, ◌++◌, ℕ, List, codes, option_map, MatchOption};
+ghost use Rattle.ice_line.specs.Reading.{Reads};
+ghost use Rattle.ice_journal.specs.Reading.{Finds};
+ghost use Rattle.ice_journal.specs.Ranges.{IsBits};
+ghost use Rattle.ice_journal.specs.Spelling.{bits, bit_byte};
+ghost use Rattle.ice_statement_laws.specs.Statement.{statement_text};
+ghost use Rattle.ice_statement_laws.specs.Texts.{IsLine};
+ghost use Rattle.ice_audit.specs.Lines.{line_of, FindsOwn};
+
+use ice_journal::{Line, read_record};
+use ice_set::NodeSet;
+use ice_terms::Name;
+
+/// A line of a statement.
+#[derive(Drop)]
+pub(crate) enum StatementLine {
+    /// `statement NAME`.
+    Named(Name),
+    /// A record of the journal.
+    Shown(Line),
+    /// `kept BITS`: the bidder's final set.
+    Kept(NodeSet),
+    /// `offered BITS`: the bidder's provisional set.
+    Offered(NodeSet),
+    /// `end statement`.
+    Ended,
+}
+
+/// The bit of a character.
+fn bit(byte: u8) -> Option<bool>
+    ensures { Finds result (λ _. Unit {0}) bit_byte byte }
+{
+    match byte {
+        b'0' => Some(false),
+        b'1' => Some(true),
+        _ => None,
+    }
+}
+
+/// A set, one character per node.
+fn node_bits(field: &[u8]) -> Option<NodeSet>
+    ensures { Finds result IsBits bits field.now }
+{
+    if field.is_empty() || field.len() > 200 {
+        return None;
+    }
+    let mut set = NodeSet::empty(field.len() as u16);
+    for (node, byte) in field.iter().enumerate() {
+        set.put(node as u16, bit(*byte)?);
+    }
+    Some(set)
+}
+
+/// What stands behind this word and its space.
+fn behind<'a>(text: &'a [u8], word: &[u8]) -> Option<&'a [u8]>
+    ensures { MatchOption result ((rest : List ℕ) → text.now ≢ word.now ++ rest)
+        (λ rest. text.now ≡ word.now ++ rest.now) }
+{
+    text.strip_prefix(word)
+}
+
+/// The line with this name.
+fn named_line(field: &[u8]) -> Option<StatementLine>
+    ensures { FindsOwn (option_map line_of result) (codes "statement " ++ field.now) }
+{
+    match Name::from_bytes(field) {
+        Some(name) => Some(StatementLine::Named(name)),
+        None => None,
+    }
+}
+
+/// The line of this final set.
+fn kept_line(field: &[u8]) -> Option<StatementLine>
+    ensures { FindsOwn (option_map line_of result) (codes "kept " ++ field.now) }
+{
+    match node_bits(field) {
+        Some(set) => Some(StatementLine::Kept(set)),
+        None => None,
+    }
+}
+
+/// The line of this provisional set.
+fn offered_line(field: &[u8]) -> Option<StatementLine>
+    ensures { FindsOwn (option_map line_of result) (codes "offered " ++ field.now) }
+{
+    match node_bits(field) {
+        Some(set) => Some(StatementLine::Offered(set)),
+        None => None,
+    }
+}
+
+/// The line that has this text and is no record, and None exactly where there is none.
+fn own_line(text: &[u8]) -> Option<StatementLine>
+    ensures { FindsOwn (option_map line_of result) text.now }
+{
+    if text == b"end statement".as_slice() {
+        return Some(StatementLine::Ended);
+    }
+    if let Some(field) = behind(text, b"statement ") {
+        return named_line(field);
+    }
+    if let Some(field) = behind(text, b"kept ") {
+        return kept_line(field);
+    }
+    match behind(text, b"offered ") {
+        Some(field) => offered_line(field),
+        None => None,
+    }
+}
+
+/// The line of the record with this text.
+fn shown_line(text: &[u8]) -> Option<StatementLine>
+    requires { FindsOwn None text.now }
+    ensures { Reads (option_map line_of result) IsLine statement_text text.now }
+{
+    match read_record(text) {
+        Some(record) => Some(StatementLine::Shown(record)),
+        None => None,
+    }
+}
+
+/// The line of which this is the one spelling, and None exactly where it is the spelling of no line
+/// of a statement. The text has no newline at its end.
+pub(crate) fn read_line(text: &[u8]) -> Option<StatementLine>
+    ensures { Reads (option_map line_of result) IsLine statement_text text.now }
+{
+    match own_line(text) {
+        Some(line) => Some(line),
+        None => shown_line(text),
+    }
+}
