@@ -10,6 +10,8 @@ mod next;
 mod rounds;
 mod settlements;
 mod standing;
+#[cfg(test)]
+mod tests;
 
 pub use answer::{AuditAnswer, AuditEnd};
 pub use auditing::audit;
