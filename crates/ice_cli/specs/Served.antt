@@ -3,16 +3,16 @@ use Rattle.std.specs.Prelude.{◌≡◌, ℕ, List}
 use Rattle.ice_edge.specs.declared.status.Status.{Status}
 use Rattle.ice_edge.specs.declared.status.Status.TheVariants.{Words, WriteFault}
 use Rattle.ice_cli.specs.Command.{Command, check, best, regret, xor, run, gen, migrate, IsCommand, IsNoCommand, replay}
-use Rattle.ice_cli.specs.Call.{Call, SinkFaultRose, IsPrefix}
-use Rattle.ice_cli.specs.Output.{words_line}
-use Rattle.ice_cli.specs.CheckServed.{CheckAnswers}
-use Rattle.ice_cli.specs.BestServed.{BestAnswers}
-use Rattle.ice_cli.specs.RegretServed.{RegretAnswers}
-use Rattle.ice_cli.specs.XorServed.{XorAnswers}
-use Rattle.ice_cli.specs.ReplayServed.{ReplayAnswers}
-use Rattle.ice_cli.specs.RunServed.{RunAnswers}
-use Rattle.ice_cli.specs.GenServed.{GenAnswers}
-use Rattle.ice_cli.specs.MigrateServed.{MigrateAnswers}
+use Rattle.ice_commands.specs.Call.{Call, SinkFaultRose, IsPrefix}
+use Rattle.ice_commands.specs.Output.{words_line}
+use Rattle.ice_commands.specs.CheckServed.{CheckAnswers}
+use Rattle.ice_commands.specs.BestServed.{BestAnswers}
+use Rattle.ice_commands.specs.RegretServed.{RegretAnswers}
+use Rattle.ice_commands.specs.XorServed.{XorAnswers}
+use Rattle.ice_commands.specs.ReplayServed.{ReplayAnswers}
+use Rattle.ice_session_commands.specs.RunServed.{RunAnswers}
+use Rattle.ice_session_commands.specs.GenServed.{GenAnswers}
+use Rattle.ice_commands.specs.MigrateServed.{MigrateAnswers}
 
 -- the words are none of the forms; no file is fetched, so all that the shelf tells is the same, each count among it
 pub record RefusesWords (call : Call) : Type 0 where

@@ -1,22 +1,22 @@
 //! The top call: it answers the words of the program.
 ghost use Rattle.std.specs.Prelude.{ℕ, List, map, string_bytes};
 ghost use Rattle.ice_edge.specs.Edge.{Appends};
-ghost use Rattle.ice_cli.specs.Output.{words_line};
-ghost use Rattle.ice_cli.specs.Keeping.{KeepsTold};
-ghost use Rattle.ice_cli.specs.Parts.{IsSaid};
+ghost use Rattle.ice_commands.specs.Output.{words_line};
+ghost use Rattle.ice_commands.specs.Keeping.{KeepsTold};
+ghost use Rattle.ice_commands.specs.Parts.{IsSaid};
 ghost use Rattle.ice_cli.specs.Served.{IsServed};
 
-use crate::best::best;
-use crate::check::check;
 use crate::command::{Command, command_in};
-use crate::generated::generated;
-use crate::migrate::migrate;
-use crate::regret::regret;
-use crate::replay::replay;
-use crate::run::run;
-use crate::say::ended;
-use crate::xor::xor;
+use ice_commands::best::best;
+use ice_commands::check::check;
+use ice_commands::ended;
+use ice_commands::migrate::migrate;
+use ice_commands::regret::regret;
+use ice_commands::replay::replay;
+use ice_commands::xor::xor;
 use ice_edge::{Shelf, Sink, Status};
+use ice_session_commands::generated::generated;
+use ice_session_commands::run::run;
 use std::alloc::Global;
 
 /// Refuses the words.

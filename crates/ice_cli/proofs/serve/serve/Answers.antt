@@ -1,16 +1,16 @@
 use Rattle.std.proofs.Common.{refl, [], map, string_bytes}
-use Rattle.ice_cli.specs.Call.{Call}
+use Rattle.ice_commands.specs.Call.{Call}
 use Rattle.ice_cli.specs.Command.{check, best, regret, xor, run, gen, migrate, replay}
-use Rattle.ice_cli.specs.CheckServed.{CheckAnswers}
-use Rattle.ice_cli.specs.BestServed.{BestAnswers}
-use Rattle.ice_cli.specs.RegretServed.{RegretAnswers}
-use Rattle.ice_cli.specs.XorServed.{XorAnswers}
-use Rattle.ice_cli.specs.ReplayServed.{ReplayAnswers}
-use Rattle.ice_cli.specs.RunServed.{RunAnswers}
-use Rattle.ice_cli.specs.GenServed.{GenAnswers}
-use Rattle.ice_cli.specs.MigrateServed.{MigrateAnswers}
-use Rattle.ice_cli.proofs.Parts.{served, refused_words}
-use Rattle.ice_cli.proofs.Trials.{serves_said}
+use Rattle.ice_commands.specs.CheckServed.{CheckAnswers}
+use Rattle.ice_commands.specs.BestServed.{BestAnswers}
+use Rattle.ice_commands.specs.RegretServed.{RegretAnswers}
+use Rattle.ice_commands.specs.XorServed.{XorAnswers}
+use Rattle.ice_commands.specs.ReplayServed.{ReplayAnswers}
+use Rattle.ice_session_commands.specs.RunServed.{RunAnswers}
+use Rattle.ice_session_commands.specs.GenServed.{GenAnswers}
+use Rattle.ice_commands.specs.MigrateServed.{MigrateAnswers}
+use Rattle.ice_session_commands.proofs.Trials.{serves_said}
+use Rattle.ice_cli.proofs.Serving.{served, refused_words}
 use Rattle.ice_cli.proofs.serve.serve.Goals as goal
 
 pub returns-in-Some-Check-clause-served : goal.returns-in-Some-Check-clause-served

@@ -1,0 +1,24 @@
+-- parts of a call, and what is said of a part's answer
+pub mod Parts
+-- why a file is not had
+pub mod Refusing
+-- all that is told stays the same where no file caused the status
+pub mod Keeping
+-- what `check` answers
+pub mod Checking
+-- the best sets of all bidders
+pub mod Bidding
+-- what `best` answers
+pub mod Besting
+-- what `replay` answers
+pub mod Replayed
+-- a journal that is put piece by piece
+pub mod Writing
+-- the journal that `regret` writes
+pub mod RegretJournal
+-- what `regret` answers
+pub mod Regretting
+-- what `xor` answers
+pub mod Translating
+-- what `migrate` answers
+pub mod Migrating

@@ -1,0 +1,60 @@
+-- Parts of a call: what is told in one is told in the call; and what is said of a part's answer.
+use Rattle.std.proofs.Common.{◌≡◌, ◌∙◌, refl, sym, subst, ℕ, ◌≤◌, List, length, Option, Some, None, IfSome, Result, Ok, Err, OnOk, OnErr, MatchResult, inl, inr, arith}
+use Rattle.std.proofs.lemmas.Option.{none-some}
+use Rattle.ice_edge.specs.Edge.{Rose, Appends, AppendsFront}
+use Rattle.ice_edge.specs.Told.{Told, IsLater}
+use Rattle.ice_edge.specs.declared.status.Status.{Status}
+use Rattle.ice_edge.specs.declared.status.Status.TheVariants.{WriteFault}
+use Rattle.ice_commands.specs.Call.{Call, OfTold, OfFile}
+use Rattle.ice_commands.specs.Parts.{HasPart, IsSaid}
+
+-- ---- what is told
+
+pub later_refl : (shelf : Told) → IsLater shelf shelf
+later_refl shelf = record { holds = λ name. refl; faults = λ name. omega arith; overlong = λ name limit. omega arith }
+
+pub later_trans : (before mid after : Told) → IsLater before mid → IsLater mid after → IsLater before after
+later_trans before mid after a b = record {
+  holds = λ name. b.holds name ∙ a.holds name;
+  faults = λ name. omega (arith, a.faults name, b.faults name);
+  overlong = λ name limit. omega (arith, a.overlong name limit, b.overlong name limit);
+}
+
+pub earlier_part : (call : Call) (before mid after : Told) → HasPart call before after → IsLater mid after → HasPart call before mid
+earlier_part call before mid after part later = record { begins = part.begins; ends = later_trans mid after call.after later part.ends }
+
+pub later_part : (call : Call) (before mid after : Told) → HasPart call before after → IsLater before mid → HasPart call mid after
+later_part call before mid after part later = record { begins = later_trans call.before before mid part.begins later; ends = part.ends }
+
+-- what holds of the bytes that are told as a part begins holds of those told as the call does
+pub told_in_call : (call : Call) (before after : Told) (name : List ℕ) (limit : ℕ) (P : List ℕ → Type 0) → HasPart call before after
+    → OfTold limit P (before.holds name) → OfFile call name limit P
+told_in_call call before after name limit P part h = subst (OfTold limit P) (part.begins.holds name) h
+
+pub told_before : (before after : Told) (name : List ℕ) (limit : ℕ) (P : List ℕ → Type 0) → IsLater before after
+    → OfTold limit P (after.holds name) → OfTold limit P (before.holds name)
+told_before before after name limit P later h = subst (OfTold limit P) (later.holds name) h
+
+-- what holds of bytes holds of what is told of them
+pub of_fetched : (told : Option (Option (List ℕ))) (limit : ℕ) (bytes : List ℕ) (P : List ℕ → Type 0) → P bytes → OfTold limit (λ other. other ≡ bytes) told → OfTold limit P told
+of_fetched None limit bytes P h same = tt
+of_fetched (Some None) limit bytes P h same = same
+of_fetched (Some (Some other)) limit bytes P h same = (same.0, subst P (sym same.1) h)
+
+-- the bytes that a fetch gives are those that are told
+pub fetched : (told : Option (Option (List ℕ))) (limit : ℕ) (bytes : List ℕ) → IfSome told (λ file. file ≡ Some bytes) → length bytes ≤ limit → OfTold limit (λ other. other ≡ bytes) told
+fetched None limit bytes is fits = tt
+fetched (Some None) limit bytes is fits = none-some bytes is
+fetched (Some (Some other)) limit bytes is fits =
+    let e : other ≡ bytes = cc in
+    let P : List ℕ → Type 0 = λ b. length b ≤ limit in
+    (subst P (sym e) fits, e)
+
+-- ---- what is said
+
+-- a text that is put, and the status that the put's result gives
+pub said : {F : Type 0} (put : Result (Unit {0}) F) (text : List ℕ) (status result : Status) (old new : Option (List ℕ)) (faults faults_after : ℕ)
+    → OnOk put (Appends old text new) → OnErr put (AppendsFront old text new) → OnErr put (Rose faults faults_after)
+    → MatchResult put (λ done. result ≡ status) (λ fault. result ≡ WriteFault) → IsSaid text status old new faults faults_after result
+said (Ok x) text status result old new faults faults_after ok err failed ended = inl (ended, ok)
+said (Err e) text status result old new faults faults_after ok err failed ended = inr (ended, failed, err)

@@ -1,0 +1,30 @@
+-- Parts of a call, and what a command makes of them: the form of every command's clause.
+use Rattle.std.specs.Prelude.{◌≡◌, ◌⊎◌, ℕ, List, Option}
+use Rattle.ice_edge.specs.declared.status.Status.{Status}
+use Rattle.ice_edge.specs.declared.status.Status.TheVariants.{WriteFault}
+use Rattle.ice_edge.specs.Edge.{Rose, Appends, AppendsFront}
+use Rattle.ice_edge.specs.Told.{Told, IsLater}
+use Rattle.ice_commands.specs.Call.{Call, OfTold}
+
+-- the call began before this part of it, and ends after it
+pub record HasPart (call : Call) (before after : Told) : Type 0 where
+  pub begins : IsLater call.before before
+  pub ends : IsLater after call.after
+
+-- these are bytes within the limit, and those under the name where it is told what lies there
+abbrev pub AreFetched : Told → List ℕ → ℕ → List ℕ → Type 0
+AreFetched shelf name limit bytes = OfTold limit (λ told. told ≡ bytes) (shelf.holds name)
+
+-- this text with this status answers every call that has this part
+abbrev pub Answers : (Call → Status → Type 0) → Told → Told → List ℕ → Status → Type 0
+Answers IsAnswer before after text status = (call : Call) → HasPart call before after → call.text ≡ text → IsAnswer call status
+
+-- what was written, and how it ended: the whole text with its status, or a front of it where the sink's count of faults rose
+abbrev pub IsSaid : List ℕ → Status → Option (List ℕ) → Option (List ℕ) → ℕ → ℕ → Status → Type 0
+IsSaid text status old new faults faults_after result =
+    ((result ≡ status) × Appends old text new) ⊎ ((result ≡ WriteFault) × Rose faults faults_after × AppendsFront old text new)
+
+-- a command has an answer, and says it
+abbrev pub Serves : (Call → Status → Type 0) → Told → Told → Option (List ℕ) → Option (List ℕ) → ℕ → ℕ → Status → Type 0
+Serves IsAnswer before after old new faults faults_after result =
+    (text : List ℕ) × (status : Status) × Answers IsAnswer before after text status × IsSaid text status old new faults faults_after result

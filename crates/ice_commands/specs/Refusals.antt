@@ -1,0 +1,54 @@
+-- Why a command has no answer: the line that is written, the status, and the cause.
+use Rattle.std.specs.Prelude.{◌≡◌, ℕ, List, [], codes}
+use Rattle.ice_edge.specs.declared.status.Status.{Status}
+use Rattle.ice_edge.specs.declared.status.Status.TheVariants as status
+use Rattle.ice_edge.specs.Told.{Told}
+use Rattle.ice_defs.specs.FileFault.{FileFault, at_line}
+use Rattle.ice_read.specs.Places.{shown}
+use Rattle.ice_commands.specs.declared.refusal.FileFault as declared
+use Rattle.ice_commands.specs.declared.refusal.FileFault.TheVariants.{AtLine, AtPlace, OtherKind, NoSettlement, TooLong}
+use Rattle.ice_commands.specs.declared.refusal.Refusal.{Refusal}
+use Rattle.ice_commands.specs.declared.refusal.Refusal.TheVariants.{File, Unread, NoMemory}
+use Rattle.ice_commands.specs.Call.{Call, FaultRose, IsRefused}
+use Rattle.ice_commands.specs.CheckServed.{other_kind}
+use Rattle.ice_commands.specs.ReplayServed.{no_settlement}
+use Rattle.ice_commands.specs.Output.{refused_line, unread_line}
+use Rattle.ice_commands.specs.Parts.{HasPart}
+
+-- the number and the place of a file's fault
+abbrev pub fault_of : declared.FileFault → FileFault
+fault_of (AtLine number line) = at_line number line
+fault_of (AtPlace number place) = record { number = number; place = shown place }
+fault_of OtherKind = other_kind
+fault_of NoSettlement = no_settlement
+fault_of TooLong = record { number = 61; place = codes "-" }
+
+abbrev pub refusal_text : Refusal → List ℕ
+refusal_text (File file fault) = refused_line file (fault_of fault)
+refusal_text (Unread file) = unread_line file
+refusal_text NoMemory = []
+
+abbrev pub refusal_status : Refusal → Status
+refusal_status (File file fault) = status.Input
+refusal_status (Unread file) = status.ReadFault
+refusal_status NoMemory = status.NoMemory
+
+-- the file with this number and name is refused in the call, or it can't be read, or there is no memory
+abbrev pub IsRefusal : Call → ℕ → List ℕ → ℕ → (List ℕ → FileFault → Type 0) → Refusal → Type 0
+IsRefusal call number name limit HasFault (File file fault) = (file ≡ number) × IsRefused call name limit HasFault (fault_of fault)
+IsRefusal call number name limit HasFault (Unread file) = (file ≡ number) × FaultRose call name
+IsRefusal call number name limit HasFault NoMemory = Unit {0}
+
+-- and so it is in every call that has this part
+abbrev pub Refuses : ℕ → List ℕ → ℕ → (List ℕ → FileFault → Type 0) → Told → Told → Refusal → Type 0
+Refuses number name limit HasFault before after refusal = (call : Call) → HasPart call before after → IsRefusal call number name limit HasFault refusal
+
+-- bytes that have no fault
+abbrev pub NoFault : List ℕ → FileFault → Type 0
+NoFault bytes fault = ⊥
+
+-- the bytes of the file with this number have such a fault, or there is no memory
+abbrev pub IsFaultOf : ℕ → (FileFault → Type 0) → Refusal → Type 0
+IsFaultOf number IsFault (File file fault) = (file ≡ number) × IsFault (fault_of fault)
+IsFaultOf number IsFault (Unread file) = ⊥
+IsFaultOf number IsFault NoMemory = Unit {0}

@@ -1,0 +1,28 @@
+//! `regret`: the regret of the best assignment at lower values, as a journal.
+ghost use Rattle.ice_commands.specs.Keeping.{KeepsTold};
+ghost use Rattle.ice_commands.specs.Parts.{Serves};
+ghost use Rattle.ice_commands.specs.RegretServed.{RegretAnswers};
+
+use crate::files::read_exchange;
+use crate::regret_journal::write_regret;
+use ice_edge::{Shelf, Sink, Status};
+use std::alloc::Global;
+
+/// Writes a journal of kind regret: the exchange of this name, the best assignment at lower values,
+/// and its regret.
+pub fn regret<H: Shelf, K: Sink>(
+    alloc: Global,
+    exchange: &str,
+    shelf: &mut H,
+    out: &mut K,
+) -> Status
+    ensures served { Serves (λ call. RegretAnswers call exchange.now)
+        (H.told shelf.old) (H.told shelf.new)
+        (K.written out.old) (K.written out.new) (K.faults out.old) (K.faults out.new) result }
+    ensures kept { KeepsTold (H.told shelf.old) (H.told shelf.new) result }
+{
+    match read_exchange(alloc, 1, exchange, shelf) {
+        Ok(exchange) => write_regret(alloc, &exchange, out),
+        Err(refusal) => refusal.say(out),
+    }
+}

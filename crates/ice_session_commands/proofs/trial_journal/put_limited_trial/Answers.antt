@@ -1,0 +1,18 @@
+use Rattle.std.proofs.Common.{◌++◌}
+use Rattle.std.proofs.lemmas.Result.{err_from_is_err_and}
+use Rattle.ice_write_session.specs.Records.{halt_records, limit_records}
+use Rattle.ice_write_session.proofs.Puts.{fails_first, put_last, put_failed}
+use Rattle.ice_session_laws.specs.Written.{begun_records}
+use Rattle.ice_session_commands.proofs.trial_journal.put_limited_trial.Goals as goal
+
+pub returns-in_err-put_begin : goal.returns-in_err-put_begin
+returns-in_err-put_begin g c =
+    let begun = begun_records c.args.halt.now.exchange in
+    let stop = halt_records c.args.halt.now ++ limit_records c.args.limit.now in
+    let p = err_from_is_err_and c.from_residual.result c.from_residual.ensures.1 in
+    put_failed (begun ++ stop) c.from_residual.result p.0 p.1 (fails_first begun stop c.in_err-put_begin.ensures)
+
+pub returns : goal.returns
+returns g c =
+    put_last (begun_records c.args.halt.now.exchange) (halt_records c.args.halt.now ++ limit_records c.args.limit.now) c.put_limited.result (g.K.Sink.written c.put_limited.new.out)
+    (g.K.Sink.faults c.put_limited.new.out) c.in_ok-put_begin.ensures c.put_limited.ensures
