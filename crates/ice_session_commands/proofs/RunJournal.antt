@@ -117,9 +117,9 @@ module _ (call : Call) (name : List ℕ) (files : List (List ℕ)) where
           few = told_also (call.before.holds name) file_limit (λ bytes. IsExchangeOf bytes (Ok s.exchange)) _ (λ bytes exchange. (s.exchange, exchange, fewer)) told;
         }
 
-    limit_answers : (final : Found) (amount : Regret) (offered : Found) (limit : PriceLimit) → HasRun call files going s → IsLimitedJournal (run_records s.exchange going ++ sought_records s final amount offered ++ limit_records limit)
+    limit_answers : (final : Found) (amount : Regret) (offered : Found) (limit : PriceLimit) → HasRun call files going s → 0 < s.exchange.settings.rounds → IsLimitedJournal (run_records s.exchange going ++ sought_records s final amount offered ++ limit_records limit)
         → call.text ≡ bytes_of (run_records s.exchange going ++ sought_records s final amount offered ++ limit_records limit) → RunAnswers call name files Limit
-    limit_answers final amount offered limit has is text =
+    limit_answers final amount offered limit has rounds is text =
         let sought : List Record = sought_records s final amount offered in
         let position : List Record = position_records version_2 (length (exact_of s.exchange)) s.number (before_provisional (settlement_of final amount)) in
         let grouped = append_assoc (run_records s.exchange going) sought (limit_records limit) in
@@ -134,6 +134,7 @@ module _ (call : Call) (name : List ℕ) (files : List (List ℕ)) where
               (limit_other limit))
               (subst (IsSoFar session_kind) grouped is.so_far));
           limited = is.limited;
+          allows_rounds = told_also (call.before.holds name) file_limit (λ bytes. IsExchangeOf bytes (Ok s.exchange)) _ (λ bytes exchange. (s.exchange, exchange, rounds)) told;
         }
 
   -- ---- a round
@@ -221,7 +222,7 @@ run_answers call name files _ _ _ told (between going s has) text = between_answ
 run_answers call name files _ _ _ told (in_round going s last r round are begins) text = in_round_answers call name files s going last r told round are begins text
 run_answers call name files _ _ _ told (closes going s c has is records) text = close_answers call name files s going told c has is records text
 run_answers call name files _ _ _ told (spends going s at spent has fewer is) text = spent_answers call name files s going told at spent has fewer is text
-run_answers call name files _ _ _ told (limits going s final amount offered limit has is) text = limit_answers call name files s going told final amount offered limit has is text
+run_answers call name files _ _ _ told (limits going s final amount offered limit has rounds is) text = limit_answers call name files s going told final amount offered limit has rounds is text
 run_answers call name files _ _ _ told (stays_open going s last r opened all) text = stays_answers call name files s going last r told opened all text
 run_answers call name files _ _ _ told (refuses going s last r file fault opened there refused) text = refuse_answers call name files s going last r told opened file fault there refused text
 run_answers call name files _ _ _ told (fails_to_read going s last r file opened there rose) text = unread_answers call name files s going last r told opened file there rose text

@@ -1,5 +1,5 @@
 -- The steps of a run: each is put behind what was put before.
-use Rattle.std.proofs.Common.{◌≡◌, ◌∙◌, ◌+◌, ℕ, List, [], ◌∷◌, ◌++◌, length, drop, refl, sym, ap, subst, arith, append_assoc, Option, Some, Result, Ok, Err, length-append}
+use Rattle.std.proofs.Common.{◌≡◌, ◌∙◌, ◌+◌, ◌<◌, ◌≤◌, ℕ, List, [], ◌∷◌, ◌++◌, length, drop, refl, sym, ap, subst, arith, append_assoc, Option, Some, Result, Ok, Err, length-append}
 use Rattle.std.specs.Prelude.{slice_get}
 use Rattle.std.specs.List.{AllByRecursion, flat_map}
 use Rattle.std.proofs.lemmas.List.{append-nil}
@@ -31,7 +31,8 @@ use Rattle.ice_vickrey.specs.declared.marginal.Marginal.{Marginal}
 use Rattle.ice_round.specs.SessionAt.{SessionAt, RoundAt, session_after}
 use Rattle.ice_settled.specs.Shown.{going_of}
 use Rattle.ice_round.specs.Shown.{IsClosing, IsOpening}
-use Rattle.ice_round.specs.Ends.{IsHaltOf, IsSpentAt, IsLimitAt}
+use Rattle.ice_round.specs.Ends.{IsHaltOf, IsSpentAt, IsLimitAt, at_pricing}
+use Rattle.ice_round.proofs.GoingOn.{more_rounds}
 use Rattle.ice_settled.specs.declared.settled.Closing.{Closing}
 use Rattle.ice_settled.specs.declared.settled.Opening.{Opening}
 use Rattle.ice_settled.specs.declared.settled.Halt.{Halt}
@@ -177,6 +178,10 @@ module _ (s : SessionAt) where
   pub halt_at_prices : (h : Halt) → IsHaltOf s h → (sought : PricesSought h.best h.regret h.provisional h.marginals.items) → halt_records h ≡ sought_records s sought.final sought.amount sought.offered
   halt_at_prices h is sought = halt_is h is ∙ prices_at h.best h.regret h.provisional h.marginals.items sought
 
+  -- such a settlement doesn't close, so a round was to follow
+  rounds_left : (best : Option Found) (regret : Option Regret) (provisional : Option Found) (ms : List Marginal) (limit : PriceLimit) → s.number ≤ s.exchange.settings.rounds → IsLimitAt s best regret provisional ms limit → 0 < s.exchange.settings.rounds
+  rounds_left _ _ _ _ _ few (at_pricing {regret = regret} left goes_on settlement found count ends) = omega (arith, more_rounds s.exchange.settings s.number regret.amount goes_on few)
+
   pub ends_limited : (h : Halt) (limit : PriceLimit) (old new : Option (List ℕ)) (f g : ℕ) (result : Status) → IsHaltOf s h → IsLimitAt s h.best h.regret h.provisional h.marginals.items limit
       → IsSaid (bytes_of (halt_records h ++ limit_records limit)) Limit old new f g result → EndsHere s old new f g result
   ends_limited h limit old new f g result halt is said going files before after run played =
@@ -188,7 +193,7 @@ module _ (s : SessionAt) where
       let ended = writes (subst (AllByRecursion IsRecord) same (halt_are_records h may.0)) (limit_are_records limit may.1) in
       said_piece (run_records s.exchange going) (RunsTo s.exchange files before after) (behind ++ limit_records limit) Limit result old new f g
       (λ call part. subst (λ (rs : List Record). IsRunJournal call files s.exchange rs Limit) (append_assoc (run_records s.exchange going) behind (limit_records limit))
-      (limits going s sought.final sought.amount sought.offered limit (has_run going files before after run played call part) ended)) whole
+      (limits going s sought.final sought.amount sought.offered limit (has_run going files before after run played call part) (rounds_left h.best h.regret h.provisional h.marginals.items limit run.few is) ended)) whole
 
   -- ---- or opens a round
 

@@ -1,12 +1,14 @@
 -- The rounds of a journal, and the round files that they come from.
-use Rattle.std.specs.Prelude.{ℕ, ◌≡◌, ◌≢◌, List, [], ◌∷◌, map, Ok}
+use Rattle.std.specs.Prelude.{ℕ, ◌<◌, ◌≡◌, ◌≢◌, List, [], ◌∷◌, map, Ok}
 use Rattle.ice_defs.specs.Round.{Submission}
+use Rattle.ice_defs.specs.Exchange.{Exchange}
 use Rattle.ice_defs.specs.Session.{Going}
 use Rattle.ice_journal.specs.Records.{Record, Kind}
 use Rattle.ice_journal.specs.Records as line
 use Rattle.ice_journal_laws.specs.SoFar.{IsSoFar}
 use Rattle.ice_read.specs.RoundFile.{bids_of}
 use Rattle.ice_commands.specs.Call.{Call, file_limit, OfFile, IsPrefix}
+use Rattle.ice_commands.specs.Files.{IsExchangeOf}
 use Rattle.ice_commands.specs.Journals.{HasExchangeOf}
 
 abbrev pub submissions_before_next : List Record → List Submission
@@ -51,3 +53,7 @@ pub record IsRunSoFar (call : Call) (exchange : List ℕ) (rounds : List (List �
   pub so_far : IsSoFar kind journal
   pub exchange_is : HasExchangeOf call exchange kind journal
   pub rounds_are : HasRoundsOf call rounds (rounds_in journal)
+
+-- the settings of the file's exchange allow a round
+abbrev pub HasRounds : Call → List ℕ → Type 0
+HasRounds call name = OfFile call name file_limit (λ bytes. (ex : Exchange) × IsExchangeOf bytes (Ok ex) × (0 < ex.settings.rounds))

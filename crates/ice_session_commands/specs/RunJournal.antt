@@ -50,7 +50,7 @@ module _ (call : Call) (files : List (List ℕ)) where
     spends : (going : List Going) (s : SessionAt) (at : Position) (spent : results.Spent) → HasRun going s → s.exchange.settings.branches < enough_for_session s.exchange
         → IsSpentJournal (run_records s.exchange going ++ position_records version_2 (length (exact_of s.exchange)) s.number at ++ spent_records s.exchange spent)
         → IsRunJournal s.exchange (run_records s.exchange going ++ position_records version_2 (length (exact_of s.exchange)) s.number at ++ spent_records s.exchange spent) Spent
-    limits : (going : List Going) (s : SessionAt) (final : Found) (amount : Regret) (offered : Found) (limit : PriceLimit) → HasRun going s
+    limits : (going : List Going) (s : SessionAt) (final : Found) (amount : Regret) (offered : Found) (limit : PriceLimit) → HasRun going s → 0 < s.exchange.settings.rounds
         → IsLimitedJournal (run_records s.exchange going ++ sought_records s final amount offered ++ limit_records limit)
         → IsRunJournal s.exchange (run_records s.exchange going ++ sought_records s final amount offered ++ limit_records limit) Limit
     stays_open : (going : List Going) (s : SessionAt) (last : Going) (r : RoundAt) → HasOpened going s last r → length going ≡ length files

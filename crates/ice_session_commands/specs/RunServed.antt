@@ -20,7 +20,7 @@ use Rattle.ice_commands.specs.Call.{Call, FaultRose, file_limit, OfFile, IsRefus
 use Rattle.ice_commands.specs.Files.{IsExchangeOf, IsExchangeFault, IsRoundFault}
 use Rattle.ice_commands.specs.Output.{refused_line, unread_line}
 use Rattle.ice_commands.specs.Journals.{HasFewerThan}
-use Rattle.ice_session_commands.specs.Rounds.{IsRunSoFar, AreRoundsOf, rounds_in}
+use Rattle.ice_session_commands.specs.Rounds.{IsRunSoFar, AreRoundsOf, HasRounds, rounds_in}
 
 -- the headline of a run: what it wrote is a closed journal of the exchange of the first file and of all bids of the round files, and it is right
 pub record RunCloses (call : Call) (exchange : List ℕ) (rounds : List (List ℕ)) : Type 0 where
@@ -74,12 +74,13 @@ pub record RunSpends (call : Call) (exchange : List ℕ) (rounds : List (List �
   pub spent : IsSpent session_kind journal
   pub few : HasFewerThan call exchange enough_for_session
 
--- a pricing ended at a limit
+-- a pricing ended at a limit, of a settlement that a round was to follow
 pub record RunIsLimited (call : Call) (exchange : List ℕ) (rounds : List (List ℕ)) : Type 0 where
   pub journal : List Record
   pub written : IsJournal call.text journal
   pub so_far : IsRunSoFar call exchange rounds session_kind journal
   pub limited : IsLimited journal
+  pub allows_rounds : HasRounds call exchange
 
 abbrev pub RunAnswers : Call → List ℕ → List (List ℕ) → Status → Type 0
 RunAnswers call exchange rounds Done = RunCloses call exchange rounds
