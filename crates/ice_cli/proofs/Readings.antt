@@ -8,6 +8,7 @@ use Rattle.ice_read.specs.RoundFile.{bids_of}
 use Rattle.ice_commands.specs.Call.{Call, IsTold, file_limit, OfTold, OfFile, IsRefused, too_long, at_fault}
 use Rattle.ice_commands.specs.Files.{is_line_form, IsExchangeIn, IsExchangeOf, IsExchangeFault, IsRoundFault}
 use Rattle.ice_commands.specs.Journals.{HasFewerThan}
+use Rattle.ice_session_commands.specs.Rounds.{HasRounds}
 use Rattle.ice_cli.specs.Completeness.{IsFaultless, IsValidExchange, IsValidRound}
 
 -- what holds of a told file's bytes
@@ -51,3 +52,9 @@ has_enough call name ex enough (bytes, told, short, is) le few =
     let same : other ≡ ex = found_once ex other (one_exchange bytes (Ok ex) (Ok other) is reads) in
     let less : ex.settings.branches < enough ex = subst (λ (x : Exchange). x.settings.branches < enough x) same fewer in
     omega (arith, le, less)
+
+-- what is told of its rounds is said of that exchange
+pub has_rounds : (call : Call) (name : List ℕ) (ex : Exchange) → IsValidExchange call name ex → HasRounds call name → 0 < ex.settings.rounds
+has_rounds call name ex (bytes, told, short, is) rounds =
+    let (other, reads, more) = of_told call name bytes file_limit (λ b. (x : Exchange) × IsExchangeOf b (Ok x) × (0 < x.settings.rounds)) told rounds in
+    subst (λ (x : Exchange). 0 < x.settings.rounds) (found_once ex other (one_exchange bytes (Ok ex) (Ok other) is reads)) more

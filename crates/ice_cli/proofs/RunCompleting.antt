@@ -1,5 +1,5 @@
 -- `run` with valid files, no fault of the outside, and branches enough.
-use Rattle.std.proofs.Common.{◌≡◌, ◌∙◌, ◌+◌, ◌*◌, ◌⊎◌, inl, inr, ◌≤◌, ℕ, zero, suc, List, [], ◌∷◌, get_or, drop, Some, refl, sym, ap, subst, arith}
+use Rattle.std.proofs.Common.{◌≡◌, ◌∙◌, ◌+◌, ◌*◌, ◌⊎◌, inl, inr, ◌<◌, ◌≤◌, ℕ, zero, suc, List, [], ◌∷◌, get_or, drop, Some, refl, sym, ap, subst, arith}
 use Rattle.std.specs.Prelude.{slice_get}
 use Rattle.std.specs.List.{AllByRecursion}
 use Rattle.std.proofs.lemmas.Option.{none-some}
@@ -13,7 +13,7 @@ use Rattle.ice_session_commands.specs.RunServed.{RunAnswers, RunRefused, RunUnre
 use Rattle.ice_session_commands.specs.RunServed as served
 use Rattle.ice_cli.specs.Served.{IsServed, no_command, answers, cut_short}
 use Rattle.ice_cli.specs.Completeness.{IsFaultless, IsValidExchange, IsValidRound, RunCompletes}
-use Rattle.ice_cli.proofs.Readings.{exchange_stands, round_stands, has_enough}
+use Rattle.ice_cli.proofs.Readings.{exchange_stands, round_stands, has_enough, has_rounds}
 
 -- the first letter of the first word and its third
 abbrev letters : List (List ℕ) → ℕ
@@ -50,10 +50,10 @@ module _ (call : Call) (exchange : List ℕ) (rounds : List (List ℕ)) (ex : Ex
   never_unread (served.at_start rose text) = faultless.reads exchange rose
   never_unread (served.in_round before number file count there rose so_far text) = faultless.reads file rose
 
-  ends : (status : Status) → enough_for_session ex ≤ ex.settings.branches → RunAnswers call exchange rounds status → (status ≡ Done) ⊎ (status ≡ StillOpen) ⊎ (status ≡ Limit) ⊎ (status ≡ NoMemory)
+  ends : (status : Status) → enough_for_session ex ≤ ex.settings.branches → RunAnswers call exchange rounds status → (status ≡ Done) ⊎ (status ≡ StillOpen) ⊎ ((status ≡ Limit) × (0 < ex.settings.rounds)) ⊎ (status ≡ NoMemory)
   ends Done enough answer = inl refl
   ends StillOpen enough answer = inr (inl refl)
-  ends Limit enough answer = inr (inr (inl refl))
+  ends Limit enough answer = inr (inr (inl (refl, has_rounds call exchange ex valid answer.allows_rounds)))
   ends NoMemory enough answer = inr (inr (inr refl))
   ends Input enough answer = absurd (never_refused answer)
   ends Spent enough answer = absurd (has_enough call exchange ex enough_for_session valid enough answer.few)

@@ -1,5 +1,5 @@
 -- With files that are told, no fault of the outside, and branches enough, a call ends as it is meant to.
-use Rattle.std.specs.Prelude.{ℕ, ◌≤◌, ◌≡◌, ◌≢◌, ◌⊎◌, List, length, Ok}
+use Rattle.std.specs.Prelude.{ℕ, ◌<◌, ◌≤◌, ◌≡◌, ◌≢◌, ◌⊎◌, List, length, Ok}
 use Rattle.std.specs.List.{AllByRecursion}
 use Rattle.ice_edge.specs.declared.status.Status.TheVariants.{Done, Input, No, Limit, NoMemory, StillOpen}
 use Rattle.ice_defs.specs.Exchange.{Exchange}
@@ -53,8 +53,8 @@ RegretCompletes =
     (call : Call) (exchange : List ℕ) (ex : Exchange) → IsServed call → IsCommand call.words (regret exchange) → IsFaultless call → IsValidExchange call exchange ex
     → enough_for_regret ex ≤ ex.settings.branches → (call.status ≡ Done) ⊎ (call.status ≡ NoMemory)
 
--- with branches enough for all searches, a session closes, stays open, or ends at a limit of its pricing
+-- with branches enough for all searches, a session closes, stays open, or ends at a limit of its pricing, the last only where the settings allow a round
 abbrev pub RunCompletes : Type 0
 RunCompletes =
     (call : Call) (exchange : List ℕ) (rounds : List (List ℕ)) (ex : Exchange) → IsServed call → IsCommand call.words (run exchange rounds) → IsFaultless call → IsValidExchange call exchange ex → AllByRecursion (IsValidRound call) rounds
-    → enough_for_session ex ≤ ex.settings.branches → (call.status ≡ Done) ⊎ (call.status ≡ StillOpen) ⊎ (call.status ≡ Limit) ⊎ (call.status ≡ NoMemory)
+    → enough_for_session ex ≤ ex.settings.branches → (call.status ≡ Done) ⊎ (call.status ≡ StillOpen) ⊎ ((call.status ≡ Limit) × (0 < ex.settings.rounds)) ⊎ (call.status ≡ NoMemory)

@@ -23,7 +23,8 @@ pub fn regret_completes()
 
 /// With files that are told, valid and within the limit, no fault of the outside, and branches
 /// enough for every search that a session may have, `run` ends with a session that is closed or
-/// stays open, at a limit of its pricing, or for want of memory.
+/// stays open, at a limit of its pricing, or for want of memory. Where the settings allow no round,
+/// it doesn't end at a limit.
 pub fn run_completes()
     ensures { RunCompletes }
 {}
