@@ -20,5 +20,9 @@ pub mod RegretJournal
 pub mod Regretting
 -- what `xor` answers
 pub mod Translating
+-- why nothing is written of a journal
+pub mod Unwriting
 -- what `migrate` answers
 pub mod Migrating
+-- what `statement` answers
+pub mod Stating

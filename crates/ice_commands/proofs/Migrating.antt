@@ -1,10 +1,9 @@
 -- From a journal that is judged, or why it is not written, to what `migrate` answers.
-use Rattle.std.proofs.Common.{◌≡◌, ◌∙◌, ap, subst, ℕ, List, Option, Result, Ok, Err, MatchResult, inl, inr}
+use Rattle.std.proofs.Common.{◌≡◌, ◌∙◌, ap, subst, ℕ, List, Option, Result, Err, MatchResult}
 use Rattle.ice_edge.specs.declared.sink.SinkFault.{SinkFault}
 use Rattle.ice_edge.specs.declared.status.Status.{Status}
 use Rattle.ice_edge.specs.declared.status.Status.TheVariants.{Done, No, WriteFault}
 use Rattle.ice_edge.specs.Told.{Told}
-use Rattle.ice_edge.specs.Puts.{IsPut}
 use Rattle.ice_journal.specs.Journal.{bytes_of}
 use Rattle.ice_journal.specs.Plain.{packed}
 use Rattle.ice_journal_laws.specs.Checks.{Failure}
@@ -12,33 +11,26 @@ use Rattle.ice_journal_laws.specs.Answers.{OfJournal}
 use Rattle.ice_migrate.specs.Migrating.{Judges}
 use Rattle.ice_migrate.specs.Packing.{PutsPacked}
 use Rattle.ice_migrate.specs.declared.judging.Unfit.{Unfit}
-use Rattle.ice_commands.specs.declared.migrate.Unwritten.{Unwritten}
-use Rattle.ice_commands.specs.declared.migrate.Unwritten.TheVariants.{Fails, Refused}
+use Rattle.ice_commands.specs.declared.unwritten.Unwritten.{Unwritten}
+use Rattle.ice_commands.specs.declared.unwritten.Unwritten.TheVariants.{Fails, Refused}
 use Rattle.ice_commands.specs.declared.refusal.Refusal.{Refusal}
 use Rattle.ice_commands.specs.declared.refusal.Refusal.TheVariants.{File, Unread, NoMemory}
 use Rattle.ice_commands.specs.Call.{journal_limit}
 use Rattle.ice_commands.specs.MigrateServed.{IsUnfitFault, IsMigrateFault, MigrateAnswers}
-use Rattle.ice_commands.specs.MigrateParts.{TellsUnfit, AreFailing, IsUnwrittenOf, IsUnwritten}
+use Rattle.ice_commands.specs.MigrateParts.{TellsUnfit, AreFailing}
 use Rattle.ice_commands.specs.Output.{no_line, refused_line, unread_line}
-use Rattle.ice_commands.specs.Parts.{AreFetched, Answers, IsSaid, Serves}
+use Rattle.ice_commands.specs.Parts.{AreFetched, Answers, Serves}
 use Rattle.ice_commands.specs.Refusals.{fault_of, refusal_text, refusal_status, Refuses}
+use Rattle.ice_commands.specs.Unwritten.{IsUnwrittenOf}
 use Rattle.ice_commands.proofs.Parts.{told_in_call}
-use Rattle.ice_commands.proofs.Refusing.{fault_of_fetched, fault_anyway}
-
-said_put : (put : Result (Unit {0}) SinkFault) (text : List ℕ) (result : Status) (old new : Option (List ℕ)) (f g : ℕ) → IsPut text put old new f g
-    → MatchResult put (λ done. result ≡ Done) (λ fault. result ≡ WriteFault) → IsSaid text Done old new f g result
-said_put (Ok done) text result old new f g takes ended = inl (ended, takes.appends)
-said_put (Err fault) text result old new f g fails ended = inr (ended, fails.rose, fails.front)
+use Rattle.ice_commands.proofs.Refusing.{fault_anyway}
+use Rattle.ice_commands.proofs.Writing.{put_said}
 
 -- ---- why it is not written
 
-pub unwritten_is : (bytes : List ℕ) (end : Unfit) (unwritten : Unwritten) → Judges bytes (Err end) → TellsUnfit end unwritten → IsUnwrittenOf bytes unwritten
+pub unwritten_is : (bytes : List ℕ) (end : Unfit) (unwritten : Unwritten) → Judges bytes (Err end) → TellsUnfit end unwritten → IsUnwrittenOf AreFailing IsMigrateFault bytes unwritten
 unwritten_is bytes end (Fails line rule) judged is = subst (λ (e : Unfit). Judges bytes (Err e)) is judged
 unwritten_is bytes end (Refused refusal) judged is = fault_anyway 1 (IsUnfitFault end) (IsMigrateFault bytes) refusal (λ fault f. (end, judged, f)) is
-
-pub unwritten_file : (before after : Told) (name bytes : List ℕ) (unwritten : Unwritten) → AreFetched before name journal_limit bytes → IsUnwrittenOf bytes unwritten → IsUnwritten name before after unwritten
-unwritten_file before after name bytes (Fails line rule) told fails = (bytes, fails, told)
-unwritten_file before after name bytes (Refused refusal) told fault = fault_of_fetched before after 1 name journal_limit bytes IsMigrateFault refusal told fault
 
 -- ---- what is answered
 
@@ -50,7 +42,7 @@ journal_serves before after file bytes put result old new f g told (journal, is,
   bytes_of (packed journal),
   Done,
   λ call part text. (bytes, (journal, is, (puts.migrated, text)), told_in_call call before after file journal_limit (λ other. other ≡ bytes) part told),
-  said_put put (bytes_of (packed journal)) result old new f g puts.is_put ended,
+  put_said put (bytes_of (packed journal)) Done result old new f g puts.is_put ended,
 )
 
 -- it fails a test

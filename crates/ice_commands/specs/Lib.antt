@@ -15,5 +15,8 @@ pub mod RegretJournal
 pub mod XorServed
 pub mod XorParts
 pub mod Replaying
+pub mod Unwritten
 pub mod MigrateServed
 pub mod MigrateParts
+pub mod StatementServed
+pub mod StatementParts

@@ -6,12 +6,13 @@ use Rattle.ice_edge.specs.Told.{Told}
 use Rattle.ice_defs.specs.FileFault.{FileFault, at_line}
 use Rattle.ice_read.specs.Places.{shown}
 use Rattle.ice_commands.specs.declared.refusal.FileFault as declared
-use Rattle.ice_commands.specs.declared.refusal.FileFault.TheVariants.{AtLine, AtPlace, OtherKind, NoSettlement, TooLong}
+use Rattle.ice_commands.specs.declared.refusal.FileFault.TheVariants.{AtLine, AtPlace, OtherKind, NoSettlement, NoBidder, TooLong}
 use Rattle.ice_commands.specs.declared.refusal.Refusal.{Refusal}
 use Rattle.ice_commands.specs.declared.refusal.Refusal.TheVariants.{File, Unread, NoMemory}
 use Rattle.ice_commands.specs.Call.{Call, FaultRose, IsRefused}
 use Rattle.ice_commands.specs.CheckServed.{other_kind}
 use Rattle.ice_commands.specs.ReplayServed.{no_settlement}
+use Rattle.ice_commands.specs.StatementServed.{no_bidder}
 use Rattle.ice_commands.specs.Output.{refused_line, unread_line}
 use Rattle.ice_commands.specs.Parts.{HasPart}
 
@@ -21,6 +22,7 @@ fault_of (AtLine number line) = at_line number line
 fault_of (AtPlace number place) = record { number = number; place = shown place }
 fault_of OtherKind = other_kind
 fault_of NoSettlement = no_settlement
+fault_of NoBidder = no_bidder
 fault_of TooLong = record { number = 61; place = codes "-" }
 
 abbrev pub refusal_text : Refusal → List ℕ

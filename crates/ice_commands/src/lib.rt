@@ -14,6 +14,8 @@ pub mod regret;
 mod regret_journal;
 pub mod replay;
 mod say;
+pub mod statement;
+mod unwritten;
 pub mod xor;
 
 pub use files::{FILE_LIMIT, fetch, place_refusal, read_exchange, read_prices, read_round};

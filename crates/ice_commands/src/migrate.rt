@@ -2,8 +2,9 @@
 ghost use Rattle.std.specs.Prelude.{◌≡◌, IfOk, IfErr, OnOk};
 ghost use Rattle.ice_journal_laws.specs.Answers.{OfJournal};
 ghost use Rattle.ice_migrate.specs.Migrating.{IsMigrated};
-ghost use Rattle.ice_commands.specs.MigrateServed.{MigrateAnswers};
-ghost use Rattle.ice_commands.specs.MigrateParts.{unwritten_status, TellsUnfit, IsUnwrittenOf, IsUnwritten};
+ghost use Rattle.ice_commands.specs.Unwritten.{unwritten_status, IsUnwrittenOf, IsUnwritten};
+ghost use Rattle.ice_commands.specs.MigrateServed.{IsMigrateFault, MigrateAnswers};
+ghost use Rattle.ice_commands.specs.MigrateParts.{TellsUnfit, AreFailing};
 ghost use Rattle.ice_commands.specs.Keeping.{KeepsTold};
 ghost use Rattle.ice_commands.specs.Parts.{AreFetched, Serves};
 
@@ -12,19 +13,11 @@ use crate::check::JOURNAL_LIMIT;
 use crate::files::fetch;
 use crate::refusal::{FileFault, Refusal};
 use crate::say::ended;
-use ice_check::{Answer, Rule};
+use crate::unwritten::Unwritten;
+use ice_check::Answer;
 use ice_edge::{Shelf, Sink, Status};
 use ice_migrate::{Unfit, judge, put_packed};
 use std::alloc::Global;
-
-/// Why no journal is written.
-#[derive(Drop)]
-enum Unwritten {
-    /// The journal fails this test: its line and its rule.
-    Fails { line: u64, rule: Rule },
-    /// The file could not be read, or holds no journal of version 1; or there is no memory.
-    Refused(Refusal),
-}
 
 /// Why the bytes of the first file are not written in version 2.
 fn unwritten_of(unfit: Unfit) -> Unwritten
@@ -43,7 +36,7 @@ fn unwritten_of(unfit: Unfit) -> Unwritten
 /// Judges the bytes of the first file.
 fn judge_bytes(alloc: Global, bytes: &[u8]) -> Result<(), Unwritten>
     ensures journal { IfOk result (λ _. OfJournal bytes.now IsMigrated) }
-    ensures unwritten { IfErr result (IsUnwrittenOf bytes.now) }
+    ensures unwritten { IfErr result (IsUnwrittenOf AreFailing IsMigrateFault bytes.now) }
 {
     match judge(alloc, bytes) {
         Ok(()) => Ok(()),
@@ -55,7 +48,8 @@ fn judge_bytes(alloc: Global, bytes: &[u8]) -> Result<(), Unwritten>
 fn journal_of<H: Shelf>(alloc: Global, name: &str, shelf: &mut H) -> Result<Vec<u8>, Unwritten>
     ensures journal { IfOk result (λ bytes. OfJournal bytes.items IsMigrated
         × AreFetched (H.told shelf.old) name.now JOURNAL_LIMIT bytes.items) }
-    ensures unwritten { IfErr result (IsUnwritten name.now (H.told shelf.old) (H.told shelf.new)) }
+    ensures unwritten { IfErr result (IsUnwritten AreFailing IsMigrateFault name.now
+        (H.told shelf.old) (H.told shelf.new)) }
     ensures kept { OnOk result (H.told shelf.new ≡ H.told shelf.old) }
     ensures kept_unwritten { IfErr result (λ unwritten.
         KeepsTold (H.told shelf.old) (H.told shelf.new) (unwritten_status unwritten)) }

@@ -21,6 +21,8 @@ pub enum FileFault {
     OtherKind,
     /// It is a session that states no regret of the settlement.
     NoSettlement,
+    /// It is a session, and no bidder of it has the name.
+    NoBidder,
     /// It has more bytes than it may have.
     TooLong,
 }
@@ -34,6 +36,7 @@ impl FileFault {
             FileFault::AtLine { number, .. } | FileFault::AtPlace { number, .. } => *number,
             FileFault::OtherKind => 53,
             FileFault::NoSettlement => 52,
+            FileFault::NoBidder => 94,
             FileFault::TooLong => 61,
         }
     }
@@ -47,7 +50,10 @@ impl FileFault {
         match self {
             FileFault::AtLine { line, .. } => to.natural(*line),
             FileFault::AtPlace { place, .. } => to.word(place.text().as_bytes()),
-            FileFault::OtherKind | FileFault::NoSettlement | FileFault::TooLong => to.word(b"-"),
+            FileFault::OtherKind
+            | FileFault::NoSettlement
+            | FileFault::NoBidder
+            | FileFault::TooLong => to.word(b"-"),
         }
     }
 }

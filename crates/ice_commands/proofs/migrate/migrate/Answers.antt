@@ -2,7 +2,9 @@ use Rattle.std.proofs.Common.{ℕ, List, sym, subst}
 use Rattle.ice_edge.specs.declared.status.Status.TheVariants.{No}
 use Rattle.ice_journal_laws.specs.Checks.{Failure}
 use Rattle.ice_commands.specs.Call.{journal_limit}
-use Rattle.ice_commands.specs.MigrateParts.{IsUnwritten}
+use Rattle.ice_commands.specs.MigrateServed.{IsMigrateFault}
+use Rattle.ice_commands.specs.MigrateParts.{AreFailing}
+use Rattle.ice_commands.specs.Unwritten.{IsUnwritten}
 use Rattle.ice_commands.specs.Output.{no_line}
 use Rattle.ice_commands.specs.Parts.{AreFetched}
 use Rattle.ice_commands.specs.Refusals.{refusal_text, refusal_status}
@@ -26,7 +28,7 @@ returns-in-Err-Fails-clause-served g c =
     let after = g.H.Shelf.told c.journal_of.new.shelf in
     let file = c.args.journal.now in
     let failure : Failure = record { line = c.in-Err-Fails.line; rule = c.in-Err-Fails.rule } in
-    (no_line failure, No, failure_answers before after file failure (subst (IsUnwritten file before after) c.in-Err-Fails.field-0-is c.in-Err-Fails.ensures.unwritten), c.say_answer.ensures)
+    (no_line failure, No, failure_answers before after file failure (subst (IsUnwritten AreFailing IsMigrateFault file before after) c.in-Err-Fails.field-0-is c.in-Err-Fails.ensures.unwritten), c.say_answer.ensures)
 
 pub returns-in-Err-Refused-clause-served : goal.returns-in-Err-Refused-clause-served
 returns-in-Err-Refused-clause-served g c =
@@ -34,4 +36,4 @@ returns-in-Err-Refused-clause-served g c =
     let after = g.H.Shelf.told c.journal_of.new.shelf in
     let file = c.args.journal.now in
     let refusal = c.in-Err-Refused.refusal in
-    (refusal_text refusal, refusal_status refusal, refusal_answers before after file refusal (subst (IsUnwritten file before after) c.in-Err-Refused.field-0-is c.in-Err-Refused.ensures.unwritten), c.say.ensures)
+    (refusal_text refusal, refusal_status refusal, refusal_answers before after file refusal (subst (IsUnwritten AreFailing IsMigrateFault file before after) c.in-Err-Refused.field-0-is c.in-Err-Refused.ensures.unwritten), c.say.ensures)

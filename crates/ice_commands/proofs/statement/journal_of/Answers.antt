@@ -1,0 +1,22 @@
+use Rattle.std.proofs.Common.{ℕ, List, sym, subst}
+use Rattle.std.proofs.lemmas.Result.{err_from_is_err_and}
+use Rattle.ice_commands.specs.Call.{journal_limit}
+use Rattle.ice_commands.specs.StatementServed.{IsStatementFault}
+use Rattle.ice_commands.specs.StatementParts.{AreFailing}
+use Rattle.ice_commands.specs.Parts.{AreFetched}
+use Rattle.ice_commands.proofs.Unwriting.{unwritten_file}
+use Rattle.ice_commands.proofs.Refusing.{not_had}
+use Rattle.ice_commands.proofs.statement.journal_of.Goals as goal
+
+pub returns-in-Err-clause-unstated : goal.returns-in-Err-clause-unstated
+returns-in-Err-clause-unstated g c =
+    λ call part. not_had call 1 c.args.journal.now journal_limit (IsStatementFault c.args.name.now) c.in-Err.refusal (c.in-Err.ensures.refusal call part)
+
+pub returns-in_err-judge_bytes-clause-unstated : goal.returns-in_err-judge_bytes-clause-unstated
+returns-in_err-judge_bytes-clause-unstated g c =
+    let shelf = g.H.Shelf.told c.args.shelf.now in
+    let told : AreFetched shelf c.args.journal.now journal_limit c.deref.result.now =
+    subst (λ (read : List ℕ). AreFetched shelf c.args.journal.now journal_limit read) (sym c.deref.ensures.value) c.in-Ok.ensures.bytes in
+    let p = err_from_is_err_and c.from_residual.result c.from_residual.ensures.1 in
+    rw (p.1, p.2)
+    (unwritten_file AreFailing (IsStatementFault c.args.name.now) shelf (g.H.Shelf.told c.fetch.new.shelf) c.args.journal.now c.deref.result.now c.in_err-judge_bytes.field-0.0 told c.in_err-judge_bytes.ensures.unstated)

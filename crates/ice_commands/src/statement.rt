@@ -1,0 +1,93 @@
+//! `statement`: what a closed session's journal says to one of its bidders.
+ghost use Rattle.std.specs.Prelude.{◌≡◌, IfOk, IfErr, OnOk};
+ghost use Rattle.ice_journal_laws.specs.Answers.{OfJournal};
+ghost use Rattle.ice_statement.specs.Judging.{HasStatement};
+ghost use Rattle.ice_commands.specs.Keeping.{KeepsTold};
+ghost use Rattle.ice_commands.specs.Parts.{AreFetched, Serves};
+ghost use Rattle.ice_commands.specs.Unwritten.{unwritten_status, IsUnwrittenOf, IsUnwritten};
+ghost use Rattle.ice_commands.specs.StatementServed.{IsStatementFault, StatementAnswers};
+ghost use Rattle.ice_commands.specs.StatementParts.{TellsEnd, AreFailing};
+
+use crate::answer::say_answer;
+use crate::check::JOURNAL_LIMIT;
+use crate::files::fetch;
+use crate::refusal::{FileFault, Refusal};
+use crate::say::ended;
+use crate::unwritten::Unwritten;
+use ice_check::Answer;
+use ice_edge::{Shelf, Sink, Status};
+use ice_statement::{StatementEnd, judge, put_statement};
+use std::alloc::Global;
+
+/// Why nothing of the bytes of the first file is stated.
+fn unstated_of(end: StatementEnd) -> Unwritten
+    ensures { TellsEnd end result }
+{
+    let fault = match end {
+        StatementEnd::Grammar { line } => FileFault::AtLine { number: 50, line },
+        StatementEnd::Unended { line } => FileFault::AtLine { number: 51, line },
+        StatementEnd::OtherKind => FileFault::OtherKind,
+        StatementEnd::FailsTest { line, rule } => return Unwritten::Fails { line, rule },
+        StatementEnd::NoBidder => FileFault::NoBidder,
+        StatementEnd::NoMemory => return Unwritten::Refused(Refusal::NoMemory),
+    };
+    Unwritten::Refused(Refusal::File { file: 1, fault })
+}
+
+/// Judges the bytes of the first file, of which the bidder of this name is to have its statement.
+fn judge_bytes(alloc: Global, bytes: &[u8], name: &str) -> Result<(), Unwritten>
+    ensures journal { IfOk result (λ _. OfJournal bytes.now (HasStatement name.now)) }
+    ensures unstated { IfErr result
+        (IsUnwrittenOf AreFailing (IsStatementFault name.now) bytes.now) }
+{
+    match judge(alloc, bytes, name.as_bytes()) {
+        Ok(()) => Ok(()),
+        Err(end) => Err(unstated_of(end)),
+    }
+}
+
+/// The bytes of the journal of this name, of which the bidder of that name has a statement, or why
+/// it has none.
+fn journal_of<H: Shelf>(
+    alloc: Global,
+    journal: &str,
+    name: &str,
+    shelf: &mut H,
+) -> Result<Vec<u8>, Unwritten>
+    ensures journal { IfOk result (λ bytes. OfJournal bytes.items (HasStatement name.now)
+        × AreFetched (H.told shelf.old) journal.now JOURNAL_LIMIT bytes.items) }
+    ensures unstated { IfErr result (IsUnwritten AreFailing (IsStatementFault name.now) journal.now
+        (H.told shelf.old) (H.told shelf.new)) }
+    ensures kept { OnOk result (H.told shelf.new ≡ H.told shelf.old) }
+    ensures kept_unstated { IfErr result (λ unwritten.
+        KeepsTold (H.told shelf.old) (H.told shelf.new) (unwritten_status unwritten)) }
+{
+    let bytes = match fetch(alloc, 1, journal, JOURNAL_LIMIT, shelf) {
+        Ok(bytes) => bytes,
+        Err(refusal) => return Err(Unwritten::Refused(refusal)),
+    };
+    judge_bytes(alloc, &bytes, name)?;
+    Ok(bytes)
+}
+
+/// Writes the statement of the bidder of this name: what the journal of a closed session, which
+/// passes every test, publishes, and what of it is the bidder's own; or why there is none. The
+/// journal is judged whole before the first line is put, and then no more memory is taken.
+pub fn statement<H: Shelf, K: Sink>(
+    alloc: Global,
+    journal: &str,
+    name: &str,
+    shelf: &mut H,
+    out: &mut K,
+) -> Status
+    ensures served { Serves (λ call. StatementAnswers call journal.now name.now)
+        (H.told shelf.old) (H.told shelf.new)
+        (K.written out.old) (K.written out.new) (K.faults out.old) (K.faults out.new) result }
+    ensures kept { KeepsTold (H.told shelf.old) (H.told shelf.new) result }
+{
+    match journal_of(alloc, journal, name, shelf) {
+        Ok(bytes) => ended(put_statement(&bytes, name.as_bytes(), out), Status::Done),
+        Err(Unwritten::Fails { line, rule }) => say_answer(&Answer::No { line, rule }, out),
+        Err(Unwritten::Refused(refusal)) => refusal.say(out),
+    }
+}
