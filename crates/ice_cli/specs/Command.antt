@@ -11,6 +11,7 @@ pub data Command : Type 0 where
   gen : (number : ℕ) → Command
   run : (exchange : List ℕ) → (rounds : List (List ℕ)) → Command
   migrate : (journal : List ℕ) → Command
+  statement : (journal name : List ℕ) → Command
 
 abbrev pub words_of : Command → List (List ℕ)
 words_of (check journal) = codes "check" ∷ journal ∷ []
@@ -21,6 +22,7 @@ words_of (replay journal number) = codes "replay" ∷ journal ∷ decimal number
 words_of (gen number) = codes "gen" ∷ decimal number ∷ []
 words_of (run exchange rounds) = codes "run" ∷ exchange ∷ rounds
 words_of (migrate journal) = codes "migrate" ∷ journal ∷ []
+words_of (statement journal name) = codes "statement" ∷ journal ∷ name ∷ []
 
 -- a session has at most 20 rounds, and a run as many round files; the number of a generated exchange has 32 bits
 abbrev pub IsLimited : Command → Type 0

@@ -53,7 +53,8 @@ RegretCompletes =
     (call : Call) (exchange : List ℕ) (ex : Exchange) → IsServed call → IsCommand call.words (regret exchange) → IsFaultless call → IsValidExchange call exchange ex
     → enough_for_regret ex ≤ ex.settings.branches → (call.status ≡ Done) ⊎ (call.status ≡ NoMemory)
 
--- with branches enough for all searches, a session closes, stays open, or ends at a limit of its pricing, the last only where the settings allow a round
+-- with branches enough, a session closes, stays open, or ends at a limit of its pricing, and the
+-- last only where the settings allow a round
 abbrev pub RunCompletes : Type 0
 RunCompletes =
     (call : Call) (exchange : List ℕ) (rounds : List (List ℕ)) (ex : Exchange) → IsServed call → IsCommand call.words (run exchange rounds) → IsFaultless call → IsValidExchange call exchange ex → AllByRecursion (IsValidRound call) rounds

@@ -43,6 +43,12 @@ pub enum Command<'a> {
     Migrate {
         journal: &'a str,
     },
+    /// `statement JOURNAL NAME`
+    Statement {
+        journal: &'a str,
+        /// The name of a bidder, or any other text.
+        name: &'a str,
+    },
 }
 
 /// The word, where there is no other.
@@ -157,6 +163,10 @@ pub fn command_in(words: &[String]) -> Option<Command<'_>>
         "migrate" => {
             let journal = one_word(names)?;
             Some(Command::Migrate { journal })
+        }
+        "statement" => {
+            let (journal, name) = two_words(names)?;
+            Some(Command::Statement { journal, name })
         }
         _ => None,
     }

@@ -13,6 +13,7 @@ use ice_commands::ended;
 use ice_commands::migrate::migrate;
 use ice_commands::regret::regret;
 use ice_commands::replay::replay;
+use ice_commands::statement::statement;
 use ice_commands::xor::xor;
 use ice_edge::{Shelf, Sink, Status};
 use ice_session_commands::generated::generated;
@@ -33,16 +34,17 @@ fn refuse_words<K: Sink>(out: &mut K) -> Status
 /// exchange that flat bids say, as one line of JSON, `replay JOURNAL N` writes what a session says
 /// of the settlement with this number, from 0 to 20, `run EXCHANGE ROUND..` writes the journal of a
 /// session, whose rounds have the bids of at most 20 files, `gen NUMBER` writes a summary of the
-/// session of a generated exchange, and `migrate JOURNAL` writes a journal of version 1 in version
-/// 2.
+/// session of a generated exchange, `migrate JOURNAL` writes a journal of version 1 in version 2,
+/// and `statement JOURNAL NAME` writes what the journal of a closed session says to the bidder of
+/// this name.
 ///
-/// Files come from `shelf`, and output goes to `out`: each line with its newline is one put, and of
-/// `migrate` many lines are. The status says how the call ended, and the first clause ties it to
-/// the words, to what the shelf told, to the counts of faults that rose in this call, and to the
-/// text that was appended. Want of memory alone (`Status::NoMemory`) has no cause; nothing is
-/// written then, or whole lines of a journal with no stop in them. At each status but those of a
-/// file that is refused or unread, and of a sink that failed, the shelf tells the same after the
-/// call as before it: no fetch has failed.
+/// Files come from `shelf`, and output goes to `out`: each line with its newline is one put, but of
+/// `migrate` many lines are, and of a statement's first line each part is. The status says how the
+/// call ended, and the first clause ties it to the words, to what the shelf told, to the counts of
+/// faults that rose in this call, and to the text that was appended. Want of memory alone
+/// (`Status::NoMemory`) has no cause; nothing is written then, or whole lines of a journal with no
+/// stop in them. At each status but those of a file that is refused or unread, and of a sink that
+/// failed, the shelf tells the same after the call as before it: no fetch has failed.
 pub fn serve<H: Shelf, K: Sink>(
     alloc: Global,
     words: &[String],
@@ -70,6 +72,7 @@ pub fn serve<H: Shelf, K: Sink>(
         Some(Command::Gen { number }) => generated(alloc, number, out),
         Some(Command::Run { exchange, rounds }) => run(alloc, exchange, rounds, shelf, out),
         Some(Command::Migrate { journal }) => migrate(alloc, journal, shelf, out),
+        Some(Command::Statement { journal, name }) => statement(alloc, journal, name, shelf, out),
         None => refuse_words(out),
     }
 }

@@ -1,6 +1,6 @@
 use Rattle.std.proofs.Common.{refl, [], map, string_bytes}
 use Rattle.ice_commands.specs.Call.{Call}
-use Rattle.ice_cli.specs.Command.{check, best, regret, xor, run, gen, migrate, replay}
+use Rattle.ice_cli.specs.Command.{check, best, regret, xor, run, gen, migrate, replay, statement}
 use Rattle.ice_commands.specs.CheckServed.{CheckAnswers}
 use Rattle.ice_commands.specs.BestServed.{BestAnswers}
 use Rattle.ice_commands.specs.RegretServed.{RegretAnswers}
@@ -9,6 +9,7 @@ use Rattle.ice_commands.specs.ReplayServed.{ReplayAnswers}
 use Rattle.ice_session_commands.specs.RunServed.{RunAnswers}
 use Rattle.ice_session_commands.specs.GenServed.{GenAnswers}
 use Rattle.ice_commands.specs.MigrateServed.{MigrateAnswers}
+use Rattle.ice_commands.specs.StatementServed.{StatementAnswers}
 use Rattle.ice_session_commands.proofs.Trials.{serves_said}
 use Rattle.ice_cli.proofs.Serving.{served, refused_words}
 use Rattle.ice_cli.proofs.serve.serve.Goals as goal
@@ -138,6 +139,22 @@ returns-in-Some-Migrate-clause-served g c =
     } in
     served call (migrate journal) (λ one. MigrateAnswers one journal) (g.K.Sink.written c.args.out.now) (g.K.Sink.written c.migrate.new.out)
     (rw c.in-Some-Migrate.field-0-is at c.in-Some-Migrate.ensures) (λ text status h. h) c.migrate.ensures.served
+
+pub returns-in-Some-Statement-clause-served : goal.returns-in-Some-Statement-clause-served
+returns-in-Some-Statement-clause-served g c =
+    let journal = c.in-Some-Statement.journal.now in
+    let name = c.in-Some-Statement.name.now in
+    let call : Call = record {
+      words = map string_bytes c.args.words.now;
+      before = g.H.Shelf.told c.args.shelf.now;
+      after = g.H.Shelf.told c.statement.new.shelf;
+      sink_faults = g.K.Sink.faults c.args.out.now;
+      sink_faults_after = g.K.Sink.faults c.statement.new.out;
+      text = [];
+      status = c.statement.result;
+    } in
+    served call (statement journal name) (λ one. StatementAnswers one journal name) (g.K.Sink.written c.args.out.now) (g.K.Sink.written c.statement.new.out)
+    (rw c.in-Some-Statement.field-0-is at c.in-Some-Statement.ensures) (λ text status h. h) c.statement.ensures.served
 
 pub returns-in-None-clause-served : goal.returns-in-None-clause-served
 returns-in-None-clause-served g c =
