@@ -23,9 +23,15 @@ NOBODY = 65534
 
 
 def pieces(call: Call, output: bytes) -> Sequence[bytes]:
-    """What each write has: a line with its newline, and of `migrate` all that follows the head."""
+    """What each write has: a line with its newline, of `migrate` all that follows the head, and of
+    the first line of a statement the word, the name and the newline."""
     lines = output.splitlines(keepends=True)
-    return [lines[0], b"".join(lines[1:])] if call.command == "migrate" else lines
+    if call.command == "migrate":
+        return [lines[0], b"".join(lines[1:])]
+    if call.command == "statement":
+        word, name = lines[0].split()
+        return [word + b" ", name, b"\n", *lines[1:]]
+    return lines
 
 
 def for_each_call(test: Callable[[Edge, Program, Call, Ran], None]) -> Callable[[Edge], None]:

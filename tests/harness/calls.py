@@ -50,6 +50,7 @@ CALLS = {
         Call("regret", "regret @choice.exchange"),
         Call("replay", "replay @rounds.session 1"),
         Call("migrate", "migrate @sale.session"),
+        Call("statement", "statement @rounds.session b"),
         Call("best", "best @sale.json @fifteen.prices"),
         Call("xor", "xor @sales.json"),
         Call("gen", "gen 7"),

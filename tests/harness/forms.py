@@ -35,6 +35,7 @@ DONE = {
     "run": "end closed",
     "gen": "end gen",
     "migrate": "end (regret|closed|open|spent|limit)|unread [0-9]+|" + REFUSED,
+    "statement": "end statement",
 }
 BEST = rf"(best {NAME} {NUMBER}\nset [01]+\n)+end best\n"
 REPLAY = (
@@ -47,6 +48,7 @@ STATUSES = {
     "check": {program.DONE, program.INPUT, program.NO},
     "replay": {program.DONE, program.INPUT, program.NO},
     "migrate": {program.DONE, program.INPUT, program.NO},
+    "statement": {program.DONE, program.INPUT, program.NO},
     "best": {program.DONE, program.INPUT},
     "xor": {program.DONE, program.INPUT},
     "regret": {program.DONE, program.INPUT, program.SPENT},
@@ -72,6 +74,7 @@ WHOLE: dict[str, Callable[[str], object]] = {
     "regret": lambda text: text.startswith("ice 2 regret\n"),
     "run": lambda text: text.startswith("ice 2 session\n"),
     "migrate": lambda text: text.startswith("ice 2 "),
+    "statement": lambda text: text.startswith("statement "),
     "gen": lambda text: text.count("\n") == 10,
 }
 
