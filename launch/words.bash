@@ -89,6 +89,7 @@ fault() {
     61) echo "longer than such a file may be" ;;
     90) echo "a package with no good" ;;
     91) echo "a bidder with no package" ;;
+    94) echo "no bidder of the session has this name" ;;
     *) echo "refused" ;;
     esac
 }
@@ -198,6 +199,7 @@ wrong_words() {
     run)
         if [ "$count" = 0 ]; then echo "\`run\` takes an exchange, and no file is named"; else echo "\`run\` takes up to 20 round files, and $((count - 1)) are named"; fi
         ;;
+    statement) echo "\`statement\` takes a journal and the name of a bidder, and $count words stand behind it" ;;
     replay)
         if [ "$count" != 2 ]; then
             echo "\`replay\` takes a journal and a number, and $count words stand behind it"

@@ -112,7 +112,7 @@ class Words(unittest.TestCase):
         self.assertEqual(self.refused(53, "-", "migrate", "j"), "j is refused: not a journal of a kind that `migrate` takes (number 53)")
 
     def test_each_number_has_words(self):
-        for number in [*range(1, 6), *range(10, 15), 16, 17, *range(20, 27), 50, 51, 52, 53, 61, 90, 91]:
+        for number in [*range(1, 6), *range(10, 15), 16, 17, *range(20, 27), 50, 51, 52, 53, 61, 90, 91, 94]:
             told = self.refused(number, "-")
             self.assertRegex(told, rf"^market.json is refused: [^:]{{6,}}.*\(number {number}\)$")
             self.assertNotIn("refused: refused", told)
