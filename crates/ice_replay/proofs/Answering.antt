@@ -16,8 +16,7 @@ use Rattle.ice_journal_laws.specs.Answers.{EndsWith}
 use Rattle.ice_journal_laws.proofs.Leading.{finds}
 use Rattle.ice_replay.specs.declared.settlement.Replay.{Replay}
 use Rattle.ice_replay.specs.declared.settlement.ReplayEnd.{ReplayEnd}
-use Rattle.ice_replay.specs.declared.settlement.ReplayEnd.TheVariants.{OtherKind, No, NoSettlement}
-use Rattle.ice_replay.specs.declared.watch.Watch.{Watch}
+use Rattle.ice_replay.specs.declared.settlement.ReplayEnd.TheVariants.{OtherKind, NoSettlement}
 use Rattle.ice_replay.specs.declared.watch.Watch.TheVariants as watch
 use Rattle.ice_replay.specs.Settlements.{OfSession, IsSession, IsReplayable, passes, stops, Settles, prices_from, prices_of}
 use Rattle.ice_replay.specs.Replays.{IsReplay, ReplaysBytes}

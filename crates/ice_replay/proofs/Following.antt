@@ -8,7 +8,6 @@ use Rattle.ice_defs.specs.Exchange.{names_of}
 use Rattle.ice_journal.specs.Records.{Record, Version, session_kind}
 use Rattle.ice_journal.specs.Records as line
 use Rattle.ice_journal_laws.specs.declared.rule.Rule.{Rule}
-use Rattle.ice_journal_laws.specs.declared.rule.Rule.TheVariants as rule
 use Rattle.ice_journal_laws.specs.Fields.{amount_in, prices_in}
 use Rattle.ice_journal_laws.specs.State.{Place, at_regret, at_prices, at_accuracy, at_pool, State, begun, exchange_at, goods_at}
 use Rattle.ice_journal_laws.specs.Next.{next, next_at, to_line, go_to, or_stop, after_all}
