@@ -1,6 +1,6 @@
 -- But for want of memory, bytes are judged in one way.
 use Rattle.std.proofs.Common.{◌≡◌, ◌≢◌, ℕ, List, refl, sym, ◌∙◌, ap, subst, inl, inr}
-use Rattle.std.specs.Prelude.{true, false, Some, None, Result, Ok, Err}
+use Rattle.std.specs.Prelude.{false, Some, None, Result, Ok, Err}
 use Rattle.std.proofs.lemmas.Bool.{true≢false}
 use Rattle.std.proofs.lemmas.Option.{none-some}
 use Rattle.ice_journal.specs.Records.{Record}
