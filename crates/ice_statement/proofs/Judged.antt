@@ -18,7 +18,7 @@ use Rattle.ice_journal_laws.specs.Answers.{AnswersJournal, AnswersBytes}
 use Rattle.ice_journal_laws.specs.Theorems.{HasKind}
 use Rattle.ice_journal_laws.proofs.SessionRight.{checked_is_right}
 use Rattle.ice_statement.specs.declared.judging.StatementEnd.{StatementEnd}
-use Rattle.ice_statement.specs.declared.judging.StatementEnd.TheVariants.{Grammar, Unended, OtherKind, FailsTest, NoBidder, NoMemory}
+use Rattle.ice_statement.specs.declared.judging.StatementEnd.TheVariants.{FailsTest, NoBidder}
 use Rattle.ice_statement.specs.Judging.{is_session, end_at, answer_or, has_bidder, HasStatement, HasNoBidder, MayState, IsEnd, Finds}
 use Rattle.ice_statement.proofs.Gathers.{first_of, read_is, has_newline}
 use Rattle.ice_statement.proofs.Named.{has_own, has_none}
