@@ -59,6 +59,20 @@ impl Begun {
         }
     }
 
+    /// The record of the line, where some of its bytes have come and these are its last ones.
+    fn end_kept(&mut self, last: &[u8]) -> Option<Line>
+        ensures read { (text : List ℕ) → IsTextOf self.old text
+            → Reads (option_map record_of result) IsRecord text_of (text ++ last.now) }
+        ensures lawful { IfSome result (λ line. IsRecord (record_of line)) }
+        ensures empty { IsTextOf self.new [] }
+    {
+        self.push(last);
+        let record = self.record();
+        self.text.clear();
+        self.is_long = false;
+        record
+    }
+
     /// The record of the line, if it is the text of one, where these are its last bytes. The next
     /// line has not begun. It takes no memory.
     pub(crate) fn end(&mut self, last: &[u8]) -> Option<Line>
@@ -68,12 +82,9 @@ impl Begun {
         ensures empty { IsTextOf self.new [] }
     {
         if self.is_empty() {
-            return read_record(last);
+            read_record(last)
+        } else {
+            self.end_kept(last)
         }
-        self.push(last);
-        let record = self.record();
-        self.text.clear();
-        self.is_long = false;
-        record
     }
 }
