@@ -1,4 +1,5 @@
--- Each line of a statement has one spelling, and bytes are the lines of one statement or have one least line at fault.
+-- Each line of a statement has one spelling, and bytes are the
+-- lines of one statement or have one least line at fault.
 use Rattle.std.proofs.Common.{◌≡◌, ℕ, ◌<◌, Bool, true, false, ltb, List, [], ◌∷◌, ◌++◌, map, length, codes, Contains, refl, sym, ap, ◌∙◌, append_assoc, arith}
 use Rattle.std.specs.List.{AllByRecursion, list_all}
 use Rattle.std.proofs.lemmas.Bool.{and_parts, ltb-true}

@@ -1,4 +1,5 @@
--- What the tests of a journal say of its prices and its discounts, beyond that its session is right.
+-- What the tests of a journal say of its prices and its
+-- discounts, beyond that its session is right.
 use Rattle.std.proofs.Common.{◌≡◌, ℕ, suc, Bool, true, false, cond, eqb, List, [], ◌∷◌, ◌++◌, map, length, ℤ, pos, refl, sym, ◌∙◌, ap, subst, append_assoc, inr}
 use Rattle.std.specs.Prelude.{if◌then◌else◌, ◌==◌, Option, Some, None, option_map, IsSomeAnd, slice_index_or}
 use Rattle.std.specs.List.{flat_map, AllByRecursion}

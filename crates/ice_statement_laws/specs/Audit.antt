@@ -1,5 +1,7 @@
 -- The tests of a statement: the first that fails, or none.
-use Rattle.std.specs.Prelude.{ℕ, suc, ◌<◌, ◌≡◌, ◌≢◌, ◌⊎◌, ◌==◌, Bool, true, false, if◌then◌else◌, IsTrue, IfSome, IsSomeAnd, List, [], ◌∷◌, ◌++◌, length, slice_index_or, int_le, ℤ, pos, ◌*ℤ◌, ◌<ℤ◌, Option, Some, None, option_map, option_and_then, Result, Ok, Err}
+use Rattle.std.specs.Prelude.{ℕ, suc, ◌<◌, ◌≡◌, ◌≢◌, ◌⊎◌, ◌==◌, Bool, true, false, if◌then◌else◌, IsTrue, IfSome, IsSomeAnd, List, [], ◌∷◌}
+use Rattle.std.specs.Prelude.{◌++◌, length, slice_index_or, int_le, ℤ, pos, ◌*ℤ◌, ◌<ℤ◌, Option, Some, None, option_map, option_and_then}
+use Rattle.std.specs.Prelude.{Result, Ok, Err}
 use Rattle.std.specs.List.{list_any}
 use Rattle.std.specs.Str.{bytes_eq}
 use Rattle.ice_defs.specs.declared.SatRule.{SatRule}
@@ -104,7 +106,8 @@ has_name s name = bytes_eq s.name name
 
 -- the first bidder's record and nodes, and then settlement 0
 abbrev pub begin_settlement : AuditState → ℕ → Record → Option AuditState
-begin_settlement s number r = option_and_then (λ n. if_true (n == number) (move_to at_regret (record s { number = number; judged = [] }))) (settlement_in r)
+begin_settlement s number r =
+    option_and_then (λ n. if_true (n == number) (move_to at_regret (record s { number = number; judged = [] }))) (settlement_in r)
 
 -- a bidder record has the name of the statement
 abbrev pub is_named : AuditState → Record → Bool
@@ -143,11 +146,17 @@ spot_next s at_section l = option_and_then (section_next s) (record_in l)
 spot_next s at_regret l = option_and_then (λ r. option_map (λ a. move_to at_kept (record s { regret = a })) (amount_in r)) (record_in l)
 spot_next s at_kept l = option_map (λ x. after_kept (record s { kept = x })) (kept_in l)
 spot_next s at_offered l = option_map (λ x. move_to at_prices (record s { offered = x })) (offered_in l)
-spot_next s at_prices l = option_and_then (λ r. option_map (λ p. move_to at_round (record s { prices = p })) (prices_in (goods_at s) r)) (record_in l)
+spot_next s at_prices l =
+    option_and_then (λ r. option_map (λ p. move_to at_round (record s { prices = p })) (prices_in (goods_at s) r)) (record_in l)
 spot_next s at_round l = option_and_then (λ r. round_next s r (submission_in r)) (record_in l)
-spot_next s (at_verdict x) l = option_and_then (λ r. option_map (λ v. move_to at_round (record s { judged = s.judged ++ record { submission = x; verdict = v } ∷ [] })) (verdict_in r)) (record_in l)
-spot_next s at_threshold l = option_and_then (λ r. option_and_then (λ c. if_true (int_le (pos 0) c.cut.num) (move_to at_payment (record s { cut = c.cut }))) (threshold_in r)) (record_in l)
-spot_next s at_payment l = option_and_then (λ r. option_and_then (λ p. if_true (has_name s p.name) (move_to at_end s)) (payment_in r)) (record_in l)
+spot_next s (at_verdict x) l =
+    option_and_then (λ r. option_map (λ v. move_to at_round (record s { judged = s.judged ++ record { submission = x; verdict = v } ∷ [] }))
+    (verdict_in r)) (record_in l)
+spot_next s at_threshold l =
+    option_and_then (λ r. option_and_then (λ c. if_true (int_le (pos 0) c.cut.num) (move_to at_payment (record s { cut = c.cut })))
+    (threshold_in r)) (record_in l)
+spot_next s at_payment l =
+    option_and_then (λ r. option_and_then (λ p. if_true (has_name s p.name) (move_to at_end s)) (payment_in r)) (record_in l)
 spot_next s at_end l = if_true (is_ended l) (move_to done s)
 spot_next s done l = None
 
@@ -175,7 +184,9 @@ HasUnlawfulPrices at_prices s l = IsSomeAnd (option_and_then (prices_in (goods_a
 HasUnlawfulPrices other s l = ⊥
 
 abbrev pub IsOtherVerdict : Spot → AuditState → StatementLine → Type 0
-IsOtherVerdict (at_verdict x) s l = IsSomeAnd (option_and_then verdict_in (record_in l)) (λ v. ¬ IsVerdict s.prices (settings_at s).improve (standing_at s) (list_any is_accepted s.judged) x v)
+IsOtherVerdict (at_verdict x) s l =
+    IsSomeAnd (option_and_then verdict_in (record_in l))
+    (λ v. ¬ IsVerdict s.prices (settings_at s).improve (standing_at s) (list_any is_accepted s.judged) x v)
 IsOtherVerdict other s l = ⊥
 
 -- the discount by the cut, and the lower value of the kept set less that discount
@@ -203,9 +214,12 @@ AuditFails rule.Verdict s l = IsOtherVerdict s.spot s l
 AuditFails rule.Payment s l = IsOtherPayment s.spot s l
 AuditFails other s l = ⊥
 
--- what a line that passes says outright, where that it doesn't fail would say less: its verdict is the one that the rules give
+-- what a line that passes says outright, where that it doesn't fail
+-- would say less: its verdict is the one that the rules give
 abbrev pub HasOwnVerdict : Spot → AuditState → StatementLine → Type 0
-HasOwnVerdict (at_verdict x) s l = IfSome (option_and_then verdict_in (record_in l)) (λ v. IsVerdict s.prices (settings_at s).improve (standing_at s) (list_any is_accepted s.judged) x v)
+HasOwnVerdict (at_verdict x) s l =
+    IfSome (option_and_then verdict_in (record_in l))
+    (λ v. IsVerdict s.prices (settings_at s).improve (standing_at s) (list_any is_accepted s.judged) x v)
 HasOwnVerdict other s l = Unit {0}
 
 -- the lines from here on: the first test that one of them fails, or none
@@ -213,9 +227,11 @@ pub data Audited : AuditState → List StatementLine → Option Failure → Type
   passes : {s : AuditState} → s.spot ≡ done → Audited s [] None
   is_short : {s : AuditState} → s.spot ≢ done → Audited s [] (Some (record { line = s.line; rule = rule.Short }))
   fails : {s : AuditState} {l : StatementLine} {rest : List StatementLine} {x : Rule}
-      → AuditFails x s l → ((y : Rule) → place_of y < place_of x → ¬ AuditFails y s l) → Audited s (l ∷ rest) (Some (record { line = s.line; rule = x }))
+      → AuditFails x s l → ((y : Rule) → place_of y < place_of x → ¬ AuditFails y s l)
+      → Audited s (l ∷ rest) (Some (record { line = s.line; rule = x }))
   goes_on : {s after : AuditState} {l : StatementLine} {rest : List StatementLine} {end : Option Failure}
-      → ((x : Rule) → ¬ AuditFails x s l) → HasOwnVerdict s.spot s l → audit_next s l ≡ Some after → Audited after rest end → Audited s (l ∷ rest) end
+      → ((x : Rule) → ¬ AuditFails x s l) → HasOwnVerdict s.spot s l → audit_next s l ≡ Some after → Audited after rest end
+      → Audited s (l ∷ rest) end
 
 abbrev pub IsAudit : List StatementLine → Option Failure → Type 0
 IsAudit lines end = Audited audit_begun lines end

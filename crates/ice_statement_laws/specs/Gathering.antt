@@ -11,7 +11,9 @@ use Rattle.ice_statement_laws.specs.Texts.{IsOwnOf}
 pub data Slot : Type 0 where
   to_kept to_offered nowhere : Slot
 
--- the name that is looked for; how many bidders came, and the number of the one with the name, if it came; whether the last bidder or submission has the name; where the sets go, and how many came; the bidder's final and provisional sets
+-- the name that is looked for; how many bidders came, and the number of the one with
+-- the name, if it came; whether the last bidder or submission has the name; where
+-- the sets go, and how many came; the bidder's final and provisional sets
 pub record Gathering : Type 0 where
   pub name : List ℕ
   pub bidders : ℕ
@@ -24,7 +26,8 @@ pub record Gathering : Type 0 where
   pub offered : NodeSet
 
 abbrev pub gathering : List ℕ → Gathering
-gathering name = record { name = name; bidders = 0; number = 0; found = false; is_own = false; slot = nowhere; sets = 0; kept = []; offered = [] }
+gathering name =
+    record { name = name; bidders = 0; number = 0; found = false; is_own = false; slot = nowhere; sets = 0; kept = []; offered = [] }
 
 abbrev pub is_to_kept : Slot → Bool
 is_to_kept to_kept = true
@@ -96,8 +99,10 @@ gathered_lines name journal = (named name ∷ gathered (gathering name) journal)
 
 -- what is gathered of a journal that says a right session is the statement of its named bidder
 abbrev pub GatheredIsStatement : Type 0
-GatheredIsStatement = (journal : List Record) (name : List ℕ) (own : Own) → IsOwnOf journal name own → gathered_lines name journal ≡ statement_lines (published journal) own
+GatheredIsStatement = (journal : List Record) (name : List ℕ) (own : Own) → IsOwnOf journal name own
+    → gathered_lines name journal ≡ statement_lines (published journal) own
 
 -- so a bidder's own is told by the journal: two of them make the same lines
 abbrev pub LinesAreOne : Type 0
-LinesAreOne = (journal : List Record) (name : List ℕ) (a b : Own) → IsOwnOf journal name a → IsOwnOf journal name b → statement_lines (published journal) a ≡ statement_lines (published journal) b
+LinesAreOne = (journal : List Record) (name : List ℕ) (a b : Own) → IsOwnOf journal name a → IsOwnOf journal name b
+    → statement_lines (published journal) a ≡ statement_lines (published journal) b

@@ -1,4 +1,5 @@
--- What a statement says of one bidder, as a structure; when that is right; and the lines that say it.
+-- What a statement says of one bidder, as a structure;
+-- when that is right; and the lines that say it.
 use Rattle.std.specs.Prelude.{ℕ, suc, ◌<◌, ◌≡◌, true, false, List, [], ◌∷◌, ◌++◌, map, length, ℤ, pos, ◌*ℤ◌, ◌≤ℤ◌}
 use Rattle.std.specs.List.{flat_map, AllByRecursion}
 use Rattle.ice_defs.specs.Set.{NodeSet, IsSatisfied, value}
@@ -16,7 +17,8 @@ use Rattle.ice_section.specs.Described.{section_records}
 use Rattle.ice_journal_laws.specs.Written.{payment_record, judged_records}
 use Rattle.ice_statement_laws.specs.Statement.{StatementLine, named, shown, kept, offered, ended}
 
--- a settlement that goes on: its regret, the bidder's final and provisional sets, the prices, and its submissions with their verdicts
+-- a settlement that goes on: its regret, the bidder's final and provisional
+-- sets, the prices, and its submissions with their verdicts
 pub record OwnStep : Type 0 where
   pub regret : ℤ
   pub kept : NodeSet
@@ -47,10 +49,12 @@ own_exchange x = record { settings = x.settings; goods = x.goods; bidders = x.bi
 
 -- behind the number of a settlement
 abbrev pub closed_lines : OwnClosed → List StatementLine
-closed_lines c = shown (line.regret c.regret) ∷ kept c.kept ∷ shown (line.threshold c.cut c.surplus) ∷ shown (payment_record c.payment) ∷ ended ∷ []
+closed_lines c =
+    shown (line.regret c.regret) ∷ kept c.kept ∷ shown (line.threshold c.cut c.surplus) ∷ shown (payment_record c.payment) ∷ ended ∷ []
 
 abbrev pub step_lines : OwnStep → List StatementLine
-step_lines g = shown (line.regret g.regret) ∷ kept g.kept ∷ offered g.offered ∷ shown (line.prices g.prices) ∷ map shown (flat_map judged_records g.judged)
+step_lines g = shown (line.regret g.regret) ∷ kept g.kept ∷ offered g.offered ∷ shown (line.prices g.prices)
+    ∷ map shown (flat_map judged_records g.judged)
 
 -- from the settlement with this number on
 abbrev pub lines_from : ℕ → List OwnStep → OwnClosed → List StatementLine
@@ -74,9 +78,11 @@ module _ (settings : Settings) (goods : ℕ) (bidder : Bidder) where
     pub offered : IsSatisfied bidder.tree g.offered
     pub prices : AreOwnPrices goods settings.cap g.prices
     pub names : AllByRecursion (λ j. j.submission.name ≡ bidder.name) g.judged
-    pub round : JudgesInOrder g.prices settings.improve (record { name = bidder.name; tree = bidder.tree; bounds = bounds; set = g.offered }) false g.judged
+    pub round : JudgesInOrder g.prices settings.improve
+        (record { name = bidder.name; tree = bidder.tree; bounds = bounds; set = g.offered }) false g.judged
 
-  -- the bidder pays the lower value of its set less the discount that the cut leaves of its Vickrey discount
+  -- the bidder pays the lower value of its set less the
+  -- discount that the cut leaves of its Vickrey discount
   pub record IsOwnClosed (bounds : Bounds) (c : OwnClosed) : Type 0 where
     pub kept : IsSatisfied bidder.tree c.kept
     pub cut : AtMost (whole (pos 0)) c.cut
@@ -84,10 +90,12 @@ module _ (settings : Settings) (goods : ℕ) (bidder : Bidder) where
     pub discount : Equals c.payment.discount (cut_down c.cut c.payment.vickrey)
     pub payment : Equals c.payment.payment (less (whole (value c.kept bounds.lo)) c.payment.discount)
 
-  -- from the settlement with this number and these bounds on: the close test fails but at the last one
+  -- from the settlement with this number and these bounds
+  -- on: the close test fails but at the last one
   abbrev pub IsOwnFrom : ℕ → Bounds → List OwnStep → OwnClosed → Type 0
   IsOwnFrom number bounds [] c = (closes settings number c.regret ≡ true) × IsOwnClosed bounds c
-  IsOwnFrom number bounds (g ∷ later) c = (closes settings number g.regret ≡ false) × IsOwnStep bounds g × IsOwnFrom (suc number) (bounds_after bounds g.judged) later c
+  IsOwnFrom number bounds (g ∷ later) c = (closes settings number g.regret ≡ false) × IsOwnStep bounds g
+      × IsOwnFrom (suc number) (bounds_after bounds g.judged) later c
 
 pub record IsRightOwn (x : OwnSession) : Type 0 where
   pub exchange : IsExchange (own_exchange x)

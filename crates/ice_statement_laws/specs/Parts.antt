@@ -1,4 +1,5 @@
--- The part of a session that is one bidder's; what of a session its being right doesn't say, and its journal's tests do.
+-- The part of a session that is one bidder's; what of a session its
+-- being right doesn't say, and its journal's tests do.
 use Rattle.std.specs.Prelude.{ℕ, List, map}
 use Rattle.std.specs.List.{AllByRecursion}
 use Rattle.ice_defs.specs.Rows.{HasCommonDivisor}
@@ -25,7 +26,13 @@ part_of x b own = record {
   goods = x.exchange.goods;
   bidder = own.bidder;
   going = map (step_of b own.bidder.name) x.going;
-  closed = record { regret = x.closed.settlement.regret; kept = own.kept; cut = x.closed.cut; surplus = x.closed.surplus; payment = own.payment };
+  closed = record {
+    regret = x.closed.settlement.regret;
+    kept = own.kept;
+    cut = x.closed.cut;
+    surplus = x.closed.surplus;
+    payment = own.payment;
+  };
 }
 
 -- all prices are in lowest terms, and each discount is what the cut leaves

@@ -1,5 +1,6 @@
 -- What a closed journal says to one bidder: what is published, and what is its own.
-use Rattle.std.specs.Prelude.{ℕ, ◌≡◌, Bool, true, false, if◌then◌else◌, List, [], ◌∷◌, ◌++◌, map, filter, codes, slice_index_or, slice_get, Some}
+use Rattle.std.specs.Prelude.{ℕ, ◌≡◌, Bool, true, false, if◌then◌else◌, List, [], ◌∷◌, ◌++◌, map, filter, codes, slice_index_or, slice_get}
+use Rattle.std.specs.Prelude.{Some}
 use Rattle.std.specs.List.{flat_map, join_with_byte}
 use Rattle.ice_defs.specs.Set.{NodeSet}
 use Rattle.ice_defs.specs.Round.{Judged, of_name}
@@ -25,7 +26,8 @@ is_published other = false
 abbrev pub published : List Record → List Record
 published journal = filter is_published journal
 
--- a bidder's part of a settlement that goes on: its final set, its provisional set, its submissions with their verdicts
+-- a bidder's part of a settlement that goes on: its final set, its
+-- provisional set, its submissions with their verdicts
 pub record OwnGoing : Type 0 where
   pub kept : NodeSet
   pub offered : NodeSet
@@ -39,7 +41,12 @@ pub record Own : Type 0 where
   pub payment : Payment
 
 abbrev pub own_going : ℕ → List ℕ → Going → OwnGoing
-own_going b name g = record { kept = slice_index_or g.settlement.final.sets b []; offered = slice_index_or g.provisional.sets b []; judged = of_name name g.judged }
+own_going b name g =
+    record {
+      kept = slice_index_or g.settlement.final.sets b [];
+      offered = slice_index_or g.provisional.sets b [];
+      judged = of_name name g.judged;
+    }
 
 -- the own part of the bidder with this number and name, in a session
 pub record IsOwn (s : Session) (name : List ℕ) (own : Own) : Type 0 where

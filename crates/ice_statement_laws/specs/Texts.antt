@@ -11,7 +11,8 @@ use Rattle.ice_journal_laws.specs.Fields.{payment_in}
 use Rattle.ice_journal_laws.specs.Checks.{Failure, Checks}
 use Rattle.ice_journal_laws.specs.Theorems.{Says}
 use Rattle.ice_journal_laws.specs.Written.{session_records}
-use Rattle.ice_statement_laws.specs.Statement.{published, Own, IsOwn, StatementLine, named, shown, kept, offered, ended, statement_text, statement_of}
+use Rattle.ice_statement_laws.specs.Statement.{published, Own, IsOwn, StatementLine, named, shown, kept, offered, ended, statement_text}
+use Rattle.ice_statement_laws.specs.Statement.{statement_of}
 use Rattle.ice_statement_laws.specs.Audit.{IsAudit}
 
 -- ---- the statement of a journal
@@ -23,7 +24,8 @@ pub record IsOwnOf (journal : List Record) (name : List ℕ) (own : Own) : Type 
   pub right : IsRight session
   pub is_own : IsOwn session name own
 
--- the bytes are a closed journal that passes every test, and this text is its statement for the named bidder, whose own this is
+-- the bytes are a closed journal that passes every test, and this
+-- text is its statement for the named bidder, whose own this is
 pub record States (bytes : List ℕ) (name : List ℕ) (own : Own) (text : List ℕ) : Type 0 where
   pub journal : List Record
   pub spelled : IsJournal bytes journal
