@@ -1,6 +1,5 @@
 -- A text that is put, or a journal piece by piece: each seen as one text with one status.
 use Rattle.std.proofs.Common.{◌≡◌, refl, sym, subst, ℕ, List, [], ◌++◌, Option, Result, Ok, Err, MatchResult, inl, inr, append_assoc}
-use Rattle.std.specs.List.{flat_map}
 use Rattle.std.proofs.lemmas.List.{append-nil}
 use Rattle.std.proofs.lemmas.List.Concat.{flat_map-append}
 use Rattle.ice_edge.specs.declared.sink.SinkFault.{SinkFault}
