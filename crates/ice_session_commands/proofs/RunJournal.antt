@@ -1,8 +1,9 @@
 -- The journal that `run` writes is one of which its contract speaks.
-use Rattle.std.proofs.Common.{◌≡◌, ◌∙◌, ◌+◌, ◌<◌, ◌≤◌, ℕ, suc, List, [], ◌∷◌, ◌++◌, length, map, drop, refl, sym, ap, subst, arith, append_assoc, Some, Ok, inr, length-append}
+use Rattle.std.proofs.Common.{◌≡◌, ◌∙◌, ◌+◌, ◌<◌, ◌≤◌, ℕ, suc, List, [], ◌∷◌, ◌++◌, length, map, drop, refl, sym, ap, subst, arith, append_assoc, Option, Some, Ok, length-append}
 use Rattle.std.specs.Prelude.{slice_get}
 use Rattle.std.specs.List.{AllByRecursion}
 use Rattle.std.proofs.lemmas.List.{append-nil}
+use Rattle.ice_edge.specs.Told.{Told}
 use Rattle.ice_edge.specs.declared.status.Status.{Status}
 use Rattle.ice_edge.specs.declared.status.Status.TheVariants.{Done, Input, Spent, Limit, ReadFault, NoMemory, StillOpen}
 use Rattle.ice_defs.specs.FileFault.{FileFault}
@@ -35,24 +36,26 @@ use Rattle.ice_round.proofs.GoingOn.{more_rounds}
 use Rattle.ice_session_laws.proofs.Sessions.{run_is_unended, run_closes}
 use Rattle.ice_session_laws.proofs.RoundStops.{round_is_unended, round_stops, round_stays_open}
 use Rattle.ice_branch_laws.specs.Branches.{enough_for_session}
+use Rattle.ice_commands.specs.declared.refusal.Refusal.{Refusal}
+use Rattle.ice_commands.specs.declared.refusal.Refusal.TheVariants as refusal
 use Rattle.ice_commands.specs.Call.{Call, FaultRose, file_limit, OfFile, IsRefused}
-use Rattle.ice_commands.specs.Files.{IsExchangeOf, IsRoundFault}
-use Rattle.ice_commands.specs.Journals.{HasExchangeOf}
+use Rattle.ice_commands.specs.Files.{IsExchangeOf, IsExchangeFault, HoldsExchange, IsRoundFault}
+use Rattle.ice_commands.specs.Journals.{WritesBehind}
+use Rattle.ice_commands.specs.Output.{refused_line, unread_line}
+use Rattle.ice_commands.specs.Parts.{Answers, Serves}
+use Rattle.ice_commands.specs.Refusals.{fault_of, refusal_text, refusal_status, Refuses}
+use Rattle.ice_commands.proofs.Parts.{told_in_call}
 use Rattle.ice_session_commands.specs.Rounds.{rounds_in, BeginsRound, HasRoundsOf, submissions_of, AreRoundsOf, IsRunSoFar}
 use Rattle.ice_session_commands.specs.RunServed.{IsRunText, nothing, of_journal, RunAnswers}
 use Rattle.ice_session_commands.specs.RunServed as served
-use Rattle.ice_session_commands.specs.RunJournal.{HasRun, HasOpened, IsRunJournal, between, in_round, closes, spends, limits, stays_open, refuses, fails_to_read}
-use Rattle.ice_session_commands.specs.RunJournal as run
+use Rattle.ice_session_commands.specs.SessionEnds.{EndsSettling, without_memory, opens, closes, spends, limits}
+use Rattle.ice_session_commands.specs.RunJournal.{HasRun, HasOpened, IsRunJournal, RunsTo, settles, in_round, stays_open, refuses, fails_to_read}
+use Rattle.ice_session_commands.proofs.Begun.{has_exchange}
 use Rattle.ice_commands.proofs.RegretJournal.{told_also}
 use Rattle.ice_session_commands.proofs.RoundFaults.{round_fault_is_record}
 use Rattle.ice_session_commands.proofs.RunRounds.{IsOther, SettlesOnce, settles_more, position_settles, closed_settles, spent_other, limit_other, offered_other, once_behind, none_behind, round_behind, begins_none, whole_rounds, last_round, rounds_count}
 
 module _ (call : Call) (name : List ℕ) (files : List (List ℕ)) where
-  -- ---- the exchange of the file, behind which more is written
-
-  has_exchange : (ex : Exchange) (journal rest : List Record) → OfFile call name file_limit (λ bytes. IsExchangeOf bytes (Ok ex)) → journal ≡ begun_records ex ++ rest → HasExchangeOf call name session_kind journal
-  has_exchange ex journal rest told e = told_also (call.before.holds name) file_limit (λ bytes. IsExchangeOf bytes (Ok ex)) _ (λ bytes is. (ex, is, inr (rest, e))) told
-
   abbrev goings : Exchange → List Going → List Record
   goings ex going = goings_in version_2 (length (exact_of ex)) 0 going
 
@@ -62,13 +65,13 @@ module _ (call : Call) (name : List ℕ) (files : List (List ℕ)) where
         → IsRunSoFar call name files session_kind (run_records s.exchange going ++ more)
     so_far_behind more rounds e has so_far = record {
       so_far = so_far;
-      exchange_is = has_exchange s.exchange (run_records s.exchange going ++ more) (goings s.exchange going ++ more) told (append_assoc (begun_records s.exchange) (goings s.exchange going) more);
+      exchange_is = has_exchange call name s.exchange (run_records s.exchange going ++ more) (goings s.exchange going ++ more) told (append_assoc (begun_records s.exchange) (goings s.exchange going) more);
       rounds_are = subst (HasRoundsOf call files) (sym e) has;
     }
 
-    once_so_far : AreRoundsOf call files going → (more : List Record) → SettlesOnce more → IsSoFar session_kind (run_records s.exchange going ++ more) → IsRunSoFar call name files session_kind (run_records s.exchange going ++ more)
-    once_so_far are more once so_far =
-        so_far_behind more (map submissions_of going ++ [] ∷ []) (once_behind s.exchange going more once) (last_round call files going [] are (begins_none call (drop (length going) files))) so_far
+    once_so_far : AreRoundsOf call files going → (number : ℕ) (more : List Record) → SettlesOnce number more → IsSoFar session_kind (run_records s.exchange going ++ more) → IsRunSoFar call name files session_kind (run_records s.exchange going ++ more)
+    once_so_far are number more once so_far =
+        so_far_behind more (map submissions_of going ++ [] ∷ []) (once_behind s.exchange going number more once) (last_round call files going [] are (begins_none call (drop (length going) files))) so_far
 
     -- ---- nothing stopped
 
@@ -77,7 +80,7 @@ module _ (call : Call) (name : List ℕ) (files : List (List ℕ)) where
         let found : IsUnended (run_records s.exchange going) = run_is_unended going s has.running in
         let is : IsRunSoFar call name files session_kind (run_records s.exchange going) = record {
           so_far = found.so_far;
-          exchange_is = has_exchange s.exchange (run_records s.exchange going) (goings s.exchange going) told refl;
+          exchange_is = has_exchange call name s.exchange (run_records s.exchange going) (goings s.exchange going) told refl;
           rounds_are = subst (HasRoundsOf call files) (sym (none_behind s.exchange going)) (whole_rounds call files going has.rounds);
         } in
         subst (IsRunText call name files) (sym text) (of_journal is found.unstopped)
@@ -92,7 +95,7 @@ module _ (call : Call) (name : List ℕ) (files : List (List ℕ)) where
           session = closed_session going s c;
           written = record { lawful = ended.so_far.lawful; spelled = text };
           says = ended.says;
-          so_far = once_so_far has.rounds (closing_records c) (closed_settles version_2 (length (exact_of c.exchange)) c.number (closed_of c.exchange c)) ended.so_far;
+          so_far = once_so_far has.rounds c.number (closing_records c) (closed_settles version_2 (length (exact_of c.exchange)) c.number (closed_of c.exchange c)) ended.so_far;
           exchange_is = told;
           rounds_are = has.rounds;
           right = ended.right;
@@ -111,7 +114,7 @@ module _ (call : Call) (name : List ℕ) (files : List (List ℕ)) where
           journal = run_records s.exchange going ++ position ++ spent_records s.exchange spent;
           written = record { lawful = is.so_far.lawful; spelled = text };
           so_far = subst (IsRunSoFar call name files session_kind) (sym grouped)
-              (once_so_far has.rounds (position ++ spent_records s.exchange spent) (settles_more position (spent_records s.exchange spent) (position_settles version_2 (length (exact_of s.exchange)) s.number at) (spent_other s.exchange spent))
+              (once_so_far has.rounds s.number (position ++ spent_records s.exchange spent) (settles_more s.number position (spent_records s.exchange spent) (position_settles version_2 (length (exact_of s.exchange)) s.number at) (spent_other s.exchange spent))
               (subst (IsSoFar session_kind) grouped is.so_far));
           spent = is.spent;
           few = told_also (call.before.holds name) file_limit (λ bytes. IsExchangeOf bytes (Ok s.exchange)) _ (λ bytes exchange. (s.exchange, exchange, fewer)) told;
@@ -127,9 +130,9 @@ module _ (call : Call) (name : List ℕ) (files : List (List ℕ)) where
           journal = run_records s.exchange going ++ sought ++ limit_records limit;
           written = record { lawful = is.so_far.lawful; spelled = text };
           so_far = subst (IsRunSoFar call name files session_kind) (sym grouped)
-              (once_so_far has.rounds (sought ++ limit_records limit)
-              (settles_more sought (limit_records limit)
-              (settles_more position (group_records version_2 (length (exact_of s.exchange)) (line.provisional offered.value) (proved_found offered)) (position_settles version_2 (length (exact_of s.exchange)) s.number (before_provisional (settlement_of final amount)))
+              (once_so_far has.rounds s.number (sought ++ limit_records limit)
+              (settles_more s.number sought (limit_records limit)
+              (settles_more s.number position (group_records version_2 (length (exact_of s.exchange)) (line.provisional offered.value) (proved_found offered)) (position_settles version_2 (length (exact_of s.exchange)) s.number (before_provisional (settlement_of final amount)))
               (offered_other version_2 (length (exact_of s.exchange)) (proved_found offered)))
               (limit_other limit))
               (subst (IsSoFar session_kind) grouped is.so_far));
@@ -147,7 +150,7 @@ module _ (call : Call) (name : List ℕ) (files : List (List ℕ)) where
         → IsRunSoFar call name files session_kind (round_records s going last ++ more)
     round_so_far more others are begins so_far = record {
       so_far = so_far;
-      exchange_is = has_exchange s.exchange (round_records s going last ++ more) (goings s.exchange going ++ (here ++ more)) told
+      exchange_is = has_exchange call name s.exchange (round_records s going last ++ more) (goings s.exchange going ++ (here ++ more)) told
           (append_assoc (run_records s.exchange going) here more ∙ append_assoc (begun_records s.exchange) (goings s.exchange going) (here ++ more));
       rounds_are = subst (HasRoundsOf call files) (sym (round_behind s going last more others)) (last_round call files going (submissions_of last) are begins);
     }
@@ -160,7 +163,7 @@ module _ (call : Call) (name : List ℕ) (files : List (List ℕ)) where
         let found : IsUnended (round_records s going last) = round_is_unended going s last r round in
         let is : IsRunSoFar call name files session_kind (round_records s going last) = record {
           so_far = found.so_far;
-          exchange_is = has_exchange s.exchange (round_records s going last) (goings s.exchange going ++ here) told (append_assoc (begun_records s.exchange) (goings s.exchange going) here);
+          exchange_is = has_exchange call name s.exchange (round_records s going last) (goings s.exchange going ++ here) told (append_assoc (begun_records s.exchange) (goings s.exchange going) here);
           rounds_are = subst (HasRoundsOf call files) (sym rounds_here) (last_round call files going (submissions_of last) are begins);
         } in
         subst (IsRunText call name files) (sym text) (of_journal is found.unstopped)
@@ -214,15 +217,41 @@ module _ (call : Call) (name : List ℕ) (files : List (List ℕ)) where
           (stops_so_far (line.unread (length going + 2)) tt (subst (λ (k : ℕ). StopsRound k (line.unread (length going + 2))) opened.in_round.running.number file_unread) (omega arith, omega (arith, few_files)))
           text
 
+-- a settlement that ends the session
+settled_answers : (call : Call) (name : List ℕ) (files : List (List ℕ)) (going : List Going) (s : SessionAt) (told : OfFile call name file_limit (λ bytes. IsExchangeOf bytes (Ok s.exchange))) → HasRun call files going s
+    → (journal : List Record) (status : Status) → EndsSettling going s journal status → call.text ≡ bytes_of journal → RunAnswers call name files status
+settled_answers call name files going s told has _ _ without_memory text = between_answers call name files s going told has text
+settled_answers call name files going s told has _ _ (opens last r round none) text =
+    in_round_answers call name files s going last r told round has.rounds (begins_here call name files s going last r told (record { in_round = round; none = none; rounds = has.rounds })) text
+settled_answers call name files going s told has _ _ (closes c is records) text = close_answers call name files s going told c has is records text
+settled_answers call name files going s told has _ _ (spends at spent fewer is) text = spent_answers call name files s going told at spent has fewer is text
+settled_answers call name files going s told has _ _ (limits final amount offered limit rounds is) text = limit_answers call name files s going told final amount offered limit has rounds is text
+
 -- what is written answers the call
 pub run_answers : (call : Call) (name : List ℕ) (files : List (List ℕ)) (ex : Exchange) (journal : List Record) (status : Status) → OfFile call name file_limit (λ bytes. IsExchangeOf bytes (Ok ex)) → IsRunJournal call files ex journal status
     → call.text ≡ bytes_of journal → RunAnswers call name files status
-run_answers call name files _ _ _ told run.nothing text = subst (IsRunText call name files) (sym text) nothing
-run_answers call name files _ _ _ told (between going s has) text = between_answers call name files s going told has text
+run_answers call name files _ journal status told (settles going s has ends) text = settled_answers call name files going s told has journal status ends text
 run_answers call name files _ _ _ told (in_round going s last r round are begins) text = in_round_answers call name files s going last r told round are begins text
-run_answers call name files _ _ _ told (closes going s c has is records) text = close_answers call name files s going told c has is records text
-run_answers call name files _ _ _ told (spends going s at spent has fewer is) text = spent_answers call name files s going told at spent has fewer is text
-run_answers call name files _ _ _ told (limits going s final amount offered limit has rounds is) text = limit_answers call name files s going told final amount offered limit has rounds is text
 run_answers call name files _ _ _ told (stays_open going s last r opened all) text = stays_answers call name files s going last r told opened all text
 run_answers call name files _ _ _ told (refuses going s last r file fault opened there refused) text = refuse_answers call name files s going last r told opened file fault there refused text
 run_answers call name files _ _ _ told (fails_to_read going s last r file opened there rose) text = unread_answers call name files s going last r told opened file there rose text
+
+-- ---- what `run` answers
+
+pub journal_serves : (before after : Told) (name : List ℕ) (files : List (List ℕ)) (ex : Exchange) (old new : Option (List ℕ)) (f g : ℕ) (result : Status) → HoldsExchange before name ex → WritesBehind [] (RunsTo ex files before after) old new f g result
+    → Serves (λ call. RunAnswers call name files) before after old new f g result
+journal_serves before after name files ex old new f g result told (rest, status, is, said) = (
+  bytes_of rest,
+  status,
+  λ call part text. run_answers call name files ex rest status (told_in_call call before after name file_limit (λ bytes. IsExchangeOf bytes (Ok ex)) part told) (is call part) text,
+  said,
+)
+
+pub refusal_serves : (before after : Told) (name : List ℕ) (files : List (List ℕ)) (given : Refusal) → Refuses 1 name file_limit IsExchangeFault before after given → Answers (λ call. RunAnswers call name files) before after (refusal_text given) (refusal_status given)
+refusal_serves before after name files (refusal.File number fault) why call part text =
+    let h = why call part in
+    served.at_start (fault_of fault) h.1 (text ∙ ap (λ n. refused_line n (fault_of fault)) h.0)
+refusal_serves before after name files (refusal.Unread number) why call part text =
+    let h = why call part in
+    served.at_start h.1 (text ∙ ap unread_line h.0)
+refusal_serves before after name files refusal.NoMemory why call part text = subst (IsRunText call name files) (sym text) nothing

@@ -14,7 +14,7 @@ use Rattle.ice_round.specs.SessionAt.{RoundAt}
 use Rattle.ice_write_session.proofs.Puts.{fails_then, takes_then}
 use Rattle.ice_trial.specs.Rounds.{submissions_in, GoesOnBy}
 use Rattle.ice_trial.proofs.Submitting.{goes_on_more, goes_on_none}
-use Rattle.ice_session_commands.specs.RunSteps.{HaveJudged, Judges}
+use Rattle.ice_session_commands.specs.SessionSteps.{HaveJudged, Judges}
 
 pub none_judged : (r : RoundAt) (bids : List Submission) (old : Option (List ℕ)) (f : ℕ) → HaveJudged r r bids 0 old old f f
 none_judged r bids old f = record { judged = []; bids_are = refl; goes_on = goes_on_none r; takes = takes_nothing old f }

@@ -1,5 +1,5 @@
 -- The rounds of a run's journal are the bids of its files.
-use Rattle.std.proofs.Common.{◌≡◌, ◌∙◌, ◌+◌, ℕ, suc, Bool, true, false, cond, List, [], ◌∷◌, ◌++◌, length, map, refl, sym, ap, arith, append_assoc, drop, ℤ}
+use Rattle.std.proofs.Common.{◌≡◌, ◌∙◌, ℕ, suc, Bool, true, false, cond, List, [], ◌∷◌, ◌++◌, length, map, refl, sym, ap, arith, append_assoc, drop, ℤ}
 use Rattle.std.specs.List.{AllByRecursion, flat_map}
 use Rattle.std.proofs.lemmas.List.{append-nil}
 use Rattle.ice_defs.specs.declared.NodeKind.{NodeKind}
@@ -140,22 +140,20 @@ members_other (m ∷ pool) = (tt, members_other pool)
 
 -- ---- settlements
 
--- these records settle once, and submit nothing
-pub record SettlesOnce (records : List Record) : Type 0 where
-  pub number : ℕ
+-- these records settle once, with this number, and submit nothing
+pub record SettlesOnce (number : ℕ) (records : List Record) : Type 0 where
   pub rest : List Record
   pub is : records ≡ line.settle number ∷ rest
   pub others : AllByRecursion IsOther rest
 
-pub settles_more : (xs ys : List Record) → SettlesOnce xs → AllByRecursion IsOther ys → SettlesOnce (xs ++ ys)
-settles_more xs ys once others = record { number = once.number; rest = once.rest ++ ys; is = ap (λ (rs : List Record). rs ++ ys) once.is; others = all-append IsOther once.rest ys once.others others }
+pub settles_more : (number : ℕ) (xs ys : List Record) → SettlesOnce number xs → AllByRecursion IsOther ys → SettlesOnce number (xs ++ ys)
+settles_more number xs ys once others = record { rest = once.rest ++ ys; is = ap (λ (rs : List Record). rs ++ ys) once.is; others = all-append IsOther once.rest ys once.others others }
 
-pub position_settles : (v : Version) (goods number : ℕ) (at : Position) → SettlesOnce (position_records v goods number at)
-position_settles v goods number before_final = record { number = number; rest = []; is = refl; others = tt }
-position_settles v goods number (before_rival final) = record { number = number; rest = _; is = refl; others = group_other v goods (line.final final.value) final tt }
-position_settles v goods number (before_provisional x) = record { number = number; rest = _; is = refl; others = regret_other v goods x }
+pub position_settles : (v : Version) (goods number : ℕ) (at : Position) → SettlesOnce number (position_records v goods number at)
+position_settles v goods number before_final = record { rest = []; is = refl; others = tt }
+position_settles v goods number (before_rival final) = record { rest = _; is = refl; others = group_other v goods (line.final final.value) final tt }
+position_settles v goods number (before_provisional x) = record { rest = _; is = refl; others = regret_other v goods x }
 position_settles v goods number (before_without x withouts) = record {
-  number = number;
   rest = _;
   is = refl;
   others = all-append IsOther (regret_group_records v goods x) (without_group_records v goods 0 withouts) (regret_other v goods x) (withouts_other v goods 0 withouts);
@@ -170,13 +168,12 @@ limit_other limit = all-append IsOther (line.limit (stage_of limit.stage) (limit
 pub offered_other : (v : Version) (goods : ℕ) (p : Proved) → AllByRecursion IsOther (group_records v goods (line.provisional p.value) p)
 offered_other v goods p = group_other v goods (line.provisional p.value) p tt
 
-pub closed_settles : (v : Version) (goods number : ℕ) (c : Closed) → SettlesOnce (closed_in v goods number c)
+pub closed_settles : (v : Version) (goods number : ℕ) (c : Closed) → SettlesOnce number (closed_in v goods number c)
 closed_settles v goods number c =
     let charged : List Record = line.threshold c.cut c.surplus ∷ map payment_record c.payments in
     let settled : List Record = regret_group_records v goods c.settlement in
     let withouts : List Record = without_group_records v goods 0 c.withouts in
     record {
-      number = number;
       rest = ((settled ++ withouts) ++ charged) ++ line.end closed_end ∷ [];
       is = refl;
       others = all-append IsOther ((settled ++ withouts) ++ charged) (line.end closed_end ∷ [])
@@ -184,14 +181,14 @@ closed_settles v goods number c =
           (tt, tt);
     }
 
-once_rounds : (records : List Record) → SettlesOnce records → rounds_in records ≡ [] ∷ []
-once_rounds records once =
+once_rounds : (number : ℕ) (records : List Record) → SettlesOnce number records → rounds_in records ≡ [] ∷ []
+once_rounds number records once =
     ap rounds_in once.is
     ∙ ap (λ (s : List Submission). s ∷ rounds_in once.rest) (ap submissions_before_next (sym (append-nil once.rest)) ∙ before_skip once.rest [] once.others)
     ∙ ap (λ (rs : List (List Submission)). [] ∷ rs) (ap rounds_in (sym (append-nil once.rest)) ∙ rounds_skip once.rest [] once.others)
 
-once_before : (records : List Record) → SettlesOnce records → submissions_before_next records ≡ []
-once_before records once = ap submissions_before_next once.is
+once_before : (number : ℕ) (records : List Record) → SettlesOnce number records → submissions_before_next records ≡ []
+once_before number records once = ap submissions_before_next once.is
 
 -- ---- settlements that go on
 
@@ -233,8 +230,8 @@ run_rounds ex going ys none =
     ∙ goings_rounds version_2 (length (exact_of ex)) 0 going ys none
 
 -- behind it, records that settle once
-pub once_behind : (ex : Exchange) (going : List Going) (records : List Record) → SettlesOnce records → rounds_in (run_records ex going ++ records) ≡ map submissions_of going ++ [] ∷ []
-once_behind ex going records once = run_rounds ex going records (once_before records once) ∙ ap (λ (rs : List (List Submission)). map submissions_of going ++ rs) (once_rounds records once)
+pub once_behind : (ex : Exchange) (going : List Going) (number : ℕ) (records : List Record) → SettlesOnce number records → rounds_in (run_records ex going ++ records) ≡ map submissions_of going ++ [] ∷ []
+once_behind ex going number records once = run_rounds ex going records (once_before number records once) ∙ ap (λ (rs : List (List Submission)). map submissions_of going ++ rs) (once_rounds number records once)
 
 -- nothing behind it
 pub none_behind : (ex : Exchange) (going : List Going) → rounds_in (run_records ex going) ≡ map submissions_of going

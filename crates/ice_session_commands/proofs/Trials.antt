@@ -1,5 +1,5 @@
 -- What `gen` answers: the figures of a trial, or its journal.
-use Rattle.std.proofs.Common.{◌≡◌, ◌∙◌, ◌+◌, ℕ, Bool, true, false, cond, List, [], ◌∷◌, ◌++◌, length, map, ℤ, pos, ◌≤ℤ◌, refl, sym, ap, subst, arith, append_assoc, IsTrue, Option, Some, None, inl, inr}
+use Rattle.std.proofs.Common.{◌≡◌, ◌∙◌, ℕ, Bool, true, false, cond, List, [], ◌∷◌, ◌++◌, length, map, ℤ, pos, ◌≤ℤ◌, refl, sym, ap, subst, arith, append_assoc, IsTrue, Option, Some, None, inl, inr}
 use Rattle.std.specs.Prelude.{int_le, int_lt, ◌<ℤ◌, ◌||◌, ◌==◌, IfSome}
 use Rattle.std.specs.List.{AllByRecursion, flat_map}
 use Rattle.std.proofs.lemmas.List.{append-nil}
@@ -12,7 +12,6 @@ use Rattle.ice_defs.specs.declared.Verdict.TheVariants.{Accepted}
 use Rattle.ice_defs.specs.Bounds.{Bounds}
 use Rattle.ice_defs.specs.Round.{Submission, Judged}
 use Rattle.ice_defs.specs.Exchange.{Exchange, exact_of, market_of}
-use Rattle.ice_defs.specs.Session.{closes}
 use Rattle.ice_regret_laws.proofs.Regrets.{regret_is_not_negative}
 use Rattle.ice_journal.specs.Records.{Record, version_2, session_kind}
 use Rattle.ice_journal.specs.Records as line
@@ -51,7 +50,7 @@ use Rattle.ice_session_commands.specs.Rounds.{rounds_in, submissions_of}
 use Rattle.ice_commands.specs.Parts.{Serves}
 use Rattle.ice_session_commands.specs.GenServed.{Says, summary_text, AreTruthRounds, GenStops, GenAnswers}
 use Rattle.ice_session_commands.specs.GenJournal.{accepted_text, first_records, trial_records}
-use Rattle.ice_session_commands.proofs.RunPlaying.{halt_at, halt_at_prices}
+use Rattle.ice_session_commands.proofs.Settling.{halt_at, halt_at_prices}
 use Rattle.ice_session_commands.proofs.RunRounds.{SettlesOnce, settles_more, position_settles, spent_other, limit_other, offered_other, once_behind}
 
 -- ---- the session closed
@@ -140,9 +139,9 @@ module _ (number : ℕ) (first : Option TruthRound) (s : SessionAt) (trial : IsT
       by (Some r) h same = inr (same ∙ ap (λ (bs : List Submission). bs ∷ [] ∷ []) (judged_bids r.bids.items ∙ h.bids))
 
   -- records behind the round that settle once
-  module _ (rest : List Record) (once : SettlesOnce rest) where
+  module _ (rest : List Record) (once : SettlesOnce s.number rest) where
     same_rounds : rounds_in (trial_records s.exchange first ++ rest) ≡ map submissions_of (goings_of first) ++ [] ∷ []
-    same_rounds = ap (λ (rs : List Record). rounds_in (rs ++ rest)) begun_are ∙ once_behind s.exchange (goings_of first) rest once
+    same_rounds = ap (λ (rs : List Record). rounds_in (rs ++ rest)) begun_are ∙ once_behind s.exchange (goings_of first) s.number rest once
 
     stops : (text : List ℕ) → IsSoFar session_kind (run_records s.exchange (goings_of first) ++ rest) → text ≡ bytes_of (trial_records s.exchange first ++ rest) → GenStops text number (trial_records s.exchange first ++ rest)
     stops text so_far spelled =
@@ -169,7 +168,7 @@ module _ (number : ℕ) (first : Option TruthRound) (s : SessionAt) (trial : IsT
       written ∙ ap (λ (x : Exchange). bytes_of (trial_records x first ++ (halt_records h ++ spent_records x spent))) halt.exchange
       ∙ ap (λ (rs : List Record). bytes_of (trial_records s.exchange first ++ (rs ++ spent_records s.exchange spent))) same in (
         trial_records s.exchange first ++ behind,
-        stops behind (settles_more position (spent_records s.exchange spent) (position_settles version_2 (length (exact_of s.exchange)) s.number at) (spent_other s.exchange spent)) text
+        stops behind (settles_more s.number position (spent_records s.exchange spent) (position_settles version_2 (length (exact_of s.exchange)) s.number at) (spent_other s.exchange spent)) text
             (subst (IsSoFar session_kind) grouped ended.so_far) spelled,
         subst (IsSpent session_kind) (grouped ∙ ap (λ (rs : List Record). rs ++ behind) (sym begun_are)) ended.spent,
       )
@@ -186,9 +185,9 @@ module _ (number : ℕ) (s : SessionAt) (trial : IsTrial (generated number) (tru
       let behind : List Record = said ++ limit_records limit in
       let position : List Record = position_records version_2 (length (exact_of s.exchange)) s.number (before_provisional (settlement_of sought.final sought.amount)) in
       let grouped = append_assoc (run_records s.exchange []) said (limit_records limit) in
-      let once : SettlesOnce (said ++ limit_records limit) =
-      settles_more said (limit_records limit)
-      (settles_more position (group_records version_2 (length (exact_of s.exchange)) (line.provisional sought.offered.value) (proved_found sought.offered))
+      let once : SettlesOnce s.number (said ++ limit_records limit) =
+      settles_more s.number said (limit_records limit)
+      (settles_more s.number position (group_records version_2 (length (exact_of s.exchange)) (line.provisional sought.offered.value) (proved_found sought.offered))
       (position_settles version_2 (length (exact_of s.exchange)) s.number (before_provisional (settlement_of sought.final sought.amount))) (offered_other version_2 (length (exact_of s.exchange)) (proved_found sought.offered)))
       (limit_other limit) in
       let spelled : text ≡ bytes_of (trial_records s.exchange None ++ (said ++ limit_records limit)) =

@@ -1,7 +1,12 @@
 pub mod Rounds
 pub mod RunServed
+pub mod SessionEnds
 pub mod RunJournal
-pub mod RunSteps
+pub mod SimulateJournal
+pub mod Sources
+pub mod SessionSteps
+pub mod TruthParts
+pub mod SimulateServed
 pub mod GenServed
 pub mod GenLines
 pub mod GenJournal

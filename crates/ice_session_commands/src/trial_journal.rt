@@ -14,7 +14,7 @@ ghost use Rattle.ice_session_laws.specs.Written.{begun_records};
 ghost use Rattle.ice_trial.specs.Rounds.{accepted};
 ghost use Rattle.ice_session_commands.specs.GenJournal.{first_records, trial_records};
 
-use crate::run_journal::{bound_of, put_begin, put_halted, put_limited};
+use crate::session_journal::{bound_of, put_begin, put_halted, put_limited};
 use ice_edge::{Sink, SinkFault};
 use ice_price::PriceLimit;
 use ice_rules::Verdict;

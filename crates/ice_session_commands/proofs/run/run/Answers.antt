@@ -2,7 +2,7 @@ use Rattle.std.proofs.Common.{map}
 use Rattle.std.specs.Prelude.{string_bytes}
 use Rattle.ice_commands.specs.Refusals.{refusal_text, refusal_status}
 use Rattle.ice_commands.proofs.Parts.{later_part}
-use Rattle.ice_session_commands.proofs.RunPlaying.{journal_serves, refusal_serves}
+use Rattle.ice_session_commands.proofs.RunJournal.{journal_serves, refusal_serves}
 use Rattle.ice_commands.proofs.Keeping.{kept_behind, refusal_keeps}
 use Rattle.ice_session_commands.proofs.run.run.Goals as goal
 
@@ -10,10 +10,10 @@ pub returns-in-Ok-clause-served : goal.returns-in-Ok-clause-served
 returns-in-Ok-clause-served g c =
     let before = g.H.Shelf.told c.args.shelf.now in
     let shelf = g.H.Shelf.told c.read_exchange.new.shelf in
-    let after = g.H.Shelf.told c.write_run.new.shelf in
-    let (rest, status, is, said) = c.write_run.ensures.journal in
-    journal_serves before after c.args.exchange.now (map string_bytes c.args.rounds.now) c.in-Ok.exchange (g.K.Sink.written c.args.out.now) (g.K.Sink.written c.write_run.new.out)
-    (g.K.Sink.faults c.args.out.now) (g.K.Sink.faults c.write_run.new.out) c.write_run.result c.in-Ok.ensures.exchange
+    let after = g.H.Shelf.told c.hold_session.new.shelf in
+    let (rest, status, is, said) = c.hold_session.ensures.journal in
+    journal_serves before after c.args.exchange.now (map string_bytes c.args.rounds.now) c.in-Ok.exchange (g.K.Sink.written c.args.out.now) (g.K.Sink.written c.hold_session.new.out)
+    (g.K.Sink.faults c.args.out.now) (g.K.Sink.faults c.hold_session.new.out) c.hold_session.result c.in-Ok.ensures.exchange
     (rest, status, λ call part. is call (later_part call before shelf after part c.in-Ok.ensures.later), said)
 
 pub returns-in-Err-clause-served : goal.returns-in-Err-clause-served
@@ -23,10 +23,13 @@ returns-in-Err-clause-served g c =
 
 pub returns-in-Ok-clause-kept : goal.returns-in-Ok-clause-kept
 returns-in-Ok-clause-kept g c =
-    kept_behind (g.H.Shelf.told c.args.shelf.now) (g.H.Shelf.told c.read_exchange.new.shelf) (g.H.Shelf.told c.write_run.new.shelf) c.write_run.result c.in-Ok.ensures.kept c.write_run.ensures.kept
+    kept_behind (g.H.Shelf.told c.args.shelf.now) (g.H.Shelf.told c.read_exchange.new.shelf) (g.H.Shelf.told c.hold_session.new.shelf) c.hold_session.result c.in-Ok.ensures.kept c.hold_session.ensures.kept
 
 pub returns-in-Err-clause-kept : goal.returns-in-Err-clause-kept
 returns-in-Err-clause-kept g c =
     refusal_keeps (g.H.Shelf.told c.args.shelf.now) (g.H.Shelf.told c.read_exchange.new.shelf) c.in-Err.refusal
     (g.K.Sink.written c.args.out.now) (g.K.Sink.written c.say.new.out) (g.K.Sink.faults c.args.out.now) (g.K.Sink.faults c.say.new.out) c.say.result
     c.in-Err.ensures.kept_at_refusal c.say.ensures
+
+pub hold_session-requires : goal.hold_session-requires
+hold_session-requires g c = tt

@@ -1,4 +1,4 @@
-use Rattle.std.proofs.Common.{◌<◌, List, refl, sym, length, map, arith}
+use Rattle.std.proofs.Common.{◌<◌, refl, sym, length, arith}
 use Rattle.std.specs.List.{flat_map}
 use Rattle.std.proofs.lemmas.Result.{err_from_is_err_and}
 use Rattle.ice_journal.specs.Journal.{bytes_of}

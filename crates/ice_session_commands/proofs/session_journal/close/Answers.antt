@@ -1,0 +1,10 @@
+use Rattle.ice_edge.specs.declared.status.Status.TheVariants.{Done}
+use Rattle.ice_journal.specs.Journal.{bytes_of}
+use Rattle.ice_write_session.specs.Records.{closing_records}
+use Rattle.ice_commands.proofs.Writing.{put_said}
+use Rattle.ice_session_commands.proofs.session_journal.close.Goals as goal
+
+pub returns : goal.returns
+returns g c =
+    put_said c.put_closing.result (bytes_of (closing_records c.args.closing.now)) Done c.ended.result (g.K.Sink.written c.args.out.now) (g.K.Sink.written c.put_closing.new.out) (g.K.Sink.faults c.args.out.now) (g.K.Sink.faults c.put_closing.new.out)
+    c.put_closing.ensures c.ended.ensures

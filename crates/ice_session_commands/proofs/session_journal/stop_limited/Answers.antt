@@ -1,0 +1,11 @@
+use Rattle.std.proofs.Common.{◌++◌}
+use Rattle.ice_edge.specs.declared.status.Status.TheVariants.{Limit}
+use Rattle.ice_journal.specs.Journal.{bytes_of}
+use Rattle.ice_write_session.specs.Records.{halt_records, limit_records}
+use Rattle.ice_commands.proofs.Writing.{put_said}
+use Rattle.ice_session_commands.proofs.session_journal.stop_limited.Goals as goal
+
+pub returns : goal.returns
+returns g c =
+    put_said c.put_limited.result (bytes_of (halt_records c.args.halt.now ++ limit_records c.args.limit.now)) Limit c.ended.result (g.K.Sink.written c.args.out.now) (g.K.Sink.written c.put_limited.new.out)
+    (g.K.Sink.faults c.args.out.now) (g.K.Sink.faults c.put_limited.new.out) c.put_limited.ensures c.ended.ensures
