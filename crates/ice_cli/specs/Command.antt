@@ -11,6 +11,7 @@ pub data Command : Type 0 where
   gen : (number : ℕ) → Command
   run : (exchange : List ℕ) → (rounds : List (List ℕ)) → Command
   migrate : (journal : List ℕ) → Command
+  simulate : (exchange truths : List ℕ) → Command
   statement : (journal name : List ℕ) → Command
 
 abbrev pub words_of : Command → List (List ℕ)
@@ -22,6 +23,7 @@ words_of (replay journal number) = codes "replay" ∷ journal ∷ decimal number
 words_of (gen number) = codes "gen" ∷ decimal number ∷ []
 words_of (run exchange rounds) = codes "run" ∷ exchange ∷ rounds
 words_of (migrate journal) = codes "migrate" ∷ journal ∷ []
+words_of (simulate exchange truths) = codes "simulate" ∷ exchange ∷ truths ∷ []
 words_of (statement journal name) = codes "statement" ∷ journal ∷ name ∷ []
 
 -- a session has at most 20 rounds, and a run as many round files; the number of a generated exchange has 32 bits

@@ -43,6 +43,11 @@ pub enum Command<'a> {
     Migrate {
         journal: &'a str,
     },
+    /// `simulate EXCHANGE TRUTHS`
+    Simulate {
+        exchange: &'a str,
+        truths: &'a str,
+    },
     /// `statement JOURNAL NAME`
     Statement {
         journal: &'a str,
@@ -163,6 +168,10 @@ pub fn command_in(words: &[String]) -> Option<Command<'_>>
         "migrate" => {
             let journal = one_word(names)?;
             Some(Command::Migrate { journal })
+        }
+        "simulate" => {
+            let (exchange, truths) = two_words(names)?;
+            Some(Command::Simulate { exchange, truths })
         }
         "statement" => {
             let (journal, name) = two_words(names)?;

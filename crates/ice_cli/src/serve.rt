@@ -18,6 +18,7 @@ use ice_commands::xor::xor;
 use ice_edge::{Shelf, Sink, Status};
 use ice_session_commands::generated::generated;
 use ice_session_commands::run::run;
+use ice_session_commands::simulate::simulate;
 use std::alloc::Global;
 
 /// Refuses the words.
@@ -35,8 +36,9 @@ fn refuse_words<K: Sink>(out: &mut K) -> Status
 /// of the settlement with this number, from 0 to 20, `run EXCHANGE ROUND..` writes the journal of a
 /// session, whose rounds have the bids of at most 20 files, `gen NUMBER` writes a summary of the
 /// session of a generated exchange, `migrate JOURNAL` writes a journal of version 1 in version 2,
-/// and `statement JOURNAL NAME` writes what the journal of a closed session says to the bidder of
-/// this name.
+/// `simulate EXCHANGE TRUTHS` writes the journal of a session in which each bidder has a proxy that
+/// knows its true values, and `statement JOURNAL NAME` writes what the journal of a closed session
+/// says to the bidder of this name.
 ///
 /// Files come from `shelf`, and output goes to `out`: each line with its newline is one put, but of
 /// `migrate` many lines are, and of a statement's first line each part is. The status says how the
@@ -72,6 +74,9 @@ pub fn serve<H: Shelf, K: Sink>(
         Some(Command::Gen { number }) => generated(alloc, number, out),
         Some(Command::Run { exchange, rounds }) => run(alloc, exchange, rounds, shelf, out),
         Some(Command::Migrate { journal }) => migrate(alloc, journal, shelf, out),
+        Some(Command::Simulate { exchange, truths }) => {
+            simulate(alloc, exchange, truths, shelf, out)
+        }
         Some(Command::Statement { journal, name }) => statement(alloc, journal, name, shelf, out),
         None => refuse_words(out),
     }

@@ -1,12 +1,13 @@
 use Rattle.std.proofs.Common.{refl, [], map, string_bytes}
 use Rattle.ice_commands.specs.Call.{Call}
-use Rattle.ice_cli.specs.Command.{check, best, regret, xor, run, gen, migrate, replay, statement}
+use Rattle.ice_cli.specs.Command.{check, best, regret, xor, run, gen, migrate, simulate, replay, statement}
 use Rattle.ice_commands.specs.CheckServed.{CheckAnswers}
 use Rattle.ice_commands.specs.BestServed.{BestAnswers}
 use Rattle.ice_commands.specs.RegretServed.{RegretAnswers}
 use Rattle.ice_commands.specs.XorServed.{XorAnswers}
 use Rattle.ice_commands.specs.ReplayServed.{ReplayAnswers}
 use Rattle.ice_session_commands.specs.RunServed.{RunAnswers}
+use Rattle.ice_session_commands.specs.SimulateServed.{SimulateAnswers}
 use Rattle.ice_session_commands.specs.GenServed.{GenAnswers}
 use Rattle.ice_commands.specs.MigrateServed.{MigrateAnswers}
 use Rattle.ice_commands.specs.StatementServed.{StatementAnswers}
@@ -155,6 +156,22 @@ returns-in-Some-Statement-clause-served g c =
     } in
     served call (statement journal name) (λ one. StatementAnswers one journal name) (g.K.Sink.written c.args.out.now) (g.K.Sink.written c.statement.new.out)
     (rw c.in-Some-Statement.field-0-is at c.in-Some-Statement.ensures) (λ text status h. h) c.statement.ensures.served
+
+pub returns-in-Some-Simulate-clause-served : goal.returns-in-Some-Simulate-clause-served
+returns-in-Some-Simulate-clause-served g c =
+    let exchange = c.in-Some-Simulate.exchange.now in
+    let truths = c.in-Some-Simulate.truths.now in
+    let call : Call = record {
+      words = map string_bytes c.args.words.now;
+      before = g.H.Shelf.told c.args.shelf.now;
+      after = g.H.Shelf.told c.simulate.new.shelf;
+      sink_faults = g.K.Sink.faults c.args.out.now;
+      sink_faults_after = g.K.Sink.faults c.simulate.new.out;
+      text = [];
+      status = c.simulate.result;
+    } in
+    served call (simulate exchange truths) (λ one. SimulateAnswers one exchange truths) (g.K.Sink.written c.args.out.now) (g.K.Sink.written c.simulate.new.out)
+    (rw c.in-Some-Simulate.field-0-is at c.in-Some-Simulate.ensures) (λ text status h. h) c.simulate.ensures.served
 
 pub returns-in-None-clause-served : goal.returns-in-None-clause-served
 returns-in-None-clause-served g c =
