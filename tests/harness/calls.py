@@ -47,6 +47,7 @@ CALLS = {
         Call("run, with a round", "run @tightened.exchange @eight.round"),
         Call("run, open", "run @tightened.exchange @none.round @none.round"),
         Call("run, at a limit", "run @limit.exchange"),
+        Call("simulate", "simulate @two.json @two.truths"),
         Call("regret", "regret @choice.exchange"),
         Call("replay", "replay @rounds.session 1"),
         Call("migrate", "migrate @sale.session"),

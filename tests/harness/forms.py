@@ -33,6 +33,7 @@ DONE = {
     "regret": "end regret",
     "replay": "end replay",
     "run": "end closed",
+    "simulate": "end closed",
     "gen": "end gen",
     "migrate": "end (regret|closed|open|spent|limit)|unread [0-9]+|" + REFUSED,
     "statement": "end statement",
@@ -53,6 +54,7 @@ STATUSES = {
     "xor": {program.DONE, program.INPUT},
     "regret": {program.DONE, program.INPUT, program.SPENT},
     "run": {program.DONE, program.INPUT, program.SPENT, program.LIMIT, program.OPEN},
+    "simulate": {program.DONE, program.INPUT, program.SPENT, program.LIMIT},
     "gen": {program.DONE, program.SPENT, program.LIMIT},
 }
 
@@ -73,6 +75,7 @@ WHOLE: dict[str, Callable[[str], object]] = {
     "xor": is_exchange_text,
     "regret": lambda text: text.startswith("ice 2 regret\n"),
     "run": lambda text: text.startswith("ice 2 session\n"),
+    "simulate": lambda text: text.startswith("ice 2 session\n"),
     "migrate": lambda text: text.startswith("ice 2 "),
     "statement": lambda text: text.startswith("statement "),
     "gen": lambda text: text.count("\n") == 10,
