@@ -196,6 +196,7 @@ wrong_words() {
     '') echo "there is no command" ;;
     check | regret | migrate | xor) echo "\`${words[0]}\` takes one file, and $count words stand behind it" ;;
     best) echo "\`best\` takes an exchange and prices, and $count words stand behind it" ;;
+    simulate) echo "\`simulate\` takes an exchange and true values, and $count words stand behind it" ;;
     run)
         if [ "$count" = 0 ]; then echo "\`run\` takes an exchange, and no file is named"; else echo "\`run\` takes up to 20 round files, and $((count - 1)) are named"; fi
         ;;
