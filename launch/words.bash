@@ -194,7 +194,7 @@ wrong_words() {
     done
     case ${words[0]-} in
     '') echo "there is no command" ;;
-    check | regret | migrate | xor) echo "\`${words[0]}\` takes one file, and $count words stand behind it" ;;
+    check | regret | migrate | xor | audit) echo "\`${words[0]}\` takes one file, and $count words stand behind it" ;;
     best) echo "\`best\` takes an exchange and prices, and $count words stand behind it" ;;
     simulate) echo "\`simulate\` takes an exchange and true values, and $count words stand behind it" ;;
     run)

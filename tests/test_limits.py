@@ -136,7 +136,7 @@ class Limits(unittest.TestCase):
         self.answers(long, "refused 2 61 -\n", ["best", "sale.exchange", "file"])
 
     def test_length_of_a_journal(self):
-        calls = ["check", "file"], ["migrate", "file"], ["statement", "file", "s"]
+        calls = ["check", "file"], ["migrate", "file"], ["statement", "file", "s"], ["audit", "file"]
         self.answers(b"x" * made.JOURNAL_BYTES, "refused 1 51 1\n", *calls)
         self.answers(b"x" * (made.JOURNAL_BYTES + 1), "refused 1 61 -\n", *calls)
 

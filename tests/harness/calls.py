@@ -52,6 +52,7 @@ CALLS = {
         Call("replay", "replay @rounds.session 1"),
         Call("migrate", "migrate @sale.session"),
         Call("statement", "statement @rounds.session b"),
+        Call("audit", "audit @buyer.statement"),
         Call("best", "best @sale.json @fifteen.prices"),
         Call("xor", "xor @sales.json"),
         Call("gen", "gen 7"),

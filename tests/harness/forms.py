@@ -37,6 +37,7 @@ DONE = {
     "gen": "end gen",
     "migrate": "end (regret|closed|open|spent|limit)|unread [0-9]+|" + REFUSED,
     "statement": "end statement",
+    "audit": rf"yes {FRACTION}",
 }
 BEST = rf"(best {NAME} {NUMBER}\nset [01]+\n)+end best\n"
 REPLAY = (
@@ -50,6 +51,7 @@ STATUSES = {
     "replay": {program.DONE, program.INPUT, program.NO},
     "migrate": {program.DONE, program.INPUT, program.NO},
     "statement": {program.DONE, program.INPUT, program.NO},
+    "audit": {program.DONE, program.INPUT, program.NO},
     "best": {program.DONE, program.INPUT},
     "xor": {program.DONE, program.INPUT},
     "regret": {program.DONE, program.INPUT, program.SPENT},
@@ -78,6 +80,7 @@ WHOLE: dict[str, Callable[[str], object]] = {
     "simulate": lambda text: text.startswith("ice 2 session\n"),
     "migrate": lambda text: text.startswith("ice 2 "),
     "statement": lambda text: text.startswith("statement "),
+    "audit": lambda text: text.count("\n") == 1,
     "gen": lambda text: text.count("\n") == 10,
 }
 

@@ -13,6 +13,7 @@ pub data Command : Type 0 where
   migrate : (journal : List ℕ) → Command
   simulate : (exchange truths : List ℕ) → Command
   statement : (journal name : List ℕ) → Command
+  audit : (file : List ℕ) → Command
 
 abbrev pub words_of : Command → List (List ℕ)
 words_of (check journal) = codes "check" ∷ journal ∷ []
@@ -25,6 +26,7 @@ words_of (run exchange rounds) = codes "run" ∷ exchange ∷ rounds
 words_of (migrate journal) = codes "migrate" ∷ journal ∷ []
 words_of (simulate exchange truths) = codes "simulate" ∷ exchange ∷ truths ∷ []
 words_of (statement journal name) = codes "statement" ∷ journal ∷ name ∷ []
+words_of (audit file) = codes "audit" ∷ file ∷ []
 
 -- a session has at most 20 rounds, and a run as many round files; the number of a generated exchange has 32 bits
 abbrev pub IsLimited : Command → Type 0

@@ -54,6 +54,10 @@ pub enum Command<'a> {
         /// The name of a bidder, or any other text.
         name: &'a str,
     },
+    /// `audit FILE`
+    Audit {
+        file: &'a str,
+    },
 }
 
 /// The word, where there is no other.
@@ -176,6 +180,10 @@ pub fn command_in(words: &[String]) -> Option<Command<'_>>
         "statement" => {
             let (journal, name) = two_words(names)?;
             Some(Command::Statement { journal, name })
+        }
+        "audit" => {
+            let file = one_word(names)?;
+            Some(Command::Audit { file })
         }
         _ => None,
     }

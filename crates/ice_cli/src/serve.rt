@@ -7,6 +7,7 @@ ghost use Rattle.ice_commands.specs.Parts.{IsSaid};
 ghost use Rattle.ice_cli.specs.Served.{IsServed};
 
 use crate::command::{Command, command_in};
+use ice_commands::audit::audit;
 use ice_commands::best::best;
 use ice_commands::check::check;
 use ice_commands::ended;
@@ -37,8 +38,8 @@ fn refuse_words<K: Sink>(out: &mut K) -> Status
 /// session, whose rounds have the bids of at most 20 files, `gen NUMBER` writes a summary of the
 /// session of a generated exchange, `migrate JOURNAL` writes a journal of version 1 in version 2,
 /// `simulate EXCHANGE TRUTHS` writes the journal of a session in which each bidder has a proxy that
-/// knows its true values, and `statement JOURNAL NAME` writes what the journal of a closed session
-/// says to the bidder of this name.
+/// knows its true values, `statement JOURNAL NAME` writes what the journal of a closed session says
+/// to the bidder of this name, and `audit FILE` writes the audit's answer on such a statement.
 ///
 /// Files come from `shelf`, and output goes to `out`: each line with its newline is one put, but of
 /// `migrate` many lines are, and of a statement's first line each part is. The status says how the
@@ -78,6 +79,7 @@ pub fn serve<H: Shelf, K: Sink>(
             simulate(alloc, exchange, truths, shelf, out)
         }
         Some(Command::Statement { journal, name }) => statement(alloc, journal, name, shelf, out),
+        Some(Command::Audit { file }) => audit(alloc, file, shelf, out),
         None => refuse_words(out),
     }
 }

@@ -26,3 +26,5 @@ pub mod Unwriting
 pub mod Migrating
 -- what `statement` answers
 pub mod Stating
+-- what `audit` answers
+pub mod Auditing

@@ -20,3 +20,5 @@ pub mod MigrateServed
 pub mod MigrateParts
 pub mod StatementServed
 pub mod StatementParts
+pub mod AuditServed
+pub mod AuditParts

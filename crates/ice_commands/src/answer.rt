@@ -45,8 +45,8 @@ fn rule_word(rule: Rule) -> &'static [u8]
     }
 }
 
-/// A fraction in lowest terms.
-fn write_fraction(fraction: &Frac, to: &mut LineWriter)
+/// Writes a fraction in lowest terms.
+pub fn write_fraction(fraction: &Frac, to: &mut LineWriter)
     requires { length to.old ≤ 1000 }
     ensures field { to.new ≡ with_field to.old (fraction_text fraction.now) }
     ensures len { length to.new ≤ length to.old + 82 }

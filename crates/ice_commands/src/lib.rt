@@ -3,6 +3,7 @@
 #![tactic(auto)]
 
 mod answer;
+pub mod audit;
 pub mod best;
 mod best_lines;
 mod best_set;

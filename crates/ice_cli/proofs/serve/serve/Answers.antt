@@ -1,6 +1,6 @@
 use Rattle.std.proofs.Common.{refl, [], map, string_bytes}
 use Rattle.ice_commands.specs.Call.{Call}
-use Rattle.ice_cli.specs.Command.{check, best, regret, xor, run, gen, migrate, simulate, replay, statement}
+use Rattle.ice_cli.specs.Command.{check, best, regret, xor, run, gen, migrate, simulate, replay, statement, audit}
 use Rattle.ice_commands.specs.CheckServed.{CheckAnswers}
 use Rattle.ice_commands.specs.BestServed.{BestAnswers}
 use Rattle.ice_commands.specs.RegretServed.{RegretAnswers}
@@ -11,6 +11,7 @@ use Rattle.ice_session_commands.specs.SimulateServed.{SimulateAnswers}
 use Rattle.ice_session_commands.specs.GenServed.{GenAnswers}
 use Rattle.ice_commands.specs.MigrateServed.{MigrateAnswers}
 use Rattle.ice_commands.specs.StatementServed.{StatementAnswers}
+use Rattle.ice_commands.specs.AuditServed.{AuditAnswers}
 use Rattle.ice_session_commands.proofs.Trials.{serves_said}
 use Rattle.ice_cli.proofs.Serving.{served, refused_words}
 use Rattle.ice_cli.proofs.serve.serve.Goals as goal
@@ -172,6 +173,21 @@ returns-in-Some-Simulate-clause-served g c =
     } in
     served call (simulate exchange truths) (λ one. SimulateAnswers one exchange truths) (g.K.Sink.written c.args.out.now) (g.K.Sink.written c.simulate.new.out)
     (rw c.in-Some-Simulate.field-0-is at c.in-Some-Simulate.ensures) (λ text status h. h) c.simulate.ensures.served
+
+pub returns-in-Some-Audit-clause-served : goal.returns-in-Some-Audit-clause-served
+returns-in-Some-Audit-clause-served g c =
+    let file = c.in-Some-Audit.file.now in
+    let call : Call = record {
+      words = map string_bytes c.args.words.now;
+      before = g.H.Shelf.told c.args.shelf.now;
+      after = g.H.Shelf.told c.audit.new.shelf;
+      sink_faults = g.K.Sink.faults c.args.out.now;
+      sink_faults_after = g.K.Sink.faults c.audit.new.out;
+      text = [];
+      status = c.audit.result;
+    } in
+    served call (audit file) (λ one. AuditAnswers one file) (g.K.Sink.written c.args.out.now) (g.K.Sink.written c.audit.new.out)
+    (rw c.in-Some-Audit.field-0-is at c.in-Some-Audit.ensures) (λ text status h. h) c.audit.ensures.served
 
 pub returns-in-None-clause-served : goal.returns-in-None-clause-served
 returns-in-None-clause-served g c =

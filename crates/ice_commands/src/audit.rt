@@ -1,0 +1,106 @@
+//! `audit`: whether a statement passes its tests, with no journal in sight.
+ghost use Rattle.std.specs.Prelude.{◌≡◌, [], ℕ, List, IfOk, IfErr, OnOk};
+ghost use Rattle.ice_commands.specs.AuditServed.{paid_line, IsAuditFault, AuditAnswers};
+ghost use Rattle.ice_commands.specs.AuditParts.{IsAuditEnd, IsAnswerTo, answer_text, answer_status};
+ghost use Rattle.ice_commands.specs.Keeping.{KeepsTold};
+ghost use Rattle.ice_commands.specs.Parts.{AreFetched, IsSaid, Serves};
+ghost use Rattle.ice_commands.specs.Refusals.{refusal_status, IsFaultOf, Refuses};
+
+use crate::answer::{say_answer, write_fraction};
+use crate::check::JOURNAL_LIMIT;
+use crate::files::fetch;
+use crate::refusal::{FileFault, Refusal};
+use crate::say::ended;
+use ice_audit::{AuditAnswer, AuditEnd};
+use ice_check::Answer;
+use ice_edge::{Shelf, Sink, Status};
+use ice_frac::Frac;
+use ice_line::LineWriter;
+use std::alloc::Global;
+
+/// Why bytes have no answer, as what is wrong with the first file.
+fn refusal_of(end: AuditEnd) -> Refusal
+    ensures { IsFaultOf 1 (IsAuditEnd end) result }
+{
+    let fault = match end {
+        AuditEnd::Grammar { line } => FileFault::AtLine { number: 50, line },
+        AuditEnd::Unended { line } => FileFault::AtLine { number: 51, line },
+        AuditEnd::NoMemory => return Refusal::NoMemory,
+    };
+    Refusal::File { file: 1, fault }
+}
+
+/// The audit's answer on the bytes of the first file, or why there is none.
+fn answer_to(alloc: Global, bytes: &[u8]) -> Result<AuditAnswer, Refusal>
+    ensures answer { IfOk result (IsAnswerTo bytes.now) }
+    ensures refusal { IfErr result (IsFaultOf 1 (IsAuditFault bytes.now)) }
+{
+    match ice_audit::audit(alloc, bytes) {
+        Ok(answer) => Ok(answer),
+        Err(end) => Err(refusal_of(end)),
+    }
+}
+
+/// The audit's answer on the statement of this name, or why there is none.
+fn answer_of<H: Shelf>(alloc: Global, name: &str, shelf: &mut H) -> Result<AuditAnswer, Refusal>
+    ensures answer { IfOk result (λ answer. (bytes : List ℕ) × IsAnswerTo bytes answer
+        × AreFetched (H.told shelf.old) name.now JOURNAL_LIMIT bytes) }
+    ensures refusal { IfErr result
+        (Refuses 1 name.now JOURNAL_LIMIT IsAuditFault (H.told shelf.old) (H.told shelf.new)) }
+    ensures kept { OnOk result (H.told shelf.new ≡ H.told shelf.old) }
+    ensures kept_at_refusal { IfErr result (λ refusal.
+        KeepsTold (H.told shelf.old) (H.told shelf.new) (refusal_status refusal)) }
+{
+    let bytes = fetch(alloc, 1, name, JOURNAL_LIMIT, shelf)?;
+    answer_to(alloc, &bytes)
+}
+
+/// The line of a yes with its newline, written into an empty writer.
+fn write_yes<'a>(payment: &Frac, to: &'a mut LineWriter) -> &'a [u8]
+    requires { to.old ≡ [] }
+    ensures { result.now ≡ paid_line payment.now }
+{
+    to.word(b"yes");
+    write_fraction(payment, to);
+    to.end()
+}
+
+/// Puts a yes.
+fn say_yes<K: Sink>(payment: &Frac, out: &mut K) -> Status
+    ensures { IsSaid (paid_line payment.now) Status.Done
+        (K.written out.old) (K.written out.new) (K.faults out.old) (K.faults out.new) result }
+{
+    let mut writer = LineWriter::new();
+    ended(out.put(write_yes(payment, &mut writer)), Status::Done)
+}
+
+/// Puts an answer.
+fn say<K: Sink>(answer: &AuditAnswer, out: &mut K) -> Status
+    ensures { IsSaid (answer_text answer.now) (answer_status answer.now)
+        (K.written out.old) (K.written out.new) (K.faults out.old) (K.faults out.new) result }
+{
+    match answer {
+        AuditAnswer::Yes { payment } => say_yes(payment, out),
+        AuditAnswer::No { line, rule } => {
+            let answer = Answer::No {
+                line: *line,
+                rule: *rule,
+            };
+            say_answer(&answer, out)
+        }
+    }
+}
+
+/// Writes the audit's answer on the statement in the file of this name: yes with its payment, or
+/// the first failed test, or why there is no answer.
+pub fn audit<H: Shelf, K: Sink>(alloc: Global, file: &str, shelf: &mut H, out: &mut K) -> Status
+    ensures served { Serves (λ call. AuditAnswers call file.now)
+        (H.told shelf.old) (H.told shelf.new)
+        (K.written out.old) (K.written out.new) (K.faults out.old) (K.faults out.new) result }
+    ensures kept { KeepsTold (H.told shelf.old) (H.told shelf.new) result }
+{
+    match answer_of(alloc, file, shelf) {
+        Ok(answer) => say(&answer, out),
+        Err(refusal) => refusal.say(out),
+    }
+}
