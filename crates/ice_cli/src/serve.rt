@@ -24,8 +24,7 @@ use std::alloc::Global;
 
 /// Refuses the words.
 fn refuse_words<K: Sink>(out: &mut K) -> Status
-    ensures { IsSaid words_line Status.Words
-        (K.written out.old) (K.written out.new) (K.faults out.old) (K.faults out.new) result }
+    ensures { IsSaid words_line Status.Words (K.taken out.old) (K.taken out.new) result }
 {
     ended(out.put(b"words refused\n"), Status::Words)
 }
@@ -54,13 +53,13 @@ pub fn serve<H: Shelf, K: Sink>(
     shelf: &mut H,
     out: &mut K,
 ) -> Status
-    ensures served { (text : List ℕ) × Appends (K.written out.old) text (K.written out.new)
+    ensures served { (text : List ℕ) × Appends (K.taken out.old).written text (K.taken out.new).written
         × IsServed (record {
           words = map string_bytes words.now;
           before = H.told shelf.old;
           after = H.told shelf.new;
-          sink_faults = K.faults out.old;
-          sink_faults_after = K.faults out.new;
+          sink_faults = (K.taken out.old).faults;
+          sink_faults_after = (K.taken out.new).faults;
           text = text;
           status = result;
         }) }

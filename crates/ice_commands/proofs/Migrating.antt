@@ -1,9 +1,10 @@
 -- From a journal that is judged, or why it is not written, to what `migrate` answers.
-use Rattle.std.proofs.Common.{◌≡◌, ◌∙◌, ap, subst, ℕ, List, Option, Result, Err, MatchResult}
+use Rattle.std.proofs.Common.{◌≡◌, ◌∙◌, ap, subst, ℕ, List, Result, Err, MatchResult}
 use Rattle.ice_edge.specs.declared.sink.SinkFault.{SinkFault}
 use Rattle.ice_edge.specs.declared.status.Status.{Status}
 use Rattle.ice_edge.specs.declared.status.Status.TheVariants.{Done, No, WriteFault}
 use Rattle.ice_edge.specs.Told.{Told}
+use Rattle.ice_edge.specs.Taken.{Taken}
 use Rattle.ice_journal.specs.Journal.{bytes_of}
 use Rattle.ice_journal.specs.Plain.{packed}
 use Rattle.ice_journal_laws.specs.Checks.{Failure}
@@ -35,14 +36,14 @@ unwritten_is bytes end (Refused refusal) judged is = fault_anyway 1 (IsUnfitFaul
 -- ---- what is answered
 
 -- the journal is put
-pub journal_serves : (before after : Told) (file bytes : List ℕ) (put : Result (Unit {0}) SinkFault) (result : Status) (old new : Option (List ℕ)) (f g : ℕ) → AreFetched before file journal_limit bytes
-    → OfJournal bytes (λ journal. PutsPacked journal put old new f g) → MatchResult put (λ done. result ≡ Done) (λ fault. result ≡ WriteFault)
-    → Serves (λ call. MigrateAnswers call file) before after old new f g result
-journal_serves before after file bytes put result old new f g told (journal, is, puts) ended = (
+pub journal_serves : (before after : Told) (file bytes : List ℕ) (put : Result (Unit {0}) SinkFault) (result : Status) (old new : Taken) → AreFetched before file journal_limit bytes
+    → OfJournal bytes (λ journal. PutsPacked journal put old new) → MatchResult put (λ done. result ≡ Done) (λ fault. result ≡ WriteFault)
+    → Serves (λ call. MigrateAnswers call file) before after old new result
+journal_serves before after file bytes put result old new told (journal, is, puts) ended = (
   bytes_of (packed journal),
   Done,
   λ call part text. (bytes, (journal, is, (puts.migrated, text)), told_in_call call before after file journal_limit (λ other. other ≡ bytes) part told),
-  put_said put (bytes_of (packed journal)) Done result old new f g puts.is_put ended,
+  put_said put (bytes_of (packed journal)) Done result old new puts.is_put ended,
 )
 
 -- it fails a test

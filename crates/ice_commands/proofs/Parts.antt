@@ -5,6 +5,7 @@ use Rattle.ice_edge.specs.Edge.{Rose, Appends, AppendsFront}
 use Rattle.ice_edge.specs.Told.{Told, IsLater}
 use Rattle.ice_edge.specs.declared.status.Status.{Status}
 use Rattle.ice_edge.specs.declared.status.Status.TheVariants.{WriteFault}
+use Rattle.ice_edge.specs.Taken.{Taken}
 use Rattle.ice_commands.specs.Call.{Call, OfTold, OfFile}
 use Rattle.ice_commands.specs.Parts.{HasPart, IsSaid}
 
@@ -49,12 +50,3 @@ fetched (Some (Some other)) limit bytes is fits =
     let e : other ≡ bytes = cc in
     let P : List ℕ → Type 0 = λ b. length b ≤ limit in
     (subst P (sym e) fits, e)
-
--- ---- what is said
-
--- a text that is put, and the status that the put's result gives
-pub said : {F : Type 0} (put : Result (Unit {0}) F) (text : List ℕ) (status result : Status) (old new : Option (List ℕ)) (faults faults_after : ℕ)
-    → OnOk put (Appends old text new) → OnErr put (AppendsFront old text new) → OnErr put (Rose faults faults_after)
-    → MatchResult put (λ done. result ≡ status) (λ fault. result ≡ WriteFault) → IsSaid text status old new faults faults_after result
-said (Ok x) text status result old new faults faults_after ok err failed ended = inl (ended, ok)
-said (Err e) text status result old new faults faults_after ok err failed ended = inr (ended, failed, err)

@@ -51,7 +51,7 @@ use Rattle.ice_journal_laws.proofs.Carried.{carries_stopped}
 use Rattle.ice_journal_laws.proofs.CarriedSection.{section_carries}
 use Rattle.ice_journal_laws.proofs.CarriedRegret.{some_trees, regretted_carries, regretted_checks}
 use Rattle.ice_journal_laws.proofs.CarriedVersions.{regretted_says}
-use Rattle.ice_journal_laws.proofs.CarriedSoFar.{IsSoFarUnstopped, whole_so_far}
+use Rattle.ice_journal_laws.proofs.CarriedSoFar.{IsSoFarUnstopped, whole_so_far, whole_unstopped}
 use Rattle.ice_journal_laws.proofs.CarriedSpentSession.{IsWholeSearch, spent_rest_in}
 use Rattle.ice_journal_laws.proofs.CarriedSpent.{spent_stands, first_spent_stands}
 use Rattle.ice_journal_laws.proofs.CarriedSpentRegret.{rival_awaits, final_spent_so_far, rival_spent_so_far}
@@ -188,7 +188,7 @@ module _ (ex : Exchange) (lawful : IsExchange ex) where
   -- ---- the journal is begun
 
   begun_so_far : IsSoFarUnstopped regret_kind (begun_records ex)
-  begun_so_far = whole_so_far regret_kind (section_records ex) (describing version_2 regret_kind 2 (section_of ex)) (section_carries described_are_taken version_2 regret_kind ex lawful) begun_are
+  begun_so_far = whole_unstopped regret_kind (section_records ex) (describing version_2 regret_kind 2 (section_of ex)) (section_carries described_are_taken version_2 regret_kind ex lawful) begun_are (λ e. cc)
 
   module _ (call : Call) (name : List ℕ) (told : OfFile call name file_limit (λ bytes. IsExchangeOf bytes (Ok ex))) where
     -- a journal that begins with the exchange has that of the file
@@ -245,7 +245,7 @@ module _ (ex : Exchange) (lawful : IsExchange ex) where
       final_answers : call.text ≡ bytes_of (begun_records ex ++ final_records ex f) → RegretAnswers call name NoMemory
       final_answers text =
           unended (begun_records ex ++ final_records ex f) (final_records ex f)
-          (whole_so_far regret_kind (section_records ex ++ final_records ex f) (go_to (at_group Rival) AtRival) final_carries (all-append IsRecord (begun_records ex) (final_records ex f) begun_are (final_are left f final)))
+          (whole_unstopped regret_kind (section_records ex ++ final_records ex f) (go_to (at_group Rival) AtRival) final_carries (all-append IsRecord (begun_records ex) (final_records ex f) begun_are (final_are left f final)) (λ e. cc))
           refl text
 
       -- ---- the second search is spent
@@ -322,7 +322,7 @@ module _ (ex : Exchange) (lawful : IsExchange ex) where
           written = record { lawful = whole_records; spelled = text ∙ ap bytes_of same_journal };
           says = regretted_says Said shown;
           so_far = record {
-            so_far = (whole_so_far regret_kind _ _ (regretted_carries described_are_taken version_2 Said shown) whole_records).so_far;
+            so_far = whole_so_far regret_kind _ _ (regretted_carries described_are_taken version_2 Said shown) whole_records;
             exchange_is = has_exchange Journal (final_records ex f ++ ending_records ex r) (sym same_journal ∙ append_assoc (begun_records ex) (final_records ex f) (ending_records ex r));
           };
           exchange_is = told;

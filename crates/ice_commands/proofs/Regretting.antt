@@ -1,9 +1,10 @@
 -- From the journal that is written, or why there is none, to what `regret` answers.
-use Rattle.std.proofs.Common.{◌∙◌, ap, sym, subst, ℕ, List, [], Option, Ok}
+use Rattle.std.proofs.Common.{◌∙◌, ap, sym, subst, ℕ, List, [], Ok}
 use Rattle.ice_defs.specs.Exchange.{Exchange}
 use Rattle.ice_defs.specs.Lawful.{IsExchange}
 use Rattle.ice_edge.specs.Told.{Told}
 use Rattle.ice_edge.specs.declared.status.Status.{Status}
+use Rattle.ice_edge.specs.Taken.{Taken}
 use Rattle.ice_journal.specs.Journal.{bytes_of}
 use Rattle.ice_commands.specs.declared.refusal.Refusal.{Refusal}
 use Rattle.ice_commands.specs.declared.refusal.Refusal.TheVariants.{File, Unread, NoMemory}
@@ -18,9 +19,9 @@ use Rattle.ice_commands.specs.RegretJournal.{IsRegretJournal}
 use Rattle.ice_commands.proofs.Parts.{told_in_call}
 use Rattle.ice_commands.proofs.RegretJournal.{regret_answers}
 
-pub journal_serves : (before after : Told) (file : List ℕ) (ex : Exchange) (old new : Option (List ℕ)) (faults faults_after : ℕ) (result : Status) → IsExchange ex → HoldsExchange before file ex
-    → WritesBehind [] (IsRegretJournal ex) old new faults faults_after result → Serves (λ call. RegretAnswers call file) before after old new faults faults_after result
-journal_serves before after file ex old new faults faults_after result lawful told (journal, status, is, said) = (
+pub journal_serves : (before after : Told) (file : List ℕ) (ex : Exchange) (old new : Taken) (result : Status) → IsExchange ex → HoldsExchange before file ex
+    → WritesBehind [] (IsRegretJournal ex) old new result → Serves (λ call. RegretAnswers call file) before after old new result
+journal_serves before after file ex old new result lawful told (journal, status, is, said) = (
   bytes_of journal,
   status,
   λ call part text. regret_answers ex lawful call file (told_in_call call before after file file_limit (λ bytes. IsExchangeOf bytes (Ok ex)) part told) journal status is text,

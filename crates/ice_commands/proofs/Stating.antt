@@ -1,10 +1,11 @@
 -- From a journal that is judged, or why nothing of it is stated, to what `statement` answers.
-use Rattle.std.proofs.Common.{◌≡◌, ◌∙◌, ap, subst, ℕ, List, Option, Result, Err, MatchResult}
+use Rattle.std.proofs.Common.{◌≡◌, ◌∙◌, ap, subst, ℕ, List, Result, Err, MatchResult}
 use Rattle.ice_edge.specs.declared.sink.SinkFault.{SinkFault}
 use Rattle.ice_edge.specs.declared.status.Status.{Status}
 use Rattle.ice_edge.specs.declared.status.Status.TheVariants.{Done, No, WriteFault}
 use Rattle.ice_edge.specs.Puts.{IsPut}
 use Rattle.ice_edge.specs.Told.{Told}
+use Rattle.ice_edge.specs.Taken.{Taken}
 use Rattle.ice_journal.specs.Records.{Record}
 use Rattle.ice_journal.specs.Journal.{IsJournal}
 use Rattle.ice_journal_laws.specs.Answers.{OfJournal}
@@ -35,12 +36,12 @@ unstated_is bytes name end (Refused refusal) judged is = fault_anyway 1 (IsState
 -- ---- what is answered
 
 -- the statement is put
-pub statement_serves : (before after : Told) (file name bytes : List ℕ) (put : Result (Unit {0}) SinkFault) (result : Status) (old new : Option (List ℕ)) (f g : ℕ) → AreFetched before file journal_limit bytes
+pub statement_serves : (before after : Told) (file name bytes : List ℕ) (put : Result (Unit {0}) SinkFault) (result : Status) (old new : Taken) → AreFetched before file journal_limit bytes
     → OfJournal bytes (HasStatement name)
-    → ((journal : List Record) (own : Own) → IsJournal bytes journal → IsOwnOf journal name own → IsPut (statement_of (published journal) own) put old new f g)
+    → ((journal : List Record) (own : Own) → IsJournal bytes journal → IsOwnOf journal name own → IsPut (statement_of (published journal) own) put old new)
     → MatchResult put (λ done. result ≡ Done) (λ fault. result ≡ WriteFault)
-    → Serves (λ call. StatementAnswers call file name) before after old new f g result
-statement_serves before after file name bytes put result old new f g told (journal, is, has) puts ended =
+    → Serves (λ call. StatementAnswers call file name) before after old new result
+statement_serves before after file name bytes put result old new told (journal, is, has) puts ended =
     let text = statement_of (published journal) has.own in (
       text,
       Done,
@@ -49,7 +50,7 @@ statement_serves before after file name bytes put result old new f g told (journ
         (has.own, record { journal = journal; spelled = is; checks = has.checks; own_is = has.is; text_is = said }),
         told_in_call call before after file journal_limit (λ other. other ≡ bytes) part told,
       ),
-      put_said put text Done result old new f g (puts journal has.own is has.is) ended,
+      put_said put text Done result old new (puts journal has.own is has.is) ended,
     )
 
 -- it fails a test

@@ -1,6 +1,7 @@
 -- What a command that writes a journal may have written so far, and what its steps write.
-use Rattle.std.specs.Prelude.{ℕ, ◌<◌, ◌⊎◌, List, ◌∷◌, ◌++◌, Option, Ok}
+use Rattle.std.specs.Prelude.{ℕ, ◌<◌, ◌⊎◌, List, ◌∷◌, ◌++◌, Ok}
 use Rattle.ice_edge.specs.declared.status.Status.{Status}
+use Rattle.ice_edge.specs.Taken.{Taken}
 use Rattle.ice_defs.specs.Exchange.{Exchange}
 use Rattle.ice_journal.specs.Records.{Record, Kind, version_2}
 use Rattle.ice_journal.specs.Records as line
@@ -24,6 +25,6 @@ abbrev pub HasFewerThan : Call → List ℕ → (Exchange → ℕ) → Type 0
 HasFewerThan call name enough = OfFile call name file_limit (λ bytes. (ex : Exchange) × IsExchangeOf bytes (Ok ex) × (ex.settings.branches < enough ex))
 
 -- behind these records the rest of a journal is put, which ends with a status; or the sink failed, and took a front of the rest
-abbrev pub WritesBehind : List Record → (List Record → Status → Type 0) → Option (List ℕ) → Option (List ℕ) → ℕ → ℕ → Status → Type 0
-WritesBehind front IsJournal old new faults faults_after result =
-    (rest : List Record) × (status : Status) × IsJournal (front ++ rest) status × IsSaid (bytes_of rest) status old new faults faults_after result
+abbrev pub WritesBehind : List Record → (List Record → Status → Type 0) → Taken → Taken → Status → Type 0
+WritesBehind front IsJournal old new result =
+    (rest : List Record) × (status : Status) × IsJournal (front ++ rest) status × IsSaid (bytes_of rest) status old new result

@@ -91,7 +91,7 @@ fn status_of(answer: &Answer) -> Status
 /// Puts the line of an answer, and ends with its status, or with `WriteFault` where the sink fails.
 pub fn say_answer<K: Sink>(answer: &Answer, out: &mut K) -> Status
     ensures { IsSaid (answer_line answer.now) (answer_status answer.now)
-        (K.written out.old) (K.written out.new) (K.faults out.old) (K.faults out.new) result }
+        (K.taken out.old) (K.taken out.new) result }
 {
     let mut writer = LineWriter::new();
     ended(

@@ -68,7 +68,7 @@ fn write_yes<'a>(payment: &Frac, to: &'a mut LineWriter) -> &'a [u8]
 /// Puts a yes.
 fn say_yes<K: Sink>(payment: &Frac, out: &mut K) -> Status
     ensures { IsSaid (paid_line payment.now) Status.Done
-        (K.written out.old) (K.written out.new) (K.faults out.old) (K.faults out.new) result }
+        (K.taken out.old) (K.taken out.new) result }
 {
     let mut writer = LineWriter::new();
     ended(out.put(write_yes(payment, &mut writer)), Status::Done)
@@ -77,7 +77,7 @@ fn say_yes<K: Sink>(payment: &Frac, out: &mut K) -> Status
 /// Puts an answer.
 fn say<K: Sink>(answer: &AuditAnswer, out: &mut K) -> Status
     ensures { IsSaid (answer_text answer.now) (answer_status answer.now)
-        (K.written out.old) (K.written out.new) (K.faults out.old) (K.faults out.new) result }
+        (K.taken out.old) (K.taken out.new) result }
 {
     match answer {
         AuditAnswer::Yes { payment } => say_yes(payment, out),
@@ -95,8 +95,7 @@ fn say<K: Sink>(answer: &AuditAnswer, out: &mut K) -> Status
 /// the first failed test, or why there is no answer.
 pub fn audit<H: Shelf, K: Sink>(alloc: Global, file: &str, shelf: &mut H, out: &mut K) -> Status
     ensures served { Serves (λ call. AuditAnswers call file.now)
-        (H.told shelf.old) (H.told shelf.new)
-        (K.written out.old) (K.written out.new) (K.faults out.old) (K.faults out.new) result }
+        (H.told shelf.old) (H.told shelf.new) (K.taken out.old) (K.taken out.new) result }
     ensures kept { KeepsTold (H.told shelf.old) (H.told shelf.new) result }
 {
     match answer_of(alloc, file, shelf) {

@@ -98,8 +98,7 @@ pub fn best<H: Shelf, K: Sink>(
     out: &mut K,
 ) -> Status
     ensures served { Serves (λ call. BestAnswers call exchange.now prices.now)
-        (H.told shelf.old) (H.told shelf.new)
-        (K.written out.old) (K.written out.new) (K.faults out.old) (K.faults out.new) result }
+        (H.told shelf.old) (H.told shelf.new) (K.taken out.old) (K.taken out.new) result }
     ensures kept { KeepsTold (H.told shelf.old) (H.told shelf.new) result }
 {
     match best_of_files(alloc, exchange, prices, shelf) {

@@ -1,7 +1,6 @@
 //! What `best` writes where nothing is refused.
-ghost use Rattle.std.specs.Prelude.{◌≤◌, OnOk, OnErr};
 ghost use Rattle.std.specs.List.{flat_map};
-ghost use Rattle.ice_edge.specs.Edge.{Rose, Appends, AppendsFront};
+ghost use Rattle.ice_edge.specs.Puts.{IsPut};
 ghost use Rattle.ice_commands.specs.Bests.{lines_of, best_text};
 
 use crate::best_set::BestSet;
@@ -9,12 +8,7 @@ use ice_edge::{Sink, SinkFault};
 
 /// Puts the lines of the best sets, two each.
 fn put_sets<K: Sink>(sets: &[BestSet], out: &mut K) -> Result<(), SinkFault>
-    ensures ok { OnOk result
-        (Appends (K.written out.old) (flat_map lines_of sets.now) (K.written out.new)) }
-    ensures err { OnErr result
-        (AppendsFront (K.written out.old) (flat_map lines_of sets.now) (K.written out.new)) }
-    ensures failed { OnErr result (Rose (K.faults out.old) (K.faults out.new)) }
-    ensures later { K.faults out.old ≤ K.faults out.new }
+    ensures { IsPut (flat_map lines_of sets.now) result (K.taken out.old) (K.taken out.new) }
 {
     for best in sets {
         best.put(out)?;
@@ -24,11 +18,7 @@ fn put_sets<K: Sink>(sets: &[BestSet], out: &mut K) -> Result<(), SinkFault>
 
 /// Puts the lines of the best sets and the last line, each in one put.
 pub fn put_best<K: Sink>(sets: &[BestSet], out: &mut K) -> Result<(), SinkFault>
-    ensures ok { OnOk result
-        (Appends (K.written out.old) (best_text sets.now) (K.written out.new)) }
-    ensures err { OnErr result
-        (AppendsFront (K.written out.old) (best_text sets.now) (K.written out.new)) }
-    ensures failed { OnErr result (Rose (K.faults out.old) (K.faults out.new)) }
+    ensures { IsPut (best_text sets.now) result (K.taken out.old) (K.taken out.new) }
 {
     put_sets(sets, out)?;
     out.put(b"end best\n")

@@ -1,7 +1,7 @@
 //! The best set of a bidder.
-ghost use Rattle.std.specs.Prelude.{◌≡◌, ◌≤◌, [], ◌∷◌, codes, OnOk, OnErr};
+ghost use Rattle.std.specs.Prelude.{◌≡◌, [], ◌∷◌, codes};
 ghost use Rattle.std.specs.Fmt.{signed_decimal};
-ghost use Rattle.ice_edge.specs.Edge.{Rose, Appends, AppendsFront};
+ghost use Rattle.ice_edge.specs.Puts.{IsPut};
 ghost use Rattle.ice_journal.specs.Ranges.{IsBits};
 ghost use Rattle.ice_journal.specs.Records as line;
 ghost use Rattle.ice_journal.specs.Spelling.{line_of};
@@ -51,12 +51,7 @@ impl BestSet {
 
     /// Puts its two lines.
     pub fn put<K: Sink>(&self, out: &mut K) -> Result<(), SinkFault>
-        ensures ok { OnOk result
-            (Appends (K.written out.old) (lines_of self.now) (K.written out.new)) }
-        ensures err { OnErr result
-            (AppendsFront (K.written out.old) (lines_of self.now) (K.written out.new)) }
-        ensures failed { OnErr result (Rose (K.faults out.old) (K.faults out.new)) }
-        ensures later { K.faults out.old ≤ K.faults out.new }
+        ensures { IsPut (lines_of self.now) result (K.taken out.old) (K.taken out.new) }
     {
         let mut writer = LineWriter::new();
         out.put(self.write_net(&mut writer))?;

@@ -58,8 +58,7 @@ fn answer_of<H: Shelf>(alloc: Global, name: &str, shelf: &mut H) -> Result<Answe
 /// Writes the checker's answer on the journal of this name.
 pub fn check<H: Shelf, K: Sink>(alloc: Global, journal: &str, shelf: &mut H, out: &mut K) -> Status
     ensures served { Serves (λ call. CheckAnswers call journal.now)
-        (H.told shelf.old) (H.told shelf.new)
-        (K.written out.old) (K.written out.new) (K.faults out.old) (K.faults out.new) result }
+        (H.told shelf.old) (H.told shelf.new) (K.taken out.old) (K.taken out.new) result }
     ensures kept { KeepsTold (H.told shelf.old) (H.told shelf.new) result }
 {
     match answer_of(alloc, journal, shelf) {

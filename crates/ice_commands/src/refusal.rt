@@ -1,6 +1,6 @@
 //! Why a command has no answer.
-ghost use Rattle.std.specs.Prelude.{◌≡◌, [], ◌+◌, ◌≤◌, length, OnOk, OnErr};
-ghost use Rattle.ice_edge.specs.Edge.{Rose, Appends, AppendsFront};
+ghost use Rattle.std.specs.Prelude.{◌≡◌, [], ◌+◌, ◌≤◌, length};
+ghost use Rattle.ice_edge.specs.Puts.{IsPut};
 ghost use Rattle.ice_line.specs.Writing.{with_field};
 ghost use Rattle.ice_commands.specs.Parts.{IsSaid};
 ghost use Rattle.ice_commands.specs.Refusals.{fault_of, refusal_text, refusal_status};
@@ -104,11 +104,7 @@ impl Refusal {
 
     /// Puts its line; nothing at want of memory.
     fn put<K: Sink>(&self, out: &mut K) -> Result<(), SinkFault>
-        ensures ok { OnOk result
-            (Appends (K.written out.old) (refusal_text self.now) (K.written out.new)) }
-        ensures err { OnErr result
-            (AppendsFront (K.written out.old) (refusal_text self.now) (K.written out.new)) }
-        ensures failed { OnErr result (Rose (K.faults out.old) (K.faults out.new)) }
+        ensures { IsPut (refusal_text self.now) result (K.taken out.old) (K.taken out.new) }
     {
         let mut writer = LineWriter::new();
         let line = self.write(&mut writer);
@@ -121,7 +117,7 @@ impl Refusal {
     /// Puts its line, and ends with its status, or with `WriteFault` where the sink fails.
     pub fn say<K: Sink>(&self, out: &mut K) -> Status
         ensures { IsSaid (refusal_text self.now) (refusal_status self.now)
-            (K.written out.old) (K.written out.new) (K.faults out.old) (K.faults out.new) result }
+            (K.taken out.old) (K.taken out.new) result }
     {
         ended(self.put(out), self.status())
     }

@@ -17,8 +17,7 @@ pub fn regret<H: Shelf, K: Sink>(
     out: &mut K,
 ) -> Status
     ensures served { Serves (λ call. RegretAnswers call exchange.now)
-        (H.told shelf.old) (H.told shelf.new)
-        (K.written out.old) (K.written out.new) (K.faults out.old) (K.faults out.new) result }
+        (H.told shelf.old) (H.told shelf.new) (K.taken out.old) (K.taken out.new) result }
     ensures kept { KeepsTold (H.told shelf.old) (H.told shelf.new) result }
 {
     match read_exchange(alloc, 1, exchange, shelf) {

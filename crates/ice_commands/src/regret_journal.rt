@@ -22,7 +22,7 @@ use std::alloc::Global;
 /// Puts the head and the exchange.
 fn put_begin<K: Sink>(exchange: &Exchange, out: &mut K) -> Result<(), SinkFault>
     ensures { IsPut (bytes_of (begun_records exchange.now)) result
-        (K.written out.old) (K.written out.new) (K.faults out.old) (K.faults out.new) }
+        (K.taken out.old) (K.taken out.new) }
 {
     let head = Line::Head {
         version: Version::Two,
@@ -36,7 +36,7 @@ fn put_begin<K: Sink>(exchange: &Exchange, out: &mut K) -> Result<(), SinkFault>
 fn put_ending<K: Sink>(exchange: &Exchange, regret: &Regret, out: &mut K) -> Result<(), SinkFault>
     requires { IsWritableRegret (length (exact_of exchange.now)) regret.now }
     ensures { IsPut (bytes_of (ending_records exchange.now regret.now)) result
-        (K.written out.old) (K.written out.new) (K.faults out.old) (K.faults out.new) }
+        (K.taken out.old) (K.taken out.new) }
 {
     put_regret(exchange, regret, out)?;
     put_record(&Line::End(EndWord::Regret), out)
@@ -54,8 +54,7 @@ fn write_rival<K: Sink>(
     requires lawful { IsExchange exchange.now }
     requires found { IsFinal exchange.now branches found.now }
     ensures { WritesBehind (begun_records exchange.now ++ final_records exchange.now found.now)
-        (IsRegretJournal exchange.now)
-        (K.written out.old) (K.written out.new) (K.faults out.old) (K.faults out.new) result }
+        (IsRegretJournal exchange.now) (K.taken out.old) (K.taken out.new) result }
 {
     match regret(
         alloc,
@@ -81,7 +80,7 @@ fn write_found<K: Sink>(
     requires lawful { IsExchange exchange.now }
     requires found { IsFinal exchange.now branches found.now }
     ensures { WritesBehind (begun_records exchange.now) (IsRegretJournal exchange.now)
-        (K.written out.old) (K.written out.new) (K.faults out.old) (K.faults out.new) result }
+        (K.taken out.old) (K.taken out.new) result }
 {
     match put_final(exchange, found, out) {
         Ok(()) => write_rival(alloc, exchange, found, branches, out),
@@ -101,7 +100,7 @@ fn branches_of(exchange: &Exchange) -> u32
 fn write_final<K: Sink>(alloc: Global, exchange: &Exchange, out: &mut K) -> Status
     requires { IsExchange exchange.now }
     ensures { WritesBehind (begun_records exchange.now) (IsRegretJournal exchange.now)
-        (K.written out.old) (K.written out.new) (K.faults out.old) (K.faults out.new) result }
+        (K.taken out.old) (K.taken out.new) result }
 {
     let mut branches = branches_of(exchange);
     match best_at_lower_values(alloc, exchange, exchange.bounds(), &mut branches) {
@@ -116,7 +115,7 @@ fn write_final<K: Sink>(alloc: Global, exchange: &Exchange, out: &mut K) -> Stat
 /// and ends.
 pub fn write_regret<K: Sink>(alloc: Global, exchange: &Exchange, out: &mut K) -> Status
     ensures journal { WritesBehind [] (IsRegretJournal exchange.now)
-        (K.written out.old) (K.written out.new) (K.faults out.old) (K.faults out.new) result }
+        (K.taken out.old) (K.taken out.new) result }
     ensures lawful { IsExchange exchange.now }
 {
     let _bidders = exchange.bidders();

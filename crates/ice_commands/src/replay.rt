@@ -74,7 +74,7 @@ fn found_of<H: Shelf>(
 /// Writes what is found.
 fn say_found<K: Sink>(found: &Found, out: &mut K) -> Status
     ensures { IsSaid (found_text found.now) (found_status found.now)
-        (K.written out.old) (K.written out.new) (K.faults out.old) (K.faults out.new) result }
+        (K.taken out.old) (K.taken out.new) result }
 {
     match found {
         Found::Settlement(replay) => ended(put_replay(replay, out), Status::Done),
@@ -97,8 +97,7 @@ pub fn replay<H: Shelf, K: Sink>(
     out: &mut K,
 ) -> Status
     ensures served { Serves (λ call. ReplayAnswers call journal.now number)
-        (H.told shelf.old) (H.told shelf.new)
-        (K.written out.old) (K.written out.new) (K.faults out.old) (K.faults out.new) result }
+        (H.told shelf.old) (H.told shelf.new) (K.taken out.old) (K.taken out.new) result }
     ensures kept { KeepsTold (H.told shelf.old) (H.told shelf.new) result }
 {
     match found_of(alloc, journal, number, shelf) {

@@ -81,8 +81,7 @@ pub fn statement<H: Shelf, K: Sink>(
     out: &mut K,
 ) -> Status
     ensures served { Serves (λ call. StatementAnswers call journal.now name.now)
-        (H.told shelf.old) (H.told shelf.new)
-        (K.written out.old) (K.written out.new) (K.faults out.old) (K.faults out.new) result }
+        (H.told shelf.old) (H.told shelf.new) (K.taken out.old) (K.taken out.new) result }
     ensures kept { KeepsTold (H.told shelf.old) (H.told shelf.new) result }
 {
     match journal_of(alloc, journal, name, shelf) {

@@ -90,8 +90,7 @@ fn translation_of<H: Shelf>(alloc: Global, name: &str, shelf: &mut H) -> Result<
 /// Writes the exchange that the flat bids of the file of this name say, as one line.
 pub fn xor<H: Shelf, K: Sink>(alloc: Global, file: &str, shelf: &mut H, out: &mut K) -> Status
     ensures served { Serves (λ call. XorAnswers call file.now)
-        (H.told shelf.old) (H.told shelf.new)
-        (K.written out.old) (K.written out.new) (K.faults out.old) (K.faults out.new) result }
+        (H.told shelf.old) (H.told shelf.new) (K.taken out.old) (K.taken out.new) result }
     ensures kept { KeepsTold (H.told shelf.old) (H.told shelf.new) result }
 {
     match translation_of(alloc, file, shelf) {

@@ -1,21 +1,22 @@
 -- Pieces of a journal that end it.
-use Rattle.std.proofs.Common.{sym, subst, ℕ, List, [], ◌∷◌, ◌++◌, Option}
+use Rattle.std.proofs.Common.{sym, subst, ℕ, List, [], ◌∷◌, ◌++◌}
 use Rattle.std.proofs.lemmas.List.{append-nil}
 use Rattle.ice_edge.specs.declared.status.Status.{Status}
+use Rattle.ice_edge.specs.Taken.{Taken}
 use Rattle.ice_journal.specs.Records.{Record}
 use Rattle.ice_journal.specs.Spelling.{line_of}
 use Rattle.ice_journal.specs.Journal.{bytes_of}
 use Rattle.ice_commands.specs.Journals.{WritesBehind}
 use Rattle.ice_commands.specs.Parts.{IsSaid}
 
-pub said_piece : (front : List Record) (P : List Record → Status → Type 0) (piece : List Record) (status result : Status) (old new : Option (List ℕ)) (f g : ℕ) → P (front ++ piece) status → IsSaid (bytes_of piece) status old new f g result
-    → WritesBehind front P old new f g result
-said_piece front P piece status result old new f g is said = (piece, status, is, said)
+pub said_piece : (front : List Record) (P : List Record → Status → Type 0) (piece : List Record) (status result : Status) (old new : Taken) → P (front ++ piece) status → IsSaid (bytes_of piece) status old new result
+    → WritesBehind front P old new result
+said_piece front P piece status result old new is said = (piece, status, is, said)
 
-pub writes_also : (front : List Record) (P Q : List Record → Status → Type 0) (result : Status) (old new : Option (List ℕ)) (f g : ℕ) → ((journal : List Record) (status : Status) → P journal status → Q journal status)
-    → WritesBehind front P old new f g result → WritesBehind front Q old new f g result
-writes_also front P Q result old new f g also (rest, status, is, said) = (rest, status, also (front ++ rest) status is, said)
+pub writes_also : (front : List Record) (P Q : List Record → Status → Type 0) (result : Status) (old new : Taken) → ((journal : List Record) (status : Status) → P journal status → Q journal status)
+    → WritesBehind front P old new result → WritesBehind front Q old new result
+writes_also front P Q result old new also (rest, status, is, said) = (rest, status, also (front ++ rest) status is, said)
 
 -- one record is one line
-pub one_line : (r : Record) (status result : Status) (old new : Option (List ℕ)) (f g : ℕ) → IsSaid (line_of r) status old new f g result → IsSaid (bytes_of (r ∷ [])) status old new f g result
-one_line r status result old new f g said = subst (λ (t : List ℕ). IsSaid t status old new f g result) (sym (append-nil (line_of r))) said
+pub one_line : (r : Record) (status result : Status) (old new : Taken) → IsSaid (line_of r) status old new result → IsSaid (bytes_of (r ∷ [])) status old new result
+one_line r status result old new said = subst (λ (t : List ℕ). IsSaid t status old new result) (sym (append-nil (line_of r))) said

@@ -1,11 +1,12 @@
 -- The journal that `run` writes is one of which its contract speaks.
-use Rattle.std.proofs.Common.{◌≡◌, ◌∙◌, ◌+◌, ◌<◌, ◌≤◌, ℕ, suc, List, [], ◌∷◌, ◌++◌, length, map, drop, refl, sym, ap, subst, arith, append_assoc, Option, Some, Ok, length-append}
+use Rattle.std.proofs.Common.{◌≡◌, ◌∙◌, ◌+◌, ◌<◌, ◌≤◌, ℕ, suc, List, [], ◌∷◌, ◌++◌, length, map, drop, refl, sym, ap, subst, arith, append_assoc, Some, Ok, length-append}
 use Rattle.std.specs.Prelude.{slice_get}
 use Rattle.std.specs.List.{AllByRecursion}
 use Rattle.std.proofs.lemmas.List.{append-nil}
 use Rattle.ice_edge.specs.Told.{Told}
 use Rattle.ice_edge.specs.declared.status.Status.{Status}
 use Rattle.ice_edge.specs.declared.status.Status.TheVariants.{Done, Input, Spent, Limit, ReadFault, NoMemory, StillOpen}
+use Rattle.ice_edge.specs.Taken.{Taken}
 use Rattle.ice_defs.specs.FileFault.{FileFault}
 use Rattle.ice_defs.specs.Round.{Submission, Judged}
 use Rattle.ice_defs.specs.Exchange.{Exchange, exact_of}
@@ -238,9 +239,9 @@ run_answers call name files _ _ _ told (fails_to_read going s last r file opened
 
 -- ---- what `run` answers
 
-pub journal_serves : (before after : Told) (name : List ℕ) (files : List (List ℕ)) (ex : Exchange) (old new : Option (List ℕ)) (f g : ℕ) (result : Status) → HoldsExchange before name ex → WritesBehind [] (RunsTo ex files before after) old new f g result
-    → Serves (λ call. RunAnswers call name files) before after old new f g result
-journal_serves before after name files ex old new f g result told (rest, status, is, said) = (
+pub journal_serves : (before after : Told) (name : List ℕ) (files : List (List ℕ)) (ex : Exchange) (old new : Taken) (result : Status) → HoldsExchange before name ex → WritesBehind [] (RunsTo ex files before after) old new result
+    → Serves (λ call. RunAnswers call name files) before after old new result
+journal_serves before after name files ex old new result told (rest, status, is, said) = (
   bytes_of rest,
   status,
   λ call part text. run_answers call name files ex rest status (told_in_call call before after name file_limit (λ bytes. IsExchangeOf bytes (Ok ex)) part told) (is call part) text,

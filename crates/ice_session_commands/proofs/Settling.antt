@@ -4,6 +4,7 @@ use Rattle.std.specs.List.{AllByRecursion}
 use Rattle.ice_edge.specs.Puts.{Takes, FailsIn}
 use Rattle.ice_edge.specs.declared.status.Status.{Status}
 use Rattle.ice_edge.specs.declared.status.Status.TheVariants.{Done, Spent, Limit, WriteFault, NoMemory}
+use Rattle.ice_edge.specs.Taken.{Taken}
 use Rattle.ice_defs.specs.Exchange.{Exchange, exact_of}
 use Rattle.ice_defs.specs.Session.{Going}
 use Rattle.ice_terms.specs.Terms.{ArePriceTerms}
@@ -46,12 +47,12 @@ use Rattle.ice_session_commands.proofs.Putting.{said_piece}
 -- ---- a settlement ends the session
 
 module _ (s : SessionAt) where
-  pub ends_without_memory : (old : Option (List ℕ)) (f : ℕ) → EndsHere s old old f f NoMemory
-  ends_without_memory old f going run = nothing_more (run_records s.exchange going) (EndsSettling going s) old f NoMemory without_memory
+  pub ends_without_memory : (old : Taken) → EndsHere s old old NoMemory
+  ends_without_memory old going run = nothing_more (run_records s.exchange going) (EndsSettling going s) old NoMemory without_memory
 
-  pub ends_closed : (c : Closing) (old new : Option (List ℕ)) (f g : ℕ) (result : Status) → IsClosing s c → IsSaid (bytes_of (closing_records c)) Done old new f g result → EndsHere s old new f g result
-  ends_closed c old new f g result is said going run =
-      said_piece (run_records s.exchange going) (EndsSettling going s) (closing_records c) Done result old new f g (closes c is (closing_are_records c (closing_may_be_written going s c run is))) said
+  pub ends_closed : (c : Closing) (old new : Taken) (result : Status) → IsClosing s c → IsSaid (bytes_of (closing_records c)) Done old new result → EndsHere s old new result
+  ends_closed c old new result is said going run =
+      said_piece (run_records s.exchange going) (EndsSettling going s) (closing_records c) Done result old new (closes c is (closing_are_records c (closing_may_be_written going s c run is))) said
 
   halted_at : (number : ℕ) (best : Option Found) (regret : Option Regret) (provisional : Option Found) (ms : List Marginal) (at : Position) → ComesTo best regret provisional ms at
       → halted_records s.exchange number best regret ms provisional ≡ position_records version_2 (length (exact_of s.exchange)) number at
@@ -68,18 +69,18 @@ module _ (s : SessionAt) where
   pub halt_at : (h : Halt) → IsHaltOf s h → (at : Position) → ComesTo h.best h.regret h.provisional h.marginals.items at → halt_records h ≡ position_records version_2 (length (exact_of s.exchange)) s.number at
   halt_at h is at comes = halt_is h is ∙ halted_at s.number h.best h.regret h.provisional h.marginals.items at comes
 
-  pub ends_spent : (h : Halt) (spent : results.Spent) (old new : Option (List ℕ)) (f g : ℕ) (result : Status) → IsHaltOf s h → IsSpentAt s h.best h.regret h.provisional h.marginals.items spent → IsRecord (line.spent spent.value spent.bound)
-      → IsSaid (bytes_of (halt_records h ++ spent_records h.exchange spent)) Spent old new f g result → EndsHere s old new f g result
-  ends_spent h spent old new f g result halt is fits said going run =
+  pub ends_spent : (h : Halt) (spent : results.Spent) (old new : Taken) (result : Status) → IsHaltOf s h → IsSpentAt s h.best h.regret h.provisional h.marginals.items spent → IsRecord (line.spent spent.value spent.bound)
+      → IsSaid (bytes_of (halt_records h ++ spent_records h.exchange spent)) Spent old new result → EndsHere s old new result
+  ends_spent h spent old new result halt is fits said going run =
       let (at, comes, writes) = spends going s h.best h.regret h.provisional h.marginals.items spent run is in
       let may = spent_may_be_written going s h spent run halt is in
       let same : halt_records h ≡ position_records version_2 (length (exact_of s.exchange)) s.number at = halt_at h halt at comes in
       let position : List Record = position_records version_2 (length (exact_of s.exchange)) s.number at in
-      let whole : IsSaid (bytes_of (position ++ spent_records s.exchange spent)) Spent old new f g result =
-      subst (λ (rs : List Record). IsSaid (bytes_of (rs ++ spent_records s.exchange spent)) Spent old new f g result) same
-      (subst (λ (x : Exchange). IsSaid (bytes_of (halt_records h ++ spent_records x spent)) Spent old new f g result) halt.exchange said) in
+      let whole : IsSaid (bytes_of (position ++ spent_records s.exchange spent)) Spent old new result =
+      subst (λ (rs : List Record). IsSaid (bytes_of (rs ++ spent_records s.exchange spent)) Spent old new result) same
+      (subst (λ (x : Exchange). IsSaid (bytes_of (halt_records h ++ spent_records x spent)) Spent old new result) halt.exchange said) in
       let ended = writes (subst (AllByRecursion IsRecord) same (halt_are_records h may.0)) (spent_are_records s.exchange spent may.1 fits) in
-      said_piece (run_records s.exchange going) (EndsSettling going s) (position ++ spent_records s.exchange spent) Spent result old new f g
+      said_piece (run_records s.exchange going) (EndsSettling going s) (position ++ spent_records s.exchange spent) Spent result old new
       (subst (λ (rs : List Record). EndsSettling going s rs Spent) (append_assoc (run_records s.exchange going) position (spent_records s.exchange spent))
       (settling.spends at spent (spent_session_has_few going s h.best h.regret h.provisional h.marginals.items spent run is) ended)) whole
 
@@ -99,16 +100,16 @@ module _ (s : SessionAt) where
   rounds_left : (best : Option Found) (regret : Option Regret) (provisional : Option Found) (ms : List Marginal) (limit : PriceLimit) → s.number ≤ s.exchange.settings.rounds → IsLimitAt s best regret provisional ms limit → 0 < s.exchange.settings.rounds
   rounds_left _ _ _ _ _ few (at_pricing {regret = regret} left goes_on settlement found count ends) = omega (arith, more_rounds s.exchange.settings s.number regret.amount goes_on few)
 
-  pub ends_limited : (h : Halt) (limit : PriceLimit) (old new : Option (List ℕ)) (f g : ℕ) (result : Status) → IsHaltOf s h → IsLimitAt s h.best h.regret h.provisional h.marginals.items limit
-      → IsSaid (bytes_of (halt_records h ++ limit_records limit)) Limit old new f g result → EndsHere s old new f g result
-  ends_limited h limit old new f g result halt is said going run =
+  pub ends_limited : (h : Halt) (limit : PriceLimit) (old new : Taken) (result : Status) → IsHaltOf s h → IsLimitAt s h.best h.regret h.provisional h.marginals.items limit
+      → IsSaid (bytes_of (halt_records h ++ limit_records limit)) Limit old new result → EndsHere s old new result
+  ends_limited h limit old new result halt is said going run =
       let (sought, writes) = is_limited going s h.best h.regret h.provisional h.marginals.items limit run is in
       let may = limit_may_be_written going s h limit run halt is in
       let behind : List Record = sought_records s sought.final sought.amount sought.offered in
       let same : halt_records h ≡ sought_records s sought.final sought.amount sought.offered = halt_at_prices h halt sought in
-      let whole : IsSaid (bytes_of (behind ++ limit_records limit)) Limit old new f g result = subst (λ (rs : List Record). IsSaid (bytes_of (rs ++ limit_records limit)) Limit old new f g result) same said in
+      let whole : IsSaid (bytes_of (behind ++ limit_records limit)) Limit old new result = subst (λ (rs : List Record). IsSaid (bytes_of (rs ++ limit_records limit)) Limit old new result) same said in
       let ended = writes (subst (AllByRecursion IsRecord) same (halt_are_records h may.0)) (limit_are_records limit may.1) in
-      said_piece (run_records s.exchange going) (EndsSettling going s) (behind ++ limit_records limit) Limit result old new f g
+      said_piece (run_records s.exchange going) (EndsSettling going s) (behind ++ limit_records limit) Limit result old new
       (subst (λ (rs : List Record). EndsSettling going s rs Limit) (append_assoc (run_records s.exchange going) behind (limit_records limit))
       (limits sought.final sought.amount sought.offered limit (rounds_left h.best h.regret h.provisional h.marginals.items limit run.few is) ended)) whole
 
@@ -121,16 +122,16 @@ module _ (s : SessionAt) where
     same_opening : opening_records r.exchange o ≡ going_in version_2 (length (exact_of s.exchange)) s.number (going_of o [])
     same_opening = ap (λ (x : Exchange). opening_records x o) is.exchange ∙ opening_going s.exchange s.number o is.number
 
-    pub round_opens : (old new : Option (List ℕ)) (f g : ℕ) → Takes (bytes_of (opening_records r.exchange o)) old new f g → OpensRound s r old new f g
-    round_opens old new f g takes going run = (
+    pub round_opens : (old new : Taken) → Takes (bytes_of (opening_records r.exchange o)) old new → OpensRound s r old new
+    round_opens old new takes going run = (
       going_of o [],
       round_begins going s r o run is (opening_are going run),
       refl,
-      subst (λ (rs : List Record). Takes (bytes_of rs) old new f g) same_opening takes,
+      subst (λ (rs : List Record). Takes (bytes_of rs) old new) same_opening takes,
     )
 
-    pub opening_fails : (old new : Option (List ℕ)) (f g : ℕ) → FailsIn (bytes_of (opening_records r.exchange o)) old new f g → EndsHere s old new f g WriteFault
-    opening_fails old new f g fails going run =
-        failed_piece (run_records s.exchange going) (EndsSettling going s) (going_in version_2 (length (exact_of s.exchange)) s.number (going_of o [])) NoMemory old new f g
+    pub opening_fails : (old new : Taken) → FailsIn (bytes_of (opening_records r.exchange o)) old new → EndsHere s old new WriteFault
+    opening_fails old new fails going run =
+        failed_piece (run_records s.exchange going) (EndsSettling going s) (going_in version_2 (length (exact_of s.exchange)) s.number (going_of o [])) NoMemory old new
         (opens (going_of o []) r (round_begins going s r o run is (opening_are going run)) refl)
-        (subst (λ (rs : List Record). FailsIn (bytes_of rs) old new f g) same_opening fails)
+        (subst (λ (rs : List Record). FailsIn (bytes_of rs) old new) same_opening fails)

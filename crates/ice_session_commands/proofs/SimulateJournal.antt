@@ -1,10 +1,11 @@
 -- The journal that `simulate` writes is one of which its contract speaks.
-use Rattle.std.proofs.Common.{◌≡◌, ◌∙◌, ◌<◌, ℕ, List, [], ◌∷◌, ◌++◌, length, drop, refl, sym, ap, subst, append_assoc, Option, Ok, ℤ}
+use Rattle.std.proofs.Common.{◌≡◌, ◌∙◌, ◌<◌, ℕ, List, [], ◌∷◌, ◌++◌, length, drop, refl, sym, ap, subst, append_assoc, Ok, ℤ}
 use Rattle.std.specs.List.{AllByRecursion}
 use Rattle.std.proofs.lemmas.List.{append-nil}
 use Rattle.ice_edge.specs.Told.{Told}
 use Rattle.ice_edge.specs.declared.status.Status.{Status}
 use Rattle.ice_edge.specs.declared.status.Status.TheVariants.{Done, Spent, Limit, NoMemory}
+use Rattle.ice_edge.specs.Taken.{Taken}
 use Rattle.ice_defs.specs.Bounds.{Bounds}
 use Rattle.ice_defs.specs.Round.{Submission}
 use Rattle.ice_defs.specs.Exchange.{Exchange, exact_of, opening_bounds}
@@ -215,10 +216,10 @@ simulate_answers call name file _ bids _ _ told said hold (in_round going s last
 
 -- ---- what `simulate` answers
 
-pub journal_serves : (before after : Told) (name file : List ℕ) (ex : Exchange) (bids : List Submission) (old new : Option (List ℕ)) (f g : ℕ) (result : Status) → HoldsExchange before name ex → HoldsTruths before file ex bids
-    → HoldTruths (opening_bounds ex) (truth_lists ex.bidders bids) → WritesBehind [] (IsSimulatedJournal (truth_lists ex.bidders bids) ex) old new f g result
-    → Serves (λ call. SimulateAnswers call name file) before after old new f g result
-journal_serves before after name file ex bids old new f g result told said hold (rest, status, is, put) = (
+pub journal_serves : (before after : Told) (name file : List ℕ) (ex : Exchange) (bids : List Submission) (old new : Taken) (result : Status) → HoldsExchange before name ex → HoldsTruths before file ex bids
+    → HoldTruths (opening_bounds ex) (truth_lists ex.bidders bids) → WritesBehind [] (IsSimulatedJournal (truth_lists ex.bidders bids) ex) old new result
+    → Serves (λ call. SimulateAnswers call name file) before after old new result
+journal_serves before after name file ex bids old new result told said hold (rest, status, is, put) = (
   bytes_of rest,
   status,
   λ call part text. simulate_answers call name file ex bids rest status (told_in_call call before after name file_limit (λ bytes. IsExchangeOf bytes (Ok ex)) part told)

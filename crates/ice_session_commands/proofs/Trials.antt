@@ -8,6 +8,7 @@ use Rattle.std.proofs.lemmas.Int.{ints, by_lt_z}
 use Rattle.ice_edge.specs.Told.{Told}
 use Rattle.ice_edge.specs.declared.status.Status.{Status}
 use Rattle.ice_edge.specs.declared.status.Status.TheVariants.{Done, Spent, Limit}
+use Rattle.ice_edge.specs.Taken.{Taken}
 use Rattle.ice_defs.specs.declared.Verdict.TheVariants.{Accepted}
 use Rattle.ice_defs.specs.Bounds.{Bounds}
 use Rattle.ice_defs.specs.Round.{Submission, Judged}
@@ -101,8 +102,8 @@ closed_answers text number s is written =
 -- ---- what is said
 
 -- what is said of a text is said of a call that wrote it
-pub serves_said : (IsAnswer : List ℕ → Status → Type 0) (before after : Told) (old new : Option (List ℕ)) (f g : ℕ) (result : Status) → Says IsAnswer old new f g result → Serves (λ call. IsAnswer call.text) before after old new f g result
-serves_said IsAnswer before after old new f g result (text, status, is, said) = (text, status, λ call part same. subst (λ (t : List ℕ). IsAnswer t status) (sym same) is, said)
+pub serves_said : (IsAnswer : List ℕ → Status → Type 0) (before after : Told) (old new : Taken) (result : Status) → Says IsAnswer old new result → Serves (λ call. IsAnswer call.text) before after old new result
+serves_said IsAnswer before after old new result (text, status, is, said) = (text, status, λ call part same. subst (λ (t : List ℕ). IsAnswer t status) (sym same) is, said)
 
 -- ---- the journal
 

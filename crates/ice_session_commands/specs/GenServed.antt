@@ -1,9 +1,10 @@
 -- What `gen` writes at each status.
-use Rattle.std.specs.Prelude.{ℕ, ◌≡◌, ◌⊎◌, if◌then◌else◌, int_lt, List, [], ◌∷◌, codes, decimal, pos, Option}
+use Rattle.std.specs.Prelude.{ℕ, ◌≡◌, ◌⊎◌, if◌then◌else◌, int_lt, List, [], ◌∷◌, codes, decimal, pos}
 use Rattle.std.specs.Fmt.{signed_decimal}
 use Rattle.std.specs.List.{flat_map}
 use Rattle.ice_edge.specs.declared.status.Status.{Status}
 use Rattle.ice_edge.specs.declared.status.Status.TheVariants.{Done, Spent, Limit, NoMemory}
+use Rattle.ice_edge.specs.Taken.{Taken}
 use Rattle.ice_defs.specs.Round.{Submission}
 use Rattle.ice_defs.specs.Exchange.{names_of}
 use Rattle.ice_journal.specs.Records.{Record, session_kind}
@@ -72,6 +73,6 @@ GenAnswers text number NoMemory = text ≡ []
 GenAnswers text number other = ⊥
 
 -- a command that fetches nothing has an answer, and says it
-abbrev pub Says : (List ℕ → Status → Type 0) → Option (List ℕ) → Option (List ℕ) → ℕ → ℕ → Status → Type 0
-Says IsAnswer old new faults faults_after result =
-    (text : List ℕ) × (status : Status) × IsAnswer text status × IsSaid text status old new faults faults_after result
+abbrev pub Says : (List ℕ → Status → Type 0) → Taken → Taken → Status → Type 0
+Says IsAnswer old new result =
+    (text : List ℕ) × (status : Status) × IsAnswer text status × IsSaid text status old new result

@@ -1,11 +1,12 @@
 -- What the steps of a session put, behind what was put before.
-use Rattle.std.specs.Prelude.{ℕ, ◌≡◌, List, [], ◌++◌, length, take, Option, Result, Ok, Err, OnOk}
+use Rattle.std.specs.Prelude.{ℕ, ◌≡◌, List, [], ◌++◌, length, take, Result, Ok, Err, OnOk}
 use Rattle.std.specs.List.{flat_map}
 use Rattle.ice_edge.specs.Puts.{Takes, IsPut}
 use Rattle.ice_edge.specs.Told.{Told}
 use Rattle.ice_edge.specs.declared.sink.SinkFault.{SinkFault}
 use Rattle.ice_edge.specs.declared.status.Status.{Status}
 use Rattle.ice_edge.specs.declared.status.Status.TheVariants.{WriteFault}
+use Rattle.ice_edge.specs.Taken.{Taken}
 use Rattle.ice_defs.specs.Round.{Submission, Judged}
 use Rattle.ice_defs.specs.Exchange.{exact_of}
 use Rattle.ice_defs.specs.Session.{Going}
@@ -25,54 +26,54 @@ use Rattle.ice_session_commands.specs.RunJournal.{RunsTo}
 use Rattle.ice_session_commands.specs.Sources.{LeadsTo, AreHeld, IsLeft}
 
 -- the first bids are judged, and put
-pub record HaveJudged (before after : RoundAt) (bids : List Submission) (count : ℕ) (old new : Option (List ℕ)) (faults faults_after : ℕ) : Type 0 where
+pub record HaveJudged (before after : RoundAt) (bids : List Submission) (count : ℕ) (old new : Taken) : Type 0 where
   pub judged : List Judged
   pub bids_are : submissions_in judged ≡ take count bids
   pub goes_on : GoesOnBy before after judged
-  pub takes : Takes (bytes_of (flat_map judged_records judged)) old new faults faults_after
+  pub takes : Takes (bytes_of (flat_map judged_records judged)) old new
 
 -- the bids are judged and put, all of them unless the sink failed
-pub record Judges (before after : RoundAt) (bids : List Submission) (put : Result (Unit {0}) SinkFault) (old new : Option (List ℕ)) (faults faults_after : ℕ) : Type 0 where
+pub record Judges (before after : RoundAt) (bids : List Submission) (put : Result (Unit {0}) SinkFault) (old new : Taken) : Type 0 where
   pub judged : List Judged
   pub front : IsPrefix (submissions_in judged) bids
   pub all : OnOk put (submissions_in judged ≡ bids)
   pub goes_on : GoesOnBy before after judged
-  pub is_put : IsPut (bytes_of (flat_map judged_records judged)) put old new faults faults_after
+  pub is_put : IsPut (bytes_of (flat_map judged_records judged)) put old new
 
 -- the next settlement opened a round, and is put
-abbrev pub OpensRound : SessionAt → RoundAt → Option (List ℕ) → Option (List ℕ) → ℕ → ℕ → Type 0
-OpensRound s r old new faults faults_after =
+abbrev pub OpensRound : SessionAt → RoundAt → Taken → Taken → Type 0
+OpensRound s r old new =
     (going : List Going) → IsRunning going s
-    → (last : Going) × IsInRound going s last r × (last.judged ≡ []) × Takes (bytes_of (going_in version_2 (length (exact_of s.exchange)) s.number last)) old new faults faults_after
+    → (last : Going) × IsInRound going s last r × (last.judged ≡ []) × Takes (bytes_of (going_in version_2 (length (exact_of s.exchange)) s.number last)) old new
 
 -- the journal ends in this settlement
-abbrev pub EndsHere : SessionAt → Option (List ℕ) → Option (List ℕ) → ℕ → ℕ → Status → Type 0
-EndsHere s old new faults faults_after result =
-    (going : List Going) → IsRunning going s → WritesBehind (run_records s.exchange going) (EndsSettling going s) old new faults faults_after result
+abbrev pub EndsHere : SessionAt → Taken → Taken → Status → Type 0
+EndsHere s old new result =
+    (going : List Going) → IsRunning going s → WritesBehind (run_records s.exchange going) (EndsSettling going s) old new result
 
 -- all bids are judged and put, and the session goes on behind the round
-abbrev pub EndsRound : RoundAt → List Submission → SessionAt → Option (List ℕ) → Option (List ℕ) → ℕ → ℕ → Type 0
-EndsRound r bids next old new faults faults_after = (after : RoundAt) × (next ≡ session_after after) × Judges r after bids (Ok tt) old new faults faults_after
+abbrev pub EndsRound : RoundAt → List Submission → SessionAt → Taken → Taken → Type 0
+EndsRound r bids next old new = (after : RoundAt) × (next ≡ session_after after) × Judges r after bids (Ok tt) old new
 
 -- the sink failed in the round
-abbrev pub FailsInRound : RoundAt → List Submission → Option (List ℕ) → Option (List ℕ) → ℕ → ℕ → Status → Type 0
-FailsInRound r bids old new faults faults_after result =
-    (result ≡ WriteFault) × ((after : RoundAt) × (fault : SinkFault) × Judges r after bids (Err fault) old new faults faults_after)
+abbrev pub FailsInRound : RoundAt → List Submission → Taken → Taken → Status → Type 0
+FailsInRound r bids old new result =
+    (result ≡ WriteFault) × ((after : RoundAt) × (fault : SinkFault) × Judges r after bids (Err fault) old new)
 
 -- no file is left for the round, or the next one isn't had, and the journal ends in it
-abbrev pub LacksFile : List (List ℕ) → RoundAt → Told → Told → Option (List ℕ) → Option (List ℕ) → ℕ → ℕ → Status → Type 0
-LacksFile files r before after old new faults faults_after result =
+abbrev pub LacksFile : List (List ℕ) → RoundAt → Told → Told → Taken → Taken → Status → Type 0
+LacksFile files r before after old new result =
     (going : List Going) (s : SessionAt) (last : Going) (done : List (List ℕ)) → IsInRound going s last r → last.judged ≡ [] → length done ≡ length going → AreHeld before done going
-    → WritesBehind (round_records s going last) (RunsTo s.exchange (done ++ files) before after) old new faults faults_after result
+    → WritesBehind (round_records s going last) (RunsTo s.exchange (done ++ files) before after) old new result
 
 -- the source has no bids for the round, and the journal ends in it
-abbrev pub EndsInRound : Source → RoundAt → Told → Told → Option (List ℕ) → Option (List ℕ) → ℕ → ℕ → Status → Type 0
-EndsInRound source r before after old new faults faults_after result =
+abbrev pub EndsInRound : Source → RoundAt → Told → Told → Taken → Taken → Status → Type 0
+EndsInRound source r before after old new result =
     (whole : Source) (going : List Going) (s : SessionAt) (last : Going) → IsInRound going s last r → last.judged ≡ [] → IsLeft before whole going s source
-    → WritesBehind (round_records s going last) (LeadsTo whole s.exchange before after) old new faults faults_after result
+    → WritesBehind (round_records s going last) (LeadsTo whole s.exchange before after) old new result
 
 -- the rest of the session is put, with the bids of what is left of its source
-abbrev pub Plays : Source → SessionAt → Told → Told → Option (List ℕ) → Option (List ℕ) → ℕ → ℕ → Status → Type 0
-Plays source s before after old new faults faults_after result =
+abbrev pub Plays : Source → SessionAt → Told → Told → Taken → Taken → Status → Type 0
+Plays source s before after old new result =
     (whole : Source) (going : List Going) → IsRunning going s → IsLeft before whole going s source
-    → WritesBehind (run_records s.exchange going) (LeadsTo whole s.exchange before after) old new faults faults_after result
+    → WritesBehind (run_records s.exchange going) (LeadsTo whole s.exchange before after) old new result

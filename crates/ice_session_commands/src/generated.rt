@@ -13,8 +13,7 @@ use std::alloc::Global;
 /// session, it writes the session's journal instead.
 #[tactic(none)]
 pub fn generated<K: Sink>(alloc: Global, number: u32, out: &mut K) -> Status
-    ensures { Says (λ text. GenAnswers text number)
-        (K.written out.old) (K.written out.new) (K.faults out.old) (K.faults out.new) result }
+    ensures { Says (λ text. GenAnswers text number) (K.taken out.old) (K.taken out.new) result }
 {
     match try_generated(alloc, number) {
         TrialEnd::Closed(summary) => ended(put_summary(number, &summary, out), Status::Done),

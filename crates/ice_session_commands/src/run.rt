@@ -24,8 +24,7 @@ pub fn run<H: Shelf, K: Sink>(
 ) -> Status
     requires { length rounds.now ≤ 20 }
     ensures served { Serves (λ call. RunAnswers call exchange.now (map string_bytes rounds.now))
-        (H.told shelf.old) (H.told shelf.new)
-        (K.written out.old) (K.written out.new) (K.faults out.old) (K.faults out.new) result }
+        (H.told shelf.old) (H.told shelf.new) (K.taken out.old) (K.taken out.new) result }
     ensures kept { KeepsTold (H.told shelf.old) (H.told shelf.new) result }
 {
     match read_exchange(alloc, 1, exchange, shelf) {

@@ -20,9 +20,9 @@ use std::alloc::Global;
 #[tactic(none)]
 fn hold_round<K: Sink>(round: InRound, bids: &[Bid], out: &mut K) -> Result<Ready, Status>
     ensures next { IfOk result (λ next. EndsRound round bids.now next
-        (K.written out.old) (K.written out.new) (K.faults out.old) (K.faults out.new)) }
+        (K.taken out.old) (K.taken out.new)) }
     ensures ended { IfErr result (λ status. FailsInRound round bids.now
-        (K.written out.old) (K.written out.new) (K.faults out.old) (K.faults out.new) status) }
+        (K.taken out.old) (K.taken out.new) status) }
 {
     let mut round = round;
     match judge(&mut round, bids, out) {
@@ -44,7 +44,7 @@ fn hold_rounds<H: Shelf, K: Sink>(
     requires { (whole : Source) × (going : List Going) × IsRunning going ready
         × IsLeft (H.told shelf.old) whole going ready source }
     ensures plays { Plays source.entry ready (H.told shelf.old) (H.told shelf.new)
-        (K.written out.old) (K.written out.new) (K.faults out.old) (K.faults out.new) result }
+        (K.taken out.old) (K.taken out.new) result }
     ensures kept { KeepsTold (H.told shelf.old) (H.told shelf.new) result }
     ensures later { IsLater (H.told shelf.old) (H.told shelf.new) }
 {
@@ -75,7 +75,7 @@ pub fn hold_session<H: Shelf, K: Sink>(
     requires { MayBegin source exchange }
     ensures journal { WritesBehind []
         (LeadsTo source.entry exchange (H.told shelf.old) (H.told shelf.new))
-        (K.written out.old) (K.written out.new) (K.faults out.old) (K.faults out.new) result }
+        (K.taken out.old) (K.taken out.new) result }
     ensures kept { KeepsTold (H.told shelf.old) (H.told shelf.new) result }
     ensures later { IsLater (H.told shelf.old) (H.told shelf.new) }
 {

@@ -29,7 +29,7 @@ use ice_write_session::{put_closing, put_halt, put_judged, put_limit, put_openin
 /// Puts the head and the exchange.
 pub fn put_begin<K: Sink>(exchange: &Exchange, out: &mut K) -> Result<(), SinkFault>
     ensures { IsPut (bytes_of (begun_records exchange.now)) result
-        (K.written out.old) (K.written out.new) (K.faults out.old) (K.faults out.new) }
+        (K.taken out.old) (K.taken out.new) }
 {
     let head = Line::Head {
         version: Version::Two,
@@ -43,7 +43,7 @@ pub fn put_begin<K: Sink>(exchange: &Exchange, out: &mut K) -> Result<(), SinkFa
 fn close<K: Sink>(closing: &Closing, out: &mut K) -> Status
     requires { IsWritableClosing closing.now }
     ensures { IsSaid (bytes_of (closing_records closing.now)) Status.Done
-        (K.written out.old) (K.written out.new) (K.faults out.old) (K.faults out.new) result }
+        (K.taken out.old) (K.taken out.new) result }
 {
     ended(put_closing(closing, out), Status::Done)
 }
@@ -62,7 +62,7 @@ pub fn put_halted<K: Sink>(halt: &Halt, spent: &Spent, out: &mut K) -> Result<()
     requires spent { IsWritable (length (exact_of halt.now.exchange)) (proved_spent spent.now) }
     ensures put { IsPut
         (bytes_of (halt_records halt.now ++ spent_records halt.now.exchange spent.now)) result
-        (K.written out.old) (K.written out.new) (K.faults out.old) (K.faults out.new) }
+        (K.taken out.old) (K.taken out.new) }
     ensures record_is { IsRecord (line.spent spent.now.value spent.now.bound) }
 {
     let _bound = bound_of(spent);
@@ -76,7 +76,7 @@ fn stop_spent<K: Sink>(halt: &Halt, spent: &Spent, out: &mut K) -> Status
     requires spent { IsWritable (length (exact_of halt.now.exchange)) (proved_spent spent.now) }
     ensures said { IsSaid
         (bytes_of (halt_records halt.now ++ spent_records halt.now.exchange spent.now)) Status.Spent
-        (K.written out.old) (K.written out.new) (K.faults out.old) (K.faults out.new) result }
+        (K.taken out.old) (K.taken out.new) result }
     ensures record_is { IsRecord (line.spent spent.now.value spent.now.bound) }
 {
     ended(put_halted(halt, spent, out), Status::Spent)
@@ -87,7 +87,7 @@ pub fn put_limited<K: Sink>(halt: &Halt, limit: &PriceLimit, out: &mut K) -> Res
     requires halt { IsWritableHalt halt.now }
     requires limit { IsWritableLimit limit.now }
     ensures { IsPut (bytes_of (halt_records halt.now ++ limit_records limit.now)) result
-        (K.written out.old) (K.written out.new) (K.faults out.old) (K.faults out.new) }
+        (K.taken out.old) (K.taken out.new) }
 {
     put_halt(halt, out)?;
     put_limit(limit, out)
@@ -98,7 +98,7 @@ fn stop_limited<K: Sink>(halt: &Halt, limit: &PriceLimit, out: &mut K) -> Status
     requires halt { IsWritableHalt halt.now }
     requires limit { IsWritableLimit limit.now }
     ensures { IsSaid (bytes_of (halt_records halt.now ++ limit_records limit.now)) Status.Limit
-        (K.written out.old) (K.written out.new) (K.faults out.old) (K.faults out.new) result }
+        (K.taken out.old) (K.taken out.new) result }
 {
     ended(put_limited(halt, limit, out), Status::Limit)
 }
@@ -108,10 +108,8 @@ fn stop_limited<K: Sink>(halt: &Halt, limit: &PriceLimit, out: &mut K) -> Status
 pub fn settled_round<K: Sink>(ready: Ready, out: &mut K) -> Result<InRound, Status>
     requires { (going : List Going) × IsRunning going ready }
     ensures { MatchResult result
-        (λ round. OpensRound ready round (K.written out.old) (K.written out.new) (K.faults out.old)
-        (K.faults out.new))
-        (λ status. EndsHere ready (K.written out.old) (K.written out.new) (K.faults out.old)
-        (K.faults out.new) status) }
+        (λ round. OpensRound ready round (K.taken out.old) (K.taken out.new))
+        (λ status. EndsHere ready (K.taken out.old) (K.taken out.new) status) }
 {
     match ready.settle() {
         Settled::Closed(closing) => Err(close(&closing, out)),
@@ -131,8 +129,7 @@ pub fn settled_round<K: Sink>(ready: Ready, out: &mut K) -> Result<InRound, Stat
 /// Judges the bids in their order, and puts each with its verdict as soon as it is judged.
 #[tactic(none)]
 pub fn judge<K: Sink>(round: &mut InRound, bids: &[Bid], out: &mut K) -> Result<(), SinkFault>
-    ensures { Judges round.old round.new bids.now result
-        (K.written out.old) (K.written out.new) (K.faults out.old) (K.faults out.new) }
+    ensures { Judges round.old round.new bids.now result (K.taken out.old) (K.taken out.new) }
 {
     for bid in bids {
         let verdict = round.submit(bid);

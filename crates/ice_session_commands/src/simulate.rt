@@ -24,8 +24,7 @@ pub fn simulate<H: Shelf, K: Sink>(
     out: &mut K,
 ) -> Status
     ensures served { Serves (λ call. SimulateAnswers call exchange.now truths.now)
-        (H.told shelf.old) (H.told shelf.new)
-        (K.written out.old) (K.written out.new) (K.faults out.old) (K.faults out.new) result }
+        (H.told shelf.old) (H.told shelf.new) (K.taken out.old) (K.taken out.new) result }
     ensures kept { KeepsTold (H.told shelf.old) (H.told shelf.new) result }
 {
     let exchange = match read_exchange(alloc, 1, exchange, shelf) {

@@ -31,7 +31,7 @@ pub enum Source<'a> {
 /// Puts that no further round file is there.
 fn stay_open<K: Sink>(out: &mut K) -> Status
     ensures { IsSaid (line_of (line.end open_end)) Status.StillOpen
-        (K.written out.old) (K.written out.new) (K.faults out.old) (K.faults out.new) result }
+        (K.taken out.old) (K.taken out.new) result }
 {
     ended(
         put_record(&Line::End(EndWord::Open), out),
@@ -53,11 +53,9 @@ fn file_bids<'a, H: Shelf, K: Sink>(
     ensures bids { IfOk result (λ two. (name : List ℕ)
         × (map string_bytes names.now ≡ name ∷ map string_bytes two.1.now)
         × HoldsBids (H.told shelf.old) name two.0.items) }
-    ensures unwritten { OnOk result ((K.written out.new ≡ K.written out.old)
-        × (K.faults out.new ≡ K.faults out.old)) }
+    ensures unwritten { OnOk result (K.taken out.new ≡ K.taken out.old) }
     ensures ended { IfErr result (λ status. LacksFile (map string_bytes names.now) round.now
-        (H.told shelf.old) (H.told shelf.new)
-        (K.written out.old) (K.written out.new) (K.faults out.old) (K.faults out.new) status) }
+        (H.told shelf.old) (H.told shelf.new) (K.taken out.old) (K.taken out.new) status) }
     ensures kept { OnOk result (H.told shelf.new ≡ H.told shelf.old) }
     ensures kept_at_end { IfErr result (KeepsTold (H.told shelf.old) (H.told shelf.new)) }
     ensures later { IsLater (H.told shelf.old) (H.told shelf.new) }
@@ -85,11 +83,9 @@ pub fn round_bids<'a, H: Shelf, K: Sink>(
     requires { MayGive source round.now }
     ensures bids { IfOk result (λ two.
         Gives source.entry (H.told shelf.old) round.now two.0.items two.1) }
-    ensures unwritten { OnOk result ((K.written out.new ≡ K.written out.old)
-        × (K.faults out.new ≡ K.faults out.old)) }
+    ensures unwritten { OnOk result (K.taken out.new ≡ K.taken out.old) }
     ensures ended { IfErr result (λ status. EndsInRound source.entry round.now
-        (H.told shelf.old) (H.told shelf.new)
-        (K.written out.old) (K.written out.new) (K.faults out.old) (K.faults out.new) status) }
+        (H.told shelf.old) (H.told shelf.new) (K.taken out.old) (K.taken out.new) status) }
     ensures kept { OnOk result (H.told shelf.new ≡ H.told shelf.old) }
     ensures kept_at_end { IfErr result (KeepsTold (H.told shelf.old) (H.told shelf.new)) }
     ensures later { IsLater (H.told shelf.old) (H.told shelf.new) }

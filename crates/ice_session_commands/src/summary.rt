@@ -1,7 +1,7 @@
 //! The summary of a generated session.
-ghost use Rattle.std.specs.Prelude.{◌≡◌, ◌≤◌, OnOk, OnErr};
+ghost use Rattle.std.specs.Prelude.{◌≡◌};
 ghost use Rattle.std.specs.List.{flat_map};
-ghost use Rattle.ice_edge.specs.Edge.{Rose, Appends, AppendsFront};
+ghost use Rattle.ice_edge.specs.Puts.{IsPut};
 ghost use Rattle.ice_session_commands.specs.GenLines.{summary_line, lines_of_summary};
 ghost use Rattle.ice_session_commands.specs.GenServed.{summary_text};
 
@@ -29,12 +29,7 @@ fn summary_lines(number: u32, summary: &Summary) -> [SummaryLine; 10]
 
 /// Puts lines, each in one put.
 fn put_lines<K: Sink>(lines: &[SummaryLine], out: &mut K) -> Result<(), SinkFault>
-    ensures ok { OnOk result
-        (Appends (K.written out.old) (flat_map summary_line lines.now) (K.written out.new)) }
-    ensures err { OnErr result
-        (AppendsFront (K.written out.old) (flat_map summary_line lines.now) (K.written out.new)) }
-    ensures failed { OnErr result (Rose (K.faults out.old) (K.faults out.new)) }
-    ensures later { K.faults out.old ≤ K.faults out.new }
+    ensures { IsPut (flat_map summary_line lines.now) result (K.taken out.old) (K.taken out.new) }
 {
     for line in lines {
         line.put(out)?;
@@ -44,11 +39,7 @@ fn put_lines<K: Sink>(lines: &[SummaryLine], out: &mut K) -> Result<(), SinkFaul
 
 /// Puts the summary of the session of the exchange that was generated from this number.
 pub fn put_summary<K: Sink>(number: u32, summary: &Summary, out: &mut K) -> Result<(), SinkFault>
-    ensures ok { OnOk result
-        (Appends (K.written out.old) (summary_text number summary.now) (K.written out.new)) }
-    ensures err { OnErr result
-        (AppendsFront (K.written out.old) (summary_text number summary.now) (K.written out.new)) }
-    ensures failed { OnErr result (Rose (K.faults out.old) (K.faults out.new)) }
+    ensures { IsPut (summary_text number summary.now) result (K.taken out.old) (K.taken out.new) }
 {
     put_lines(&summary_lines(number, summary), out)
 }

@@ -1,6 +1,6 @@
 //! A line of the summary of a generated session.
-ghost use Rattle.std.specs.Prelude.{◌≡◌, [], OnOk, OnErr, ◌≤◌};
-ghost use Rattle.ice_edge.specs.Edge.{Rose, Appends, AppendsFront};
+ghost use Rattle.std.specs.Prelude.{◌≡◌, []};
+ghost use Rattle.ice_edge.specs.Puts.{IsPut};
 
 use ice_edge::{Sink, SinkFault};
 use ice_frac::Frac;
@@ -87,12 +87,7 @@ impl SummaryLine {
 
     /// Puts it.
     pub fn put<K: Sink>(&self, out: &mut K) -> Result<(), SinkFault>
-        ensures ok { OnOk result
-            (Appends (K.written out.old) (summary_line self.now) (K.written out.new)) }
-        ensures err { OnErr result
-            (AppendsFront (K.written out.old) (summary_line self.now) (K.written out.new)) }
-        ensures failed { OnErr result (Rose (K.faults out.old) (K.faults out.new)) }
-        ensures later { K.faults out.old ≤ K.faults out.new }
+        ensures { IsPut (summary_line self.now) result (K.taken out.old) (K.taken out.new) }
     {
         let mut writer = LineWriter::new();
         out.put(self.write(&mut writer))

@@ -28,7 +28,7 @@ use ice_write_session::{put_judged, put_opening};
 /// Puts bids that are all accepted.
 fn put_accepted<K: Sink>(bids: &[Bid], out: &mut K) -> Result<(), SinkFault>
     ensures { IsPut (bytes_of (flat_map judged_records (accepted bids.now))) result
-        (K.written out.old) (K.written out.new) (K.faults out.old) (K.faults out.new) }
+        (K.taken out.old) (K.taken out.new) }
 {
     for bid in bids {
         put_judged(bid, Verdict::Accepted, out)?;
@@ -40,7 +40,7 @@ fn put_accepted<K: Sink>(bids: &[Bid], out: &mut K) -> Result<(), SinkFault>
 fn put_round<K: Sink>(exchange: &Exchange, round: &TruthRound, out: &mut K) -> Result<(), SinkFault>
     requires { IsWritableOpening (length (exact_of exchange.now)) round.now.opening }
     ensures { IsPut (bytes_of (first_records exchange.now (Some round.now))) result
-        (K.written out.old) (K.written out.new) (K.faults out.old) (K.faults out.new) }
+        (K.taken out.old) (K.taken out.new) }
 {
     put_opening(exchange, &round.opening, out)?;
     put_accepted(&round.bids, out)
@@ -55,7 +55,7 @@ fn put_first<K: Sink>(
     requires { IfSome first.now
         (λ r. IsWritableOpening (length (exact_of exchange.now)) r.opening) }
     ensures { IsPut (bytes_of (first_records exchange.now first.now)) result
-        (K.written out.old) (K.written out.new) (K.faults out.old) (K.faults out.new) }
+        (K.taken out.old) (K.taken out.new) }
 {
     match first {
         Some(round) => put_round(exchange, round, out),
@@ -72,7 +72,7 @@ fn put_trial<K: Sink>(
     requires { IfSome first.now
         (λ r. IsWritableOpening (length (exact_of exchange.now)) r.opening) }
     ensures { IsPut (bytes_of (trial_records exchange.now first.now)) result
-        (K.written out.old) (K.written out.new) (K.faults out.old) (K.faults out.new) }
+        (K.taken out.old) (K.taken out.new) }
 {
     put_begin(exchange, out)?;
     put_first(exchange, first, out)
@@ -91,7 +91,7 @@ pub fn put_spent_trial<K: Sink>(
     requires spent { IsWritable (length (exact_of halt.now.exchange)) (proved_spent spent.now) }
     ensures put { IsPut (bytes_of (trial_records halt.now.exchange first.now
         ++ (halt_records halt.now ++ spent_records halt.now.exchange spent.now))) result
-        (K.written out.old) (K.written out.new) (K.faults out.old) (K.faults out.new) }
+        (K.taken out.old) (K.taken out.new) }
     ensures record_is { IsRecord (line.spent spent.now.value spent.now.bound) }
 {
     let _bound = bound_of(spent);
@@ -109,7 +109,7 @@ pub fn put_limited_trial<K: Sink>(
     requires limit { IsWritableLimit limit.now }
     ensures { IsPut (bytes_of (begun_records halt.now.exchange
         ++ (halt_records halt.now ++ limit_records limit.now))) result
-        (K.written out.old) (K.written out.new) (K.faults out.old) (K.faults out.new) }
+        (K.taken out.old) (K.taken out.new) }
 {
     put_begin(&halt.exchange, out)?;
     put_limited(halt, limit, out)

@@ -23,12 +23,12 @@ returns-in-Some-Check-clause-served g c =
       words = map string_bytes c.args.words.now;
       before = g.H.Shelf.told c.args.shelf.now;
       after = g.H.Shelf.told c.check.new.shelf;
-      sink_faults = g.K.Sink.faults c.args.out.now;
-      sink_faults_after = g.K.Sink.faults c.check.new.out;
+      sink_faults = (g.K.Sink.taken c.args.out.now).faults;
+      sink_faults_after = (g.K.Sink.taken c.check.new.out).faults;
       text = [];
       status = c.check.result;
     } in
-    served call (check journal) (λ one. CheckAnswers one journal) (g.K.Sink.written c.args.out.now) (g.K.Sink.written c.check.new.out)
+    served call (check journal) (λ one. CheckAnswers one journal) (g.K.Sink.taken c.args.out.now) (g.K.Sink.taken c.check.new.out) refl refl
     (rw c.in-Some-Check.field-0-is at c.in-Some-Check.ensures) (λ text status h. h) c.check.ensures.served
 
 pub returns-in-Some-Best-clause-served : goal.returns-in-Some-Best-clause-served
@@ -39,12 +39,12 @@ returns-in-Some-Best-clause-served g c =
       words = map string_bytes c.args.words.now;
       before = g.H.Shelf.told c.args.shelf.now;
       after = g.H.Shelf.told c.best.new.shelf;
-      sink_faults = g.K.Sink.faults c.args.out.now;
-      sink_faults_after = g.K.Sink.faults c.best.new.out;
+      sink_faults = (g.K.Sink.taken c.args.out.now).faults;
+      sink_faults_after = (g.K.Sink.taken c.best.new.out).faults;
       text = [];
       status = c.best.result;
     } in
-    served call (best exchange prices) (λ one. BestAnswers one exchange prices) (g.K.Sink.written c.args.out.now) (g.K.Sink.written c.best.new.out)
+    served call (best exchange prices) (λ one. BestAnswers one exchange prices) (g.K.Sink.taken c.args.out.now) (g.K.Sink.taken c.best.new.out) refl refl
     (rw c.in-Some-Best.field-0-is at c.in-Some-Best.ensures) (λ text status h. h) c.best.ensures.served
 
 pub returns-in-Some-Regret-clause-served : goal.returns-in-Some-Regret-clause-served
@@ -54,12 +54,12 @@ returns-in-Some-Regret-clause-served g c =
       words = map string_bytes c.args.words.now;
       before = g.H.Shelf.told c.args.shelf.now;
       after = g.H.Shelf.told c.regret.new.shelf;
-      sink_faults = g.K.Sink.faults c.args.out.now;
-      sink_faults_after = g.K.Sink.faults c.regret.new.out;
+      sink_faults = (g.K.Sink.taken c.args.out.now).faults;
+      sink_faults_after = (g.K.Sink.taken c.regret.new.out).faults;
       text = [];
       status = c.regret.result;
     } in
-    served call (regret exchange) (λ one. RegretAnswers one exchange) (g.K.Sink.written c.args.out.now) (g.K.Sink.written c.regret.new.out)
+    served call (regret exchange) (λ one. RegretAnswers one exchange) (g.K.Sink.taken c.args.out.now) (g.K.Sink.taken c.regret.new.out) refl refl
     (rw c.in-Some-Regret.field-0-is at c.in-Some-Regret.ensures) (λ text status h. h) c.regret.ensures.served
 
 pub returns-in-Some-Xor-clause-served : goal.returns-in-Some-Xor-clause-served
@@ -69,12 +69,12 @@ returns-in-Some-Xor-clause-served g c =
       words = map string_bytes c.args.words.now;
       before = g.H.Shelf.told c.args.shelf.now;
       after = g.H.Shelf.told c.xor.new.shelf;
-      sink_faults = g.K.Sink.faults c.args.out.now;
-      sink_faults_after = g.K.Sink.faults c.xor.new.out;
+      sink_faults = (g.K.Sink.taken c.args.out.now).faults;
+      sink_faults_after = (g.K.Sink.taken c.xor.new.out).faults;
       text = [];
       status = c.xor.result;
     } in
-    served call (xor file) (λ one. XorAnswers one file) (g.K.Sink.written c.args.out.now) (g.K.Sink.written c.xor.new.out)
+    served call (xor file) (λ one. XorAnswers one file) (g.K.Sink.taken c.args.out.now) (g.K.Sink.taken c.xor.new.out) refl refl
     (rw c.in-Some-Xor.field-0-is at c.in-Some-Xor.ensures) (λ text status h. h) c.xor.ensures.served
 
 pub returns-in-Some-Replay-clause-served : goal.returns-in-Some-Replay-clause-served
@@ -85,12 +85,12 @@ returns-in-Some-Replay-clause-served g c =
       words = map string_bytes c.args.words.now;
       before = g.H.Shelf.told c.args.shelf.now;
       after = g.H.Shelf.told c.replay.new.shelf;
-      sink_faults = g.K.Sink.faults c.args.out.now;
-      sink_faults_after = g.K.Sink.faults c.replay.new.out;
+      sink_faults = (g.K.Sink.taken c.args.out.now).faults;
+      sink_faults_after = (g.K.Sink.taken c.replay.new.out).faults;
       text = [];
       status = c.replay.result;
     } in
-    served call (replay journal number) (λ one. ReplayAnswers one journal number) (g.K.Sink.written c.args.out.now) (g.K.Sink.written c.replay.new.out)
+    served call (replay journal number) (λ one. ReplayAnswers one journal number) (g.K.Sink.taken c.args.out.now) (g.K.Sink.taken c.replay.new.out) refl refl
     (rw c.in-Some-Replay.field-0-is at c.in-Some-Replay.ensures) (λ text status h. h) c.replay.ensures.served
 
 pub returns-in-Some-Run-clause-served : goal.returns-in-Some-Run-clause-served
@@ -101,12 +101,12 @@ returns-in-Some-Run-clause-served g c =
       words = map string_bytes c.args.words.now;
       before = g.H.Shelf.told c.args.shelf.now;
       after = g.H.Shelf.told c.run.new.shelf;
-      sink_faults = g.K.Sink.faults c.args.out.now;
-      sink_faults_after = g.K.Sink.faults c.run.new.out;
+      sink_faults = (g.K.Sink.taken c.args.out.now).faults;
+      sink_faults_after = (g.K.Sink.taken c.run.new.out).faults;
       text = [];
       status = c.run.result;
     } in
-    served call (run exchange rounds) (λ one. RunAnswers one exchange rounds) (g.K.Sink.written c.args.out.now) (g.K.Sink.written c.run.new.out)
+    served call (run exchange rounds) (λ one. RunAnswers one exchange rounds) (g.K.Sink.taken c.args.out.now) (g.K.Sink.taken c.run.new.out) refl refl
     (rw c.in-Some-Run.field-0-is at c.in-Some-Run.ensures) (λ text status h. h) c.run.ensures.served
 
 pub returns-in-Some-Gen-clause-served : goal.returns-in-Some-Gen-clause-served
@@ -117,14 +117,14 @@ returns-in-Some-Gen-clause-served g c =
       words = map string_bytes c.args.words.now;
       before = g.H.Shelf.told c.args.shelf.now;
       after = g.H.Shelf.told c.args.shelf.now;
-      sink_faults = g.K.Sink.faults c.args.out.now;
-      sink_faults_after = g.K.Sink.faults c.generated.new.out;
+      sink_faults = (g.K.Sink.taken c.args.out.now).faults;
+      sink_faults_after = (g.K.Sink.taken c.generated.new.out).faults;
       text = [];
       status = c.generated.result;
     } in
-    served call (gen number) (λ one. GenAnswers one.text number) (g.K.Sink.written c.args.out.now) (g.K.Sink.written c.generated.new.out)
+    served call (gen number) (λ one. GenAnswers one.text number) (g.K.Sink.taken c.args.out.now) (g.K.Sink.taken c.generated.new.out) refl refl
     (rw c.in-Some-Gen.field-0-is at c.in-Some-Gen.ensures) (λ text status h. h)
-    (serves_said (λ text. GenAnswers text number) shelf shelf (g.K.Sink.written c.args.out.now) (g.K.Sink.written c.generated.new.out) (g.K.Sink.faults c.args.out.now) (g.K.Sink.faults c.generated.new.out)
+    (serves_said (λ text. GenAnswers text number) shelf shelf (g.K.Sink.taken c.args.out.now) (g.K.Sink.taken c.generated.new.out)
     c.generated.result c.generated.ensures)
 
 pub returns-in-Some-Migrate-clause-served : goal.returns-in-Some-Migrate-clause-served
@@ -134,12 +134,12 @@ returns-in-Some-Migrate-clause-served g c =
       words = map string_bytes c.args.words.now;
       before = g.H.Shelf.told c.args.shelf.now;
       after = g.H.Shelf.told c.migrate.new.shelf;
-      sink_faults = g.K.Sink.faults c.args.out.now;
-      sink_faults_after = g.K.Sink.faults c.migrate.new.out;
+      sink_faults = (g.K.Sink.taken c.args.out.now).faults;
+      sink_faults_after = (g.K.Sink.taken c.migrate.new.out).faults;
       text = [];
       status = c.migrate.result;
     } in
-    served call (migrate journal) (λ one. MigrateAnswers one journal) (g.K.Sink.written c.args.out.now) (g.K.Sink.written c.migrate.new.out)
+    served call (migrate journal) (λ one. MigrateAnswers one journal) (g.K.Sink.taken c.args.out.now) (g.K.Sink.taken c.migrate.new.out) refl refl
     (rw c.in-Some-Migrate.field-0-is at c.in-Some-Migrate.ensures) (λ text status h. h) c.migrate.ensures.served
 
 pub returns-in-Some-Statement-clause-served : goal.returns-in-Some-Statement-clause-served
@@ -150,12 +150,12 @@ returns-in-Some-Statement-clause-served g c =
       words = map string_bytes c.args.words.now;
       before = g.H.Shelf.told c.args.shelf.now;
       after = g.H.Shelf.told c.statement.new.shelf;
-      sink_faults = g.K.Sink.faults c.args.out.now;
-      sink_faults_after = g.K.Sink.faults c.statement.new.out;
+      sink_faults = (g.K.Sink.taken c.args.out.now).faults;
+      sink_faults_after = (g.K.Sink.taken c.statement.new.out).faults;
       text = [];
       status = c.statement.result;
     } in
-    served call (statement journal name) (λ one. StatementAnswers one journal name) (g.K.Sink.written c.args.out.now) (g.K.Sink.written c.statement.new.out)
+    served call (statement journal name) (λ one. StatementAnswers one journal name) (g.K.Sink.taken c.args.out.now) (g.K.Sink.taken c.statement.new.out) refl refl
     (rw c.in-Some-Statement.field-0-is at c.in-Some-Statement.ensures) (λ text status h. h) c.statement.ensures.served
 
 pub returns-in-Some-Simulate-clause-served : goal.returns-in-Some-Simulate-clause-served
@@ -166,12 +166,12 @@ returns-in-Some-Simulate-clause-served g c =
       words = map string_bytes c.args.words.now;
       before = g.H.Shelf.told c.args.shelf.now;
       after = g.H.Shelf.told c.simulate.new.shelf;
-      sink_faults = g.K.Sink.faults c.args.out.now;
-      sink_faults_after = g.K.Sink.faults c.simulate.new.out;
+      sink_faults = (g.K.Sink.taken c.args.out.now).faults;
+      sink_faults_after = (g.K.Sink.taken c.simulate.new.out).faults;
       text = [];
       status = c.simulate.result;
     } in
-    served call (simulate exchange truths) (λ one. SimulateAnswers one exchange truths) (g.K.Sink.written c.args.out.now) (g.K.Sink.written c.simulate.new.out)
+    served call (simulate exchange truths) (λ one. SimulateAnswers one exchange truths) (g.K.Sink.taken c.args.out.now) (g.K.Sink.taken c.simulate.new.out) refl refl
     (rw c.in-Some-Simulate.field-0-is at c.in-Some-Simulate.ensures) (λ text status h. h) c.simulate.ensures.served
 
 pub returns-in-Some-Audit-clause-served : goal.returns-in-Some-Audit-clause-served
@@ -181,12 +181,12 @@ returns-in-Some-Audit-clause-served g c =
       words = map string_bytes c.args.words.now;
       before = g.H.Shelf.told c.args.shelf.now;
       after = g.H.Shelf.told c.audit.new.shelf;
-      sink_faults = g.K.Sink.faults c.args.out.now;
-      sink_faults_after = g.K.Sink.faults c.audit.new.out;
+      sink_faults = (g.K.Sink.taken c.args.out.now).faults;
+      sink_faults_after = (g.K.Sink.taken c.audit.new.out).faults;
       text = [];
       status = c.audit.result;
     } in
-    served call (audit file) (λ one. AuditAnswers one file) (g.K.Sink.written c.args.out.now) (g.K.Sink.written c.audit.new.out)
+    served call (audit file) (λ one. AuditAnswers one file) (g.K.Sink.taken c.args.out.now) (g.K.Sink.taken c.audit.new.out) refl refl
     (rw c.in-Some-Audit.field-0-is at c.in-Some-Audit.ensures) (λ text status h. h) c.audit.ensures.served
 
 pub returns-in-None-clause-served : goal.returns-in-None-clause-served
@@ -196,9 +196,9 @@ returns-in-None-clause-served g c =
       words = map string_bytes c.args.words.now;
       before = shelf;
       after = shelf;
-      sink_faults = g.K.Sink.faults c.args.out.now;
-      sink_faults_after = g.K.Sink.faults c.refuse_words.new.out;
+      sink_faults = (g.K.Sink.taken c.args.out.now).faults;
+      sink_faults_after = (g.K.Sink.taken c.refuse_words.new.out).faults;
       text = [];
       status = c.refuse_words.result;
     } in
-    refused_words call (g.K.Sink.written c.args.out.now) (g.K.Sink.written c.refuse_words.new.out) c.in-None.ensures refl c.refuse_words.ensures
+    refused_words call (g.K.Sink.taken c.args.out.now) (g.K.Sink.taken c.refuse_words.new.out) refl refl c.in-None.ensures refl c.refuse_words.ensures

@@ -4,7 +4,7 @@ use Rattle.ice_commands.specs.declared.best_set.BestSet.{BestSet}
 use Rattle.ice_commands.specs.Bests.{best_text}
 use Rattle.ice_commands.specs.BestFound.{AreBestOf}
 use Rattle.ice_commands.specs.Refusals.{refusal_text, refusal_status}
-use Rattle.ice_commands.proofs.Parts.{said}
+use Rattle.ice_commands.proofs.Writing.{put_said}
 use Rattle.ice_commands.proofs.Besting.{sets_answer, refusal_answers}
 use Rattle.ice_commands.proofs.best.best.Goals as goal
 
@@ -20,8 +20,7 @@ returns-in-Ok-clause-served g c =
       best_text sets,
       Done,
       sets_answer before after exchange prices sets found,
-      said c.put_best.result (best_text sets) Done c.ended.result (g.K.Sink.written c.args.out.now) (g.K.Sink.written c.put_best.new.out)
-          (g.K.Sink.faults c.args.out.now) (g.K.Sink.faults c.put_best.new.out) c.put_best.ensures.ok c.put_best.ensures.err c.put_best.ensures.failed c.ended.ensures,
+      put_said c.put_best.result (best_text sets) Done c.ended.result (g.K.Sink.taken c.args.out.now) (g.K.Sink.taken c.put_best.new.out) c.put_best.ensures c.ended.ensures,
     )
 
 pub returns-in-Err-clause-served : goal.returns-in-Err-clause-served

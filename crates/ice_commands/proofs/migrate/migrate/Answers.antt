@@ -19,8 +19,7 @@ returns-in-Ok-clause-served g c =
     let read = c.deref.result.now in
     let told : AreFetched before file journal_limit read =
     subst (λ (bytes : List ℕ). AreFetched before file journal_limit bytes) (sym c.deref.ensures.value) c.in-Ok.ensures.journal.1 in
-    journal_serves before after file read c.put_packed.result c.ended.result (g.K.Sink.written c.args.out.now) (g.K.Sink.written c.put_packed.new.out)
-    (g.K.Sink.faults c.args.out.now) (g.K.Sink.faults c.put_packed.new.out) told c.put_packed.ensures c.ended.ensures
+    journal_serves before after file read c.put_packed.result c.ended.result (g.K.Sink.taken c.args.out.now) (g.K.Sink.taken c.put_packed.new.out) told c.put_packed.ensures c.ended.ensures
 
 pub returns-in-Err-Fails-clause-served : goal.returns-in-Err-Fails-clause-served
 returns-in-Err-Fails-clause-served g c =

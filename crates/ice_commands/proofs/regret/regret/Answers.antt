@@ -4,8 +4,7 @@ use Rattle.ice_commands.proofs.regret.regret.Goals as goal
 
 pub returns-in-Ok-clause-served : goal.returns-in-Ok-clause-served
 returns-in-Ok-clause-served g c =
-    journal_serves (g.H.Shelf.told c.args.shelf.now) (g.H.Shelf.told c.read_exchange.new.shelf) c.args.exchange.now c.in-Ok.exchange (g.K.Sink.written c.args.out.now) (g.K.Sink.written c.write_regret.new.out)
-    (g.K.Sink.faults c.args.out.now) (g.K.Sink.faults c.write_regret.new.out) c.write_regret.result c.write_regret.ensures.lawful c.in-Ok.ensures.exchange c.write_regret.ensures.journal
+    journal_serves (g.H.Shelf.told c.args.shelf.now) (g.H.Shelf.told c.read_exchange.new.shelf) c.args.exchange.now c.in-Ok.exchange (g.K.Sink.taken c.args.out.now) (g.K.Sink.taken c.write_regret.new.out) c.write_regret.result c.write_regret.ensures.lawful c.in-Ok.ensures.exchange c.write_regret.ensures.journal
 
 pub returns-in-Err-clause-served : goal.returns-in-Err-clause-served
 returns-in-Err-clause-served g c =

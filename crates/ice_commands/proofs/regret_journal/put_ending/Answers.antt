@@ -19,7 +19,7 @@ returns-in_err-put_regret g c =
     let first : List Record = rival_records ex r ++ amount in
     let last : List Record = line.end regret_end ∷ [] in
     let p = err_from_is_err_and c.from_residual.result c.from_residual.ensures.1 in
-    put_in_words (ending_records ex r) (first ++ last) c.from_residual.result (g.K.Sink.written c.args.out.now) (g.K.Sink.written c.put_regret.new.out) (g.K.Sink.faults c.args.out.now) (g.K.Sink.faults c.put_regret.new.out)
+    put_in_words (ending_records ex r) (first ++ last) c.from_residual.result (g.K.Sink.taken c.args.out.now) (g.K.Sink.taken c.put_regret.new.out)
     (sym (append_assoc (rival_records ex r) amount last)) (put_failed (first ++ last) c.from_residual.result p.0 p.1 (fails_first first last c.in_err-put_regret.ensures))
 
 pub returns : goal.returns
@@ -29,8 +29,7 @@ returns g c =
     let amount : List Record = line.regret r.amount ∷ [] in
     let first : List Record = rival_records ex r ++ amount in
     let last : List Record = line.end regret_end ∷ [] in
-    let new = g.K.Sink.written c.put_record.new.out in
-    let h = g.K.Sink.faults c.put_record.new.out in
-    put_in_words (ending_records ex r) (first ++ last) c.put_record.result (g.K.Sink.written c.args.out.now) new (g.K.Sink.faults c.args.out.now) h (sym (append_assoc (rival_records ex r) amount last))
-    (put_last first last c.put_record.result new h c.in_ok-put_regret.ensures
-    (put_as (bytes_of last) (line_of (line.end regret_end)) c.put_record.result (g.K.Sink.written c.put_regret.new.out) new (g.K.Sink.faults c.put_regret.new.out) h (append-nil (line_of (line.end regret_end))) c.put_record.ensures))
+    let new = g.K.Sink.taken c.put_record.new.out in
+    put_in_words (ending_records ex r) (first ++ last) c.put_record.result (g.K.Sink.taken c.args.out.now) new (sym (append_assoc (rival_records ex r) amount last))
+    (put_last first last c.put_record.result new c.in_ok-put_regret.ensures
+    (put_as (bytes_of last) (line_of (line.end regret_end)) c.put_record.result (g.K.Sink.taken c.put_regret.new.out) new (append-nil (line_of (line.end regret_end))) c.put_record.ensures))

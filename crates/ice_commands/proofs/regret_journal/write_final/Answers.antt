@@ -32,10 +32,9 @@ returns-in-Err-Spent g c =
     let here : IsSpentBy (lower_search ex (opening_bounds ex)) c.branches_of-branches.result s = subst (λ (b : List Bounds). IsSpentBy (lower_search ex b) c.branches_of-branches.result s) c.bounds.ensures.value end.0 in
     let is : IsSpentBy (lower_search ex (opening_bounds ex)) ex.settings.branches s = subst (λ (n : ℕ). IsSpentBy (lower_search ex (opening_bounds ex)) n s) c.branches_of-branches.ensures.value here in
     let wrote = rw c.in-Err-Spent.field-0-is at c.put_spent.ensures in
-    last_piece (begun_records ex) (IsRegretJournal ex) (spent_records ex s) c.put_spent.result Spent c.ended.result (g.K.Sink.written c.args.out.now) (g.K.Sink.written c.put_spent.new.out)
-    (g.K.Sink.faults c.args.out.now) (g.K.Sink.faults c.put_spent.new.out) (final_spent s is wrote.record) wrote.put c.ended.ensures
+    last_piece (begun_records ex) (IsRegretJournal ex) (spent_records ex s) c.put_spent.result Spent c.ended.result (g.K.Sink.taken c.args.out.now) (g.K.Sink.taken c.put_spent.new.out) (final_spent s is wrote.record) wrote.put c.ended.ensures
 
 pub returns-in-Err-NoMemory : goal.returns-in-Err-NoMemory
 returns-in-Err-NoMemory g c =
     let ex = c.args.exchange.now in
-    nothing_more (begun_records ex) (IsRegretJournal ex) (g.K.Sink.written c.args.out.now) (g.K.Sink.faults c.args.out.now) NoMemory begins
+    nothing_more (begun_records ex) (IsRegretJournal ex) (g.K.Sink.taken c.args.out.now) NoMemory begins

@@ -11,11 +11,10 @@ put_final-requires g c = final_writable c.args.exchange.now c.requires.lawful c.
 pub returns-in-Ok : goal.returns-in-Ok
 returns-in-Ok g c =
     let ex = c.args.exchange.now in
-    piece_then (begun_records ex) (IsRegretJournal ex) (final_records ex c.args.found.now) c.write_rival.result (g.K.Sink.written c.args.out.now) (g.K.Sink.written c.put_final.new.out) (g.K.Sink.written c.write_rival.new.out)
-    (g.K.Sink.faults c.args.out.now) (g.K.Sink.faults c.put_final.new.out) (g.K.Sink.faults c.write_rival.new.out) c.in-Ok.ensures c.write_rival.ensures
+    piece_then (begun_records ex) (IsRegretJournal ex) (final_records ex c.args.found.now) c.write_rival.result (g.K.Sink.taken c.args.out.now) (g.K.Sink.taken c.put_final.new.out) (g.K.Sink.taken c.write_rival.new.out) c.in-Ok.ensures c.write_rival.ensures
 
 pub returns-in-Err-Failed : goal.returns-in-Err-Failed
 returns-in-Err-Failed g c =
     let ex = c.args.exchange.now in
-    failed_piece (begun_records ex) (IsRegretJournal ex) (final_records ex c.args.found.now) NoMemory (g.K.Sink.written c.args.out.now) (g.K.Sink.written c.put_final.new.out) (g.K.Sink.faults c.args.out.now) (g.K.Sink.faults c.put_final.new.out)
+    failed_piece (begun_records ex) (IsRegretJournal ex) (final_records ex c.args.found.now) NoMemory (g.K.Sink.taken c.args.out.now) (g.K.Sink.taken c.put_final.new.out)
     (has_final c.args.branches c.args.found.now c.requires.found) c.in-Err-Failed.ensures

@@ -38,8 +38,7 @@ returns-in-Ok g c =
     let f = c.args.found.now in
     let r = c.in-Ok.rival in
     let is : IsRegretOf ex (opening_bounds ex) f.best r = subst (λ (b : List Bounds). IsRegretOf ex b f.best r) c.bounds.ensures.value c.in-Ok.ensures.regret in
-    last_piece (begun_records ex ++ final_records ex f) (IsRegretJournal ex) (ending_records ex r) c.put_ending.result Done c.ended.result (g.K.Sink.written c.args.out.now) (g.K.Sink.written c.put_ending.new.out)
-    (g.K.Sink.faults c.args.out.now) (g.K.Sink.faults c.put_ending.new.out) (is_whole c.args.branches f r c.requires.found is) c.put_ending.ensures c.ended.ensures
+    last_piece (begun_records ex ++ final_records ex f) (IsRegretJournal ex) (ending_records ex r) c.put_ending.result Done c.ended.result (g.K.Sink.taken c.args.out.now) (g.K.Sink.taken c.put_ending.new.out) (is_whole c.args.branches f r c.requires.found is) c.put_ending.ensures c.ended.ensures
 
 pub returns-in-Err-Spent : goal.returns-in-Err-Spent
 returns-in-Err-Spent g c =
@@ -48,11 +47,10 @@ returns-in-Err-Spent g c =
     let s = c.in-Err-Spent.spent in
     let end = rw c.in-Err-Spent.field-0-is at c.in-Err-Spent.ensures.end in
     let is : IsSpentBy (rival_search ex (opening_bounds ex) f.best) c.args.branches s = subst (λ (b : List Bounds). IsSpentBy (rival_search ex b f.best) c.args.branches s) c.bounds.ensures.value end.0 in
-    last_piece (begun_records ex ++ final_records ex f) (IsRegretJournal ex) (spent_records ex s) c.put_spent.result Spent c.ended-in-Err-Spent.result (g.K.Sink.written c.args.out.now) (g.K.Sink.written c.put_spent.new.out)
-    (g.K.Sink.faults c.args.out.now) (g.K.Sink.faults c.put_spent.new.out) (rival_spent c.args.branches f s c.requires.found is c.put_spent.ensures.record) c.put_spent.ensures.put c.ended-in-Err-Spent.ensures
+    last_piece (begun_records ex ++ final_records ex f) (IsRegretJournal ex) (spent_records ex s) c.put_spent.result Spent c.ended-in-Err-Spent.result (g.K.Sink.taken c.args.out.now) (g.K.Sink.taken c.put_spent.new.out) (rival_spent c.args.branches f s c.requires.found is c.put_spent.ensures.record) c.put_spent.ensures.put c.ended-in-Err-Spent.ensures
 
 pub returns-in-Err-NoMemory : goal.returns-in-Err-NoMemory
 returns-in-Err-NoMemory g c =
     let ex = c.args.exchange.now in
     let f = c.args.found.now in
-    nothing_more (begun_records ex ++ final_records ex f) (IsRegretJournal ex) (g.K.Sink.written c.args.out.now) (g.K.Sink.faults c.args.out.now) NoMemory (has_final c.args.branches f c.requires.found)
+    nothing_more (begun_records ex ++ final_records ex f) (IsRegretJournal ex) (g.K.Sink.taken c.args.out.now) NoMemory (has_final c.args.branches f c.requires.found)

@@ -9,9 +9,7 @@ use Rattle.ice_commands.proofs.replay.say_found.Goals as goal
 
 pub returns-in-Settlement : goal.returns-in-Settlement
 returns-in-Settlement g c =
-    let old = g.K.Sink.written c.args.out.now in
-    let new = g.K.Sink.written c.put_replay.new.out in
-    let faults = g.K.Sink.faults c.args.out.now in
-    let later = g.K.Sink.faults c.put_replay.new.out in
-    subst (λ (x : Found). IsSaid (found_text x) (found_status x) old new faults later c.ended.result) (sym c.in-Settlement.is)
-    (put_said c.put_replay.result (replay_lines c.in-Settlement.replay) Done c.ended.result old new faults later c.put_replay.ensures c.ended.ensures)
+    let old = g.K.Sink.taken c.args.out.now in
+    let new = g.K.Sink.taken c.put_replay.new.out in
+    subst (λ (x : Found). IsSaid (found_text x) (found_status x) old new c.ended.result) (sym c.in-Settlement.is)
+    (put_said c.put_replay.result (replay_lines c.in-Settlement.replay) Done c.ended.result old new c.put_replay.ensures c.ended.ensures)

@@ -25,11 +25,9 @@ returns-in-Ok-clause-served g c =
     let stated : OfJournal read (HasStatement c.args.name.now) =
     subst (λ (bytes : List ℕ). OfJournal bytes (HasStatement c.args.name.now)) (sym c.deref.ensures.value) c.in-Ok.ensures.journal.0 in
     let serves : List ℕ → Type 0 =
-    λ bidder. Serves (λ call. StatementAnswers call file bidder) before after (g.K.Sink.written c.args.out.now) (g.K.Sink.written c.put_statement.new.out)
-    (g.K.Sink.faults c.args.out.now) (g.K.Sink.faults c.put_statement.new.out) c.ended.result in
+    λ bidder. Serves (λ call. StatementAnswers call file bidder) before after (g.K.Sink.taken c.args.out.now) (g.K.Sink.taken c.put_statement.new.out) c.ended.result in
     subst serves c.as_bytes.ensures.value
-    (statement_serves before after file name read c.put_statement.result c.ended.result (g.K.Sink.written c.args.out.now) (g.K.Sink.written c.put_statement.new.out)
-    (g.K.Sink.faults c.args.out.now) (g.K.Sink.faults c.put_statement.new.out) told (subst (λ (bidder : List ℕ). OfJournal read (HasStatement bidder)) (sym c.as_bytes.ensures.value) stated) c.put_statement.ensures c.ended.ensures)
+    (statement_serves before after file name read c.put_statement.result c.ended.result (g.K.Sink.taken c.args.out.now) (g.K.Sink.taken c.put_statement.new.out) told (subst (λ (bidder : List ℕ). OfJournal read (HasStatement bidder)) (sym c.as_bytes.ensures.value) stated) c.put_statement.ensures c.ended.ensures)
 
 pub returns-in-Err-Fails-clause-served : goal.returns-in-Err-Fails-clause-served
 returns-in-Err-Fails-clause-served g c =

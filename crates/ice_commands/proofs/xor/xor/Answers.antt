@@ -3,7 +3,7 @@ use Rattle.ice_edge.specs.declared.status.Status.TheVariants.{Done}
 use Rattle.ice_commands.specs.Call.{file_limit}
 use Rattle.ice_commands.specs.Parts.{AreFetched}
 use Rattle.ice_commands.specs.XorServed.{IsTranslationOf}
-use Rattle.ice_commands.proofs.Parts.{said}
+use Rattle.ice_commands.proofs.Writing.{put_said}
 use Rattle.ice_commands.proofs.Translating.{line_answers}
 use Rattle.ice_commands.proofs.xor.xor.Goals as goal
 
@@ -18,6 +18,5 @@ returns-in-Ok-clause-served g c =
       line,
       Done,
       line_answers before after file line found,
-      said c.put.result line Done c.ended.result (g.K.Sink.written c.args.out.now) (g.K.Sink.written c.put.new.self)
-          (g.K.Sink.faults c.args.out.now) (g.K.Sink.faults c.put.new.self) c.put.ensures.ok c.put.ensures.err c.put.ensures.failed c.ended.ensures,
+      put_said c.put.result line Done c.ended.result (g.K.Sink.taken c.args.out.now) (g.K.Sink.taken c.put.new.self) c.put.ensures c.ended.ensures,
     )

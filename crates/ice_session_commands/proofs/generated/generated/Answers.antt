@@ -12,7 +12,6 @@ use Rattle.ice_gen.specs.Generated.{generated, truths}
 use Rattle.ice_trial.specs.Rounds.{goings_of}
 use Rattle.ice_session_commands.specs.GenServed.{summary_text}
 use Rattle.ice_session_commands.specs.GenJournal.{trial_records}
-use Rattle.ice_commands.proofs.Parts.{said}
 use Rattle.ice_commands.proofs.Writing.{put_said}
 use Rattle.ice_session_commands.proofs.Trials.{first_writable, closed_answers, spent_answers, limited_answers}
 use Rattle.ice_session_commands.proofs.generated.generated.Goals as goal
@@ -23,8 +22,8 @@ returns-in-Closed g c =
       text,
       Done,
       closed_answers text c.args.number c.in-Closed.summary c.in-Closed.ensures refl,
-      said c.put_summary.result text Done c.ended.result (g.K.Sink.written c.args.out.now) (g.K.Sink.written c.put_summary.new.out) (g.K.Sink.faults c.args.out.now) (g.K.Sink.faults c.put_summary.new.out)
-          c.put_summary.ensures.ok c.put_summary.ensures.err c.put_summary.ensures.failed c.ended.ensures,
+      put_said c.put_summary.result text Done c.ended.result (g.K.Sink.taken c.args.out.now) (g.K.Sink.taken c.put_summary.new.out)
+          c.put_summary.ensures c.ended.ensures,
     )
 
 pub put_spent_trial-requires-clause-first : goal.put_spent_trial-requires-clause-first
@@ -88,8 +87,7 @@ returns-in-Spent g c =
       text,
       Spent,
       spent_answers c.args.number first s trial text h spent halt is c.put_spent_trial.ensures.record_is refl,
-      put_said c.put_spent_trial.result text Spent c.ended-in-Spent.result (g.K.Sink.written c.args.out.now) (g.K.Sink.written c.put_spent_trial.new.out) (g.K.Sink.faults c.args.out.now)
-          (g.K.Sink.faults c.put_spent_trial.new.out) c.put_spent_trial.ensures.put c.ended-in-Spent.ensures,
+      put_said c.put_spent_trial.result text Spent c.ended-in-Spent.result (g.K.Sink.taken c.args.out.now) (g.K.Sink.taken c.put_spent_trial.new.out) c.put_spent_trial.ensures.put c.ended-in-Spent.ensures,
     )
 
 pub returns-in-Limit : goal.returns-in-Limit
@@ -105,9 +103,8 @@ returns-in-Limit g c =
       text,
       Limit,
       limited_answers c.args.number s trial text h limit halt is refl,
-      put_said c.put_limited_trial.result text Limit c.ended-in-Limit.result (g.K.Sink.written c.args.out.now) (g.K.Sink.written c.put_limited_trial.new.out) (g.K.Sink.faults c.args.out.now)
-          (g.K.Sink.faults c.put_limited_trial.new.out) c.put_limited_trial.ensures c.ended-in-Limit.ensures,
+      put_said c.put_limited_trial.result text Limit c.ended-in-Limit.result (g.K.Sink.taken c.args.out.now) (g.K.Sink.taken c.put_limited_trial.new.out) c.put_limited_trial.ensures c.ended-in-Limit.ensures,
     )
 
 pub returns-in-NoMemory : goal.returns-in-NoMemory
-returns-in-NoMemory g c = ([], NoMemory, refl, inl (refl, Appends-nothing (g.K.Sink.written c.args.out.now)))
+returns-in-NoMemory g c = ([], NoMemory, refl, inl (refl, Appends-nothing (g.K.Sink.taken c.args.out.now).written))

@@ -12,8 +12,7 @@ returns-in-Ok-clause-served g c =
     let shelf = g.H.Shelf.told c.read_exchange.new.shelf in
     let after = g.H.Shelf.told c.hold_session.new.shelf in
     let (rest, status, is, said) = c.hold_session.ensures.journal in
-    journal_serves before after c.args.exchange.now (map string_bytes c.args.rounds.now) c.in-Ok.exchange (g.K.Sink.written c.args.out.now) (g.K.Sink.written c.hold_session.new.out)
-    (g.K.Sink.faults c.args.out.now) (g.K.Sink.faults c.hold_session.new.out) c.hold_session.result c.in-Ok.ensures.exchange
+    journal_serves before after c.args.exchange.now (map string_bytes c.args.rounds.now) c.in-Ok.exchange (g.K.Sink.taken c.args.out.now) (g.K.Sink.taken c.hold_session.new.out) c.hold_session.result c.in-Ok.ensures.exchange
     (rest, status, λ call part. is call (later_part call before shelf after part c.in-Ok.ensures.later), said)
 
 pub returns-in-Err-clause-served : goal.returns-in-Err-clause-served
@@ -28,7 +27,7 @@ returns-in-Ok-clause-kept g c =
 pub returns-in-Err-clause-kept : goal.returns-in-Err-clause-kept
 returns-in-Err-clause-kept g c =
     refusal_keeps (g.H.Shelf.told c.args.shelf.now) (g.H.Shelf.told c.read_exchange.new.shelf) c.in-Err.refusal
-    (g.K.Sink.written c.args.out.now) (g.K.Sink.written c.say.new.out) (g.K.Sink.faults c.args.out.now) (g.K.Sink.faults c.say.new.out) c.say.result
+    (g.K.Sink.taken c.args.out.now) (g.K.Sink.taken c.say.new.out) c.say.result
     c.in-Err.ensures.kept_at_refusal c.say.ensures
 
 pub hold_session-requires : goal.hold_session-requires

@@ -1,4 +1,5 @@
-use Rattle.std.proofs.Common.{◌<◌, ◌-◌, ℕ, List, Option, refl, subst, arith}
+use Rattle.std.proofs.Common.{◌<◌, ◌-◌, List, refl, subst, arith}
+use Rattle.ice_edge.specs.Taken.{Taken}
 use Rattle.ice_defs.specs.Round.{Submission}
 use Rattle.ice_session_commands.specs.SessionSteps.{EndsRound, FailsInRound}
 use Rattle.ice_commands.proofs.Parts.{later_refl, later_trans}
@@ -13,7 +14,7 @@ pub returns-in-Err-clause-plays : goal.returns-in-Err-clause-plays
 returns-in-Err-clause-plays g t c =
     let shelf = g.H.Shelf.told c.args.shelf.now in
     plays_ends c.args.source c.args.ready shelf shelf
-    (g.K.Sink.written c.args.out.now) (g.K.Sink.written c.settled_round.new.out) (g.K.Sink.faults c.args.out.now) (g.K.Sink.faults c.settled_round.new.out) c.in-Err.status c.in-Err.ensures
+    (g.K.Sink.taken c.args.out.now) (g.K.Sink.taken c.settled_round.new.out) c.in-Err.status c.in-Err.ensures
 
 pub returns-in-Err-clause-kept : goal.returns-in-Err-clause-kept
 returns-in-Err-clause-kept g t c = λ no_file. refl
@@ -24,7 +25,7 @@ returns-in-Err-clause-later g t c = later_refl (g.H.Shelf.told c.args.shelf.now)
 pub round_bids-requires : goal.round_bids-requires
 round_bids-requires g t c =
     round_may c.args.source c.args.ready c.in-Ok.round (g.H.Shelf.told c.args.shelf.now) c.requires
-    (g.K.Sink.written c.args.out.now) (g.K.Sink.written c.settled_round.new.out) (g.K.Sink.faults c.args.out.now) (g.K.Sink.faults c.settled_round.new.out) c.in-Ok.ensures
+    (g.K.Sink.taken c.args.out.now) (g.K.Sink.taken c.settled_round.new.out) c.in-Ok.ensures
 
 pub same-round : goal.same-round
 same-round g t c = refl
@@ -32,8 +33,8 @@ same-round g t c = refl
 pub returns-in-Err-round_bids-clause-plays : goal.returns-in-Err-round_bids-clause-plays
 returns-in-Err-round_bids-clause-plays g t c =
     plays_in_round c.args.source c.args.ready (g.H.Shelf.told c.args.shelf.now) (g.H.Shelf.told c.round_bids.new.shelf) c.in-Ok.round
-    (g.K.Sink.written c.args.out.now) (g.K.Sink.written c.settled_round.new.out) (g.K.Sink.faults c.args.out.now) (g.K.Sink.faults c.settled_round.new.out) c.in-Ok.ensures
-    (g.K.Sink.written c.round_bids.new.out) (g.K.Sink.faults c.round_bids.new.out) c.in-Err-round_bids.status c.in-Err-round_bids.ensures.ended
+    (g.K.Sink.taken c.args.out.now) (g.K.Sink.taken c.settled_round.new.out) c.in-Ok.ensures
+    (g.K.Sink.taken c.round_bids.new.out) c.in-Err-round_bids.status c.in-Err-round_bids.ensures.ended
 
 pub returns-in-Err-round_bids-clause-kept : goal.returns-in-Err-round_bids-clause-kept
 returns-in-Err-round_bids-clause-kept g t c = c.in-Err-round_bids.ensures.kept_at_end
@@ -46,16 +47,13 @@ returns-clause-plays g t c =
     let two = c.in-Ok-round_bids.two in
     let status = c.in-Err-hold_round.status in
     let r = c.in-Ok.round in
-    let mid = g.K.Sink.written c.settled_round.new.out in
-    let f = g.K.Sink.faults c.settled_round.new.out in
-    let asked = g.K.Sink.written c.round_bids.new.out in
-    let new = g.K.Sink.written c.hold_round.new.out in
-    let h = g.K.Sink.faults c.hold_round.new.out in
-    let fails = subst (λ (n : ℕ). FailsInRound r two.0.items mid new n h status) c.in-Ok-round_bids.ensures.unwritten.1
-    (subst (λ (o : Option (List ℕ)). FailsInRound r two.0.items o new (g.K.Sink.faults c.round_bids.new.out) h status) c.in-Ok-round_bids.ensures.unwritten.0
-    (subst (λ (bids : List Submission). FailsInRound r bids asked new (g.K.Sink.faults c.round_bids.new.out) h status) c.deref.ensures.value c.in-Err-hold_round.ensures.ended)) in
-    plays_fails c.args.source c.args.ready (g.H.Shelf.told c.args.shelf.now) (g.H.Shelf.told c.round_bids.new.shelf) r (g.K.Sink.written c.args.out.now) mid (g.K.Sink.faults c.args.out.now) f c.in-Ok.ensures
-    two.0.items two.1 c.in-Ok-round_bids.ensures.bids new h status fails
+    let mid = g.K.Sink.taken c.settled_round.new.out in
+    let asked = g.K.Sink.taken c.round_bids.new.out in
+    let new = g.K.Sink.taken c.hold_round.new.out in
+    let fails = subst (λ (t : Taken). FailsInRound r two.0.items t new status) c.in-Ok-round_bids.ensures.unwritten
+    (subst (λ (bids : List Submission). FailsInRound r bids asked new status) c.deref.ensures.value c.in-Err-hold_round.ensures.ended) in
+    plays_fails c.args.source c.args.ready (g.H.Shelf.told c.args.shelf.now) (g.H.Shelf.told c.round_bids.new.shelf) r (g.K.Sink.taken c.args.out.now) mid c.in-Ok.ensures
+    two.0.items two.1 c.in-Ok-round_bids.ensures.bids new status fails
 
 pub returns-clause-kept : goal.returns-clause-kept
 returns-clause-kept g t c = λ no_file. c.in-Ok-round_bids.ensures.kept
@@ -68,40 +66,33 @@ hold_rounds-requires g t c κs within =
     let two = c.in-Ok-round_bids.two in
     let next = c.in-Ok-hold_round.next in
     let r = c.in-Ok.round in
-    let mid = g.K.Sink.written c.settled_round.new.out in
-    let f = g.K.Sink.faults c.settled_round.new.out in
-    let asked = g.K.Sink.written c.round_bids.new.out in
-    let now = g.K.Sink.written c.hold_round.new.out in
-    let h = g.K.Sink.faults c.hold_round.new.out in
+    let mid = g.K.Sink.taken c.settled_round.new.out in
+    let asked = g.K.Sink.taken c.round_bids.new.out in
+    let now = g.K.Sink.taken c.hold_round.new.out in
     let before = g.H.Shelf.told c.args.shelf.now in
     let shelf = g.H.Shelf.told c.round_bids.new.shelf in
-    let old = g.K.Sink.written c.args.out.now in
-    let e = g.K.Sink.faults c.args.out.now in
-    let ended = subst (λ (n : ℕ). EndsRound r two.0.items next mid now n h) c.in-Ok-round_bids.ensures.unwritten.1
-    (subst (λ (o : Option (List ℕ)). EndsRound r two.0.items next o now (g.K.Sink.faults c.round_bids.new.out) h) c.in-Ok-round_bids.ensures.unwritten.0
-    (subst (λ (bids : List Submission). EndsRound r bids next asked now (g.K.Sink.faults c.round_bids.new.out) h) c.deref.ensures.value c.in-Ok-hold_round.ensures.next)) in
-    let fewer = fewer_left c.args.source c.args.ready r before c.requires old mid e f c.in-Ok.ensures two.0.items two.1 c.in-Ok-round_bids.ensures.bids next shelf c.round_bids.ensures.later now h ended in
+    let old = g.K.Sink.taken c.args.out.now in
+    let ended = subst (λ (t : Taken). EndsRound r two.0.items next t now) c.in-Ok-round_bids.ensures.unwritten
+    (subst (λ (bids : List Submission). EndsRound r bids next asked now) c.deref.ensures.value c.in-Ok-hold_round.ensures.next) in
+    let fewer = fewer_left c.args.source c.args.ready r before c.requires old mid c.in-Ok.ensures two.0.items two.1 c.in-Ok-round_bids.ensures.bids next shelf c.round_bids.ensures.later now ended in
     let smaller : next.exchange.settings.rounds - next.number < t = omega (arith, c.decreases, fewer) in
-    (smaller, (within.0, (within.1, played_next c.args.source c.args.ready r before c.requires old mid e f c.in-Ok.ensures two.0.items two.1 c.in-Ok-round_bids.ensures.bids next shelf c.round_bids.ensures.later now h ended)))
+    (smaller, (within.0, (within.1, played_next c.args.source c.args.ready r before c.requires old mid c.in-Ok.ensures two.0.items two.1 c.in-Ok-round_bids.ensures.bids next shelf c.round_bids.ensures.later now ended)))
 
 pub returns-in-Ok-hold_round-clause-plays : goal.returns-in-Ok-hold_round-clause-plays
 returns-in-Ok-hold_round-clause-plays g t c =
     let two = c.in-Ok-round_bids.two in
     let next = c.in-Ok-hold_round.next in
     let r = c.in-Ok.round in
-    let mid = g.K.Sink.written c.settled_round.new.out in
-    let f = g.K.Sink.faults c.settled_round.new.out in
-    let asked = g.K.Sink.written c.round_bids.new.out in
-    let now = g.K.Sink.written c.hold_round.new.out in
-    let h = g.K.Sink.faults c.hold_round.new.out in
+    let mid = g.K.Sink.taken c.settled_round.new.out in
+    let asked = g.K.Sink.taken c.round_bids.new.out in
+    let now = g.K.Sink.taken c.hold_round.new.out in
     let before = g.H.Shelf.told c.args.shelf.now in
     let shelf = g.H.Shelf.told c.round_bids.new.shelf in
     let after = g.H.Shelf.told c.hold_rounds.new.shelf in
-    let ended = subst (λ (n : ℕ). EndsRound r two.0.items next mid now n h) c.in-Ok-round_bids.ensures.unwritten.1
-    (subst (λ (o : Option (List ℕ)). EndsRound r two.0.items next o now (g.K.Sink.faults c.round_bids.new.out) h) c.in-Ok-round_bids.ensures.unwritten.0
-    (subst (λ (bids : List Submission). EndsRound r bids next asked now (g.K.Sink.faults c.round_bids.new.out) h) c.deref.ensures.value c.in-Ok-hold_round.ensures.next)) in
-    plays_on c.args.source c.args.ready before after r (g.K.Sink.written c.args.out.now) mid (g.K.Sink.faults c.args.out.now) f c.in-Ok.ensures
-    two.0.items two.1 c.in-Ok-round_bids.ensures.bids next shelf now (g.K.Sink.written c.hold_rounds.new.out) h (g.K.Sink.faults c.hold_rounds.new.out) c.hold_rounds.result
+    let ended = subst (λ (t : Taken). EndsRound r two.0.items next t now) c.in-Ok-round_bids.ensures.unwritten
+    (subst (λ (bids : List Submission). EndsRound r bids next asked now) c.deref.ensures.value c.in-Ok-hold_round.ensures.next) in
+    plays_on c.args.source c.args.ready before after r (g.K.Sink.taken c.args.out.now) mid c.in-Ok.ensures
+    two.0.items two.1 c.in-Ok-round_bids.ensures.bids next shelf now (g.K.Sink.taken c.hold_rounds.new.out) c.hold_rounds.result
     c.round_bids.ensures.later ended c.hold_rounds.ensures.plays
 
 pub returns-in-Ok-hold_round-clause-kept : goal.returns-in-Ok-hold_round-clause-kept

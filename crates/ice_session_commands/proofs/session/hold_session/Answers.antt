@@ -12,8 +12,7 @@ hold_rounds-requires g c = begins_played c.args.source c.args.exchange c.in-Ok-s
 pub returns-in-Ok-start-clause-journal : goal.returns-in-Ok-start-clause-journal
 returns-in-Ok-start-clause-journal g c =
     begins c.args.source c.args.exchange c.in-Ok-start.ready (g.H.Shelf.told c.args.shelf.now) (g.H.Shelf.told c.hold_rounds.new.shelf)
-    (g.K.Sink.written c.args.out.now) (g.K.Sink.written c.put_begin.new.out) (g.K.Sink.written c.hold_rounds.new.out)
-    (g.K.Sink.faults c.args.out.now) (g.K.Sink.faults c.put_begin.new.out) (g.K.Sink.faults c.hold_rounds.new.out) c.hold_rounds.result
+    (g.K.Sink.taken c.args.out.now) (g.K.Sink.taken c.put_begin.new.out) (g.K.Sink.taken c.hold_rounds.new.out) c.hold_rounds.result
     c.bidders-bidders.ensures.lawful c.requires c.in-Ok-start.ensures c.in-Ok.ensures c.hold_rounds.ensures.plays
 
 pub returns-in-Ok-start-clause-kept : goal.returns-in-Ok-start-clause-kept
@@ -26,7 +25,7 @@ pub returns-in-Err-clause-journal : goal.returns-in-Err-clause-journal
 returns-in-Err-clause-journal g c =
     let shelf = g.H.Shelf.told c.args.shelf.now in
     begins_without_memory c.args.source c.args.exchange shelf shelf
-    (g.K.Sink.written c.args.out.now) (g.K.Sink.written c.put_begin.new.out) (g.K.Sink.faults c.args.out.now) (g.K.Sink.faults c.put_begin.new.out) c.bidders-bidders.ensures.lawful c.requires c.in-Ok.ensures
+    (g.K.Sink.taken c.args.out.now) (g.K.Sink.taken c.put_begin.new.out) c.bidders-bidders.ensures.lawful c.requires c.in-Ok.ensures
 
 pub returns-in-Err-clause-kept : goal.returns-in-Err-clause-kept
 returns-in-Err-clause-kept g c = λ no_file. refl
@@ -38,7 +37,7 @@ pub returns-in-Err-Failed-clause-journal : goal.returns-in-Err-Failed-clause-jou
 returns-in-Err-Failed-clause-journal g c =
     let shelf = g.H.Shelf.told c.args.shelf.now in
     begin_fails c.args.source c.args.exchange shelf shelf
-    (g.K.Sink.written c.args.out.now) (g.K.Sink.written c.put_begin.new.out) (g.K.Sink.faults c.args.out.now) (g.K.Sink.faults c.put_begin.new.out) c.bidders-bidders.ensures.lawful c.requires c.in-Err-Failed.ensures
+    (g.K.Sink.taken c.args.out.now) (g.K.Sink.taken c.put_begin.new.out) c.bidders-bidders.ensures.lawful c.requires c.in-Err-Failed.ensures
 
 pub returns-in-Err-Failed-clause-kept : goal.returns-in-Err-Failed-clause-kept
 returns-in-Err-Failed-clause-kept g c = λ no_file. refl

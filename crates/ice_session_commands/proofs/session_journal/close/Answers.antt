@@ -6,5 +6,5 @@ use Rattle.ice_session_commands.proofs.session_journal.close.Goals as goal
 
 pub returns : goal.returns
 returns g c =
-    put_said c.put_closing.result (bytes_of (closing_records c.args.closing.now)) Done c.ended.result (g.K.Sink.written c.args.out.now) (g.K.Sink.written c.put_closing.new.out) (g.K.Sink.faults c.args.out.now) (g.K.Sink.faults c.put_closing.new.out)
+    put_said c.put_closing.result (bytes_of (closing_records c.args.closing.now)) Done c.ended.result (g.K.Sink.taken c.args.out.now) (g.K.Sink.taken c.put_closing.new.out)
     c.put_closing.ensures c.ended.ensures

@@ -14,7 +14,7 @@ pub put_judged-requires : goal.put_judged-requires
 put_judged-requires g c = verdict_may_be_written c.loop-bid.round.exchange c.loop-bid.round.round c.bid-item.result c.submit-verdict.result c.lo-values.ensures.lawful.lo.few c.submit-verdict.ensures.verdict
 
 pub loop-bid-init : goal.loop-bid-init
-loop-bid-init g c = none_judged c.args.round.now c.args.bids.now (g.K.Sink.written c.args.out.now) (g.K.Sink.faults c.args.out.now)
+loop-bid-init g c = none_judged c.args.round.now c.args.bids.now (g.K.Sink.taken c.args.out.now)
 
 pub loop-bid-preserved : goal.loop-bid-preserved
 loop-bid-preserved g c =
@@ -35,5 +35,5 @@ returns-in_err-put_judged g c =
 
 pub returns : goal.returns
 returns g c =
-    all_judged c.args.round.now c.loop-bid.round c.args.bids.now c.loop-bid.bid-index (g.K.Sink.written c.args.out.now) (g.K.Sink.written c.loop-bid.out) (g.K.Sink.faults c.args.out.now) (g.K.Sink.faults c.loop-bid.out)
+    all_judged c.args.round.now c.loop-bid.round c.args.bids.now c.loop-bid.bid-index (g.K.Sink.taken c.args.out.now) (g.K.Sink.taken c.loop-bid.out)
     (omega (arith, c.loop-bid-test.false)) c.loop-bid.invariant

@@ -2,4 +2,4 @@ use Rattle.ice_session_commands.specs.SessionSteps.{HaveJudged}
 use Rattle.ice_session_commands.proofs.session_journal.judge.Given as goal
 
 abbrev pub invariant-loop-bid : goal.invariant-loop-bid
-invariant-loop-bid g l = HaveJudged l.initial.round l.round l.bids l.bid-index (g.K.Sink.written l.initial.out) (g.K.Sink.written l.out) (g.K.Sink.faults l.initial.out) (g.K.Sink.faults l.out)
+invariant-loop-bid g l = HaveJudged l.initial.round l.round l.bids l.bid-index (g.K.Sink.taken l.initial.out) (g.K.Sink.taken l.out)

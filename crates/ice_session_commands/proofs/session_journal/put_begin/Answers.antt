@@ -19,5 +19,5 @@ returns-in_err-put_record g c =
 
 pub returns : goal.returns
 returns g c =
-    then_put (line_of (line.head version_2 session_kind)) (bytes_of (section_records c.args.exchange.now)) c.put_section.result (g.K.Sink.written c.put_section.new.out) (g.K.Sink.faults c.put_section.new.out)
+    then_put (line_of (line.head version_2 session_kind)) (bytes_of (section_records c.args.exchange.now)) c.put_section.result (g.K.Sink.taken c.put_section.new.out)
     c.in_ok-put_record.ensures c.put_section.ensures

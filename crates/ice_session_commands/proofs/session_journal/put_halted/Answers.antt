@@ -16,6 +16,6 @@ returns-in_err-put_halt g c =
 
 pub returns : goal.returns
 returns g c = record {
-  put = put_last (halt_records c.args.halt.now) (spent_records c.args.halt.now.exchange c.args.spent.now) c.put_spent.result (g.K.Sink.written c.put_spent.new.out) (g.K.Sink.faults c.put_spent.new.out) c.in_ok-put_halt.ensures c.put_spent.ensures.put;
+  put = put_last (halt_records c.args.halt.now) (spent_records c.args.halt.now.exchange c.args.spent.now) c.put_spent.result (g.K.Sink.taken c.put_spent.new.out) c.in_ok-put_halt.ensures c.put_spent.ensures.put;
   record_is = c.put_spent.ensures.«record»;
 }

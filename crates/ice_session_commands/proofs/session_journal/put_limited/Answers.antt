@@ -13,4 +13,4 @@ returns-in_err-put_halt g c =
 
 pub returns : goal.returns
 returns g c =
-    put_last (halt_records c.args.halt.now) (limit_records c.args.limit.now) c.put_limit.result (g.K.Sink.written c.put_limit.new.out) (g.K.Sink.faults c.put_limit.new.out) c.in_ok-put_halt.ensures c.put_limit.ensures
+    put_last (halt_records c.args.halt.now) (limit_records c.args.limit.now) c.put_limit.result (g.K.Sink.taken c.put_limit.new.out) c.in_ok-put_halt.ensures c.put_limit.ensures

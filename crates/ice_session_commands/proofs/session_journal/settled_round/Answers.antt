@@ -38,37 +38,33 @@ stop_limited-requires-clause-limit g c = (limit_may_be_written c.requires.0 c.ar
 
 pub returns-in-Closed : goal.returns-in-Closed
 returns-in-Closed g c =
-    ends_closed c.args.ready c.in-Closed.closing (g.K.Sink.written c.args.out.now) (g.K.Sink.written c.close.new.out) (g.K.Sink.faults c.args.out.now) (g.K.Sink.faults c.close.new.out) c.close.result c.in-Closed.ensures c.close.ensures
+    ends_closed c.args.ready c.in-Closed.closing (g.K.Sink.taken c.args.out.now) (g.K.Sink.taken c.close.new.out) c.close.result c.in-Closed.ensures c.close.ensures
 
 pub returns-in-Ok : goal.returns-in-Ok
 returns-in-Ok g c =
     let o = c.in-Going.opening in
-    let old = g.K.Sink.written c.args.out.now in
-    let new = g.K.Sink.written c.put_opening.new.out in
-    let f = g.K.Sink.faults c.args.out.now in
-    let h = g.K.Sink.faults c.put_opening.new.out in
-    round_opens c.args.ready c.in-Going.round o c.in-Going.ensures c.den-den.ensures.limits c.put_opening.ensures.prices old new f h
-    (subst (λ (x : Exchange). Takes (bytes_of (opening_records x o)) old new f h) c.exchange.ensures c.in-Ok.ensures.put)
+    let old = g.K.Sink.taken c.args.out.now in
+    let new = g.K.Sink.taken c.put_opening.new.out in
+    round_opens c.args.ready c.in-Going.round o c.in-Going.ensures c.den-den.ensures.limits c.put_opening.ensures.prices old new
+    (subst (λ (x : Exchange). Takes (bytes_of (opening_records x o)) old new) c.exchange.ensures c.in-Ok.ensures.put)
 
 pub returns-in-Err-Failed : goal.returns-in-Err-Failed
 returns-in-Err-Failed g c =
     let o = c.in-Going.opening in
-    let old = g.K.Sink.written c.args.out.now in
-    let new = g.K.Sink.written c.put_opening.new.out in
-    let f = g.K.Sink.faults c.args.out.now in
-    let h = g.K.Sink.faults c.put_opening.new.out in
-    opening_fails c.args.ready c.in-Going.round o c.in-Going.ensures c.den-den.ensures.limits c.put_opening.ensures.prices old new f h
-    (subst (λ (x : Exchange). FailsIn (bytes_of (opening_records x o)) old new f h) c.exchange.ensures c.in-Err-Failed.ensures.put)
+    let old = g.K.Sink.taken c.args.out.now in
+    let new = g.K.Sink.taken c.put_opening.new.out in
+    opening_fails c.args.ready c.in-Going.round o c.in-Going.ensures c.den-den.ensures.limits c.put_opening.ensures.prices old new
+    (subst (λ (x : Exchange). FailsIn (bytes_of (opening_records x o)) old new) c.exchange.ensures c.in-Err-Failed.ensures.put)
 
 pub returns-in-Spent : goal.returns-in-Spent
 returns-in-Spent g c =
-    ends_spent c.args.ready c.in-Spent.halt c.in-Spent.spent (g.K.Sink.written c.args.out.now) (g.K.Sink.written c.stop_spent.new.out) (g.K.Sink.faults c.args.out.now) (g.K.Sink.faults c.stop_spent.new.out) c.stop_spent.result
+    ends_spent c.args.ready c.in-Spent.halt c.in-Spent.spent (g.K.Sink.taken c.args.out.now) (g.K.Sink.taken c.stop_spent.new.out) c.stop_spent.result
     c.in-Spent.ensures.0 c.in-Spent.ensures.1 c.stop_spent.ensures.record_is c.stop_spent.ensures.said
 
 pub returns-in-Limit : goal.returns-in-Limit
 returns-in-Limit g c =
-    ends_limited c.args.ready c.in-Limit.halt c.in-Limit.limit (g.K.Sink.written c.args.out.now) (g.K.Sink.written c.stop_limited.new.out) (g.K.Sink.faults c.args.out.now) (g.K.Sink.faults c.stop_limited.new.out) c.stop_limited.result
+    ends_limited c.args.ready c.in-Limit.halt c.in-Limit.limit (g.K.Sink.taken c.args.out.now) (g.K.Sink.taken c.stop_limited.new.out) c.stop_limited.result
     c.in-Limit.ensures.0 c.in-Limit.ensures.1 c.stop_limited.ensures
 
 pub returns-in-NoMemory : goal.returns-in-NoMemory
-returns-in-NoMemory g c = ends_without_memory c.args.ready (g.K.Sink.written c.args.out.now) (g.K.Sink.faults c.args.out.now)
+returns-in-NoMemory g c = ends_without_memory c.args.ready (g.K.Sink.taken c.args.out.now)

@@ -7,5 +7,4 @@ use Rattle.ice_session_commands.proofs.session_journal.stop_limited.Goals as goa
 
 pub returns : goal.returns
 returns g c =
-    put_said c.put_limited.result (bytes_of (halt_records c.args.halt.now ++ limit_records c.args.limit.now)) Limit c.ended.result (g.K.Sink.written c.args.out.now) (g.K.Sink.written c.put_limited.new.out)
-    (g.K.Sink.faults c.args.out.now) (g.K.Sink.faults c.put_limited.new.out) c.put_limited.ensures c.ended.ensures
+    put_said c.put_limited.result (bytes_of (halt_records c.args.halt.now ++ limit_records c.args.limit.now)) Limit c.ended.result (g.K.Sink.taken c.args.out.now) (g.K.Sink.taken c.put_limited.new.out) c.put_limited.ensures c.ended.ensures

@@ -7,5 +7,4 @@ use Rattle.ice_session_commands.proofs.session_journal.stop_spent.Goals as goal
 
 pub returns-clause-said : goal.returns-clause-said
 returns-clause-said g c =
-    put_said c.put_halted.result (bytes_of (halt_records c.args.halt.now ++ spent_records c.args.halt.now.exchange c.args.spent.now)) Spent c.ended.result (g.K.Sink.written c.args.out.now) (g.K.Sink.written c.put_halted.new.out)
-    (g.K.Sink.faults c.args.out.now) (g.K.Sink.faults c.put_halted.new.out) c.put_halted.ensures.put c.ended.ensures
+    put_said c.put_halted.result (bytes_of (halt_records c.args.halt.now ++ spent_records c.args.halt.now.exchange c.args.spent.now)) Spent c.ended.result (g.K.Sink.taken c.args.out.now) (g.K.Sink.taken c.put_halted.new.out) c.put_halted.ensures.put c.ended.ensures

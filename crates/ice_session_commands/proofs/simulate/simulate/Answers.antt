@@ -26,14 +26,12 @@ returns-in-Ok-read_truths-clause-served g c =
     let ex = c.in-Ok.exchange in
     let bids = c.in-Ok-read_truths.truths.items in
     let file = c.args.truths.now in
-    let old = g.K.Sink.written c.args.out.now in
-    let new = g.K.Sink.written c.hold_session.new.out in
-    let f = g.K.Sink.faults c.args.out.now in
-    let h = g.K.Sink.faults c.hold_session.new.out in
+    let old = g.K.Sink.taken c.args.out.now in
+    let new = g.K.Sink.taken c.hold_session.new.out in
     let result = c.hold_session.result in
     let said = subst (λ (s : Told). HoldsTruths s file ex bids) c.in-Ok.ensures.kept c.in-Ok-read_truths.ensures.truths in
-    journal_serves (g.H.Shelf.told c.args.shelf.now) (g.H.Shelf.told c.hold_session.new.shelf) c.args.exchange.now file ex bids old new f h result c.in-Ok.ensures.exchange said c.in-Ok-read_truths.ensures.hold
-    (subst (λ (ts : List Submission). WritesBehind [] (IsSimulatedJournal (truth_lists ex.bidders ts) ex) old new f h result) c.deref.ensures.value c.hold_session.ensures.journal)
+    journal_serves (g.H.Shelf.told c.args.shelf.now) (g.H.Shelf.told c.hold_session.new.shelf) c.args.exchange.now file ex bids old new result c.in-Ok.ensures.exchange said c.in-Ok-read_truths.ensures.hold
+    (subst (λ (ts : List Submission). WritesBehind [] (IsSimulatedJournal (truth_lists ex.bidders ts) ex) old new result) c.deref.ensures.value c.hold_session.ensures.journal)
 
 pub returns-in-Ok-read_truths-clause-kept : goal.returns-in-Ok-read_truths-clause-kept
 returns-in-Ok-read_truths-clause-kept g c =
@@ -52,7 +50,7 @@ returns-in-Err-clause-served g c =
 pub returns-in-Err-clause-kept : goal.returns-in-Err-clause-kept
 returns-in-Err-clause-kept g c =
     refusal_keeps (g.H.Shelf.told c.args.shelf.now) (g.H.Shelf.told c.read_exchange.new.shelf) c.in-Err.refusal
-    (g.K.Sink.written c.args.out.now) (g.K.Sink.written c.say.new.out) (g.K.Sink.faults c.args.out.now) (g.K.Sink.faults c.say.new.out) c.say.result
+    (g.K.Sink.taken c.args.out.now) (g.K.Sink.taken c.say.new.out) c.say.result
     c.in-Err.ensures.kept_at_refusal c.say.ensures
 
 pub returns-in-Err-read_truths-clause-served : goal.returns-in-Err-read_truths-clause-served
@@ -74,5 +72,5 @@ returns-in-Err-read_truths-clause-kept g c =
     let mid = g.H.Shelf.told c.read_exchange.new.shelf in
     let after = g.H.Shelf.told c.read_truths.new.shelf in
     refusal_keeps before after c.in-Err-read_truths.refusal
-    (g.K.Sink.written c.args.out.now) (g.K.Sink.written c.say-in-Err-read_truths.new.out) (g.K.Sink.faults c.args.out.now) (g.K.Sink.faults c.say-in-Err-read_truths.new.out) c.say-in-Err-read_truths.result
+    (g.K.Sink.taken c.args.out.now) (g.K.Sink.taken c.say-in-Err-read_truths.new.out) c.say-in-Err-read_truths.result
     (kept_behind before mid after (refusal_status c.in-Err-read_truths.refusal) c.in-Ok.ensures.kept c.in-Err-read_truths.ensures.kept_at_refusal) c.say-in-Err-read_truths.ensures

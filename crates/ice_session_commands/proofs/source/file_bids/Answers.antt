@@ -16,13 +16,11 @@ overflow_add-number g c = search rules
 pub returns-in-None-clause-ended : goal.returns-in-None-clause-ended
 returns-in-None-clause-ended g c =
     let shelf = g.H.Shelf.told c.args.shelf.now in
-    let old = g.K.Sink.written c.args.out.now in
-    let new = g.K.Sink.written c.stay_open.new.out in
-    let f = g.K.Sink.faults c.args.out.now in
-    let h = g.K.Sink.faults c.stay_open.new.out in
+    let old = g.K.Sink.taken c.args.out.now in
+    let new = g.K.Sink.taken c.stay_open.new.out in
     let result = c.stay_open.result in
-    subst (λ (fs : List (List ℕ)). LacksFile fs c.args.round.now shelf shelf old new f h result) (sym (ap (map string_bytes) (nil_from_length c.args.names.now c.in-None.ensures.cases)))
-    (open_lacks c.args.round.now shelf shelf old new f h result c.stay_open.ensures)
+    subst (λ (fs : List (List ℕ)). LacksFile fs c.args.round.now shelf shelf old new result) (sym (ap (map string_bytes) (nil_from_length c.args.names.now c.in-None.ensures.cases)))
+    (open_lacks c.args.round.now shelf shelf old new result c.stay_open.ensures)
 
 pub returns-in-None-clause-kept_at_end : goal.returns-in-None-clause-kept_at_end
 returns-in-None-clause-kept_at_end g c = λ no_file. refl
@@ -38,7 +36,7 @@ returns-in-Ok-clause-bids g c = (
 )
 
 pub returns-in-Ok-clause-unwritten : goal.returns-in-Ok-clause-unwritten
-returns-in-Ok-clause-unwritten g c = (refl, refl)
+returns-in-Ok-clause-unwritten g c = refl
 
 pub returns-in-Ok-clause-kept : goal.returns-in-Ok-clause-kept
 returns-in-Ok-clause-kept g c = c.in-Ok.ensures.kept
@@ -50,23 +48,21 @@ pub returns-in-Err-clause-ended : goal.returns-in-Err-clause-ended
 returns-in-Err-clause-ended g c =
     let before = g.H.Shelf.told c.args.shelf.now in
     let after = g.H.Shelf.told c.read_round.new.shelf in
-    let old = g.K.Sink.written c.args.out.now in
-    let new = g.K.Sink.written c.say.new.out in
-    let f = g.K.Sink.faults c.args.out.now in
-    let h = g.K.Sink.faults c.say.new.out in
+    let old = g.K.Sink.taken c.args.out.now in
+    let new = g.K.Sink.taken c.say.new.out in
     let left = map string_bytes c.in-Some.two.1.now in
     let name = c.as_str.result.now in
     let result = c.say.result in
     let refusal = c.in-Err.refusal in
-    subst (λ (fs : List (List ℕ)). LacksFile fs c.args.round.now before after old new f h result)
+    subst (λ (fs : List (List ℕ)). LacksFile fs c.args.round.now before after old new result)
     (sym (ap (map string_bytes) c.in-Some.ensures.cases.0 ∙ ap (λ (first : List ℕ). first ∷ map string_bytes c.in-Some.two.1.now) (sym c.as_str.ensures.value)))
-    (refusal_lacks c.args.round.now name left before after refusal old new f h result
+    (refusal_lacks c.args.round.now name left before after refusal old new result
     (subst (λ (n : ℕ). Refuses (n + 2) name file_limit IsRoundFault before after refusal) c.number.ensures c.in-Err.ensures.refusal) c.say.ensures)
 
 pub returns-in-Err-clause-kept_at_end : goal.returns-in-Err-clause-kept_at_end
 returns-in-Err-clause-kept_at_end g c =
     refusal_keeps (g.H.Shelf.told c.args.shelf.now) (g.H.Shelf.told c.read_round.new.shelf) c.in-Err.refusal
-    (g.K.Sink.written c.args.out.now) (g.K.Sink.written c.say.new.out) (g.K.Sink.faults c.args.out.now) (g.K.Sink.faults c.say.new.out) c.say.result
+    (g.K.Sink.taken c.args.out.now) (g.K.Sink.taken c.say.new.out) c.say.result
     c.in-Err.ensures.kept_at_refusal c.say.ensures
 
 pub returns-in-Err-clause-later : goal.returns-in-Err-clause-later

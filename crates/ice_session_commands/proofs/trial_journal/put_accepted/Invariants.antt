@@ -6,5 +6,4 @@ use Rattle.ice_session_commands.proofs.trial_journal.put_accepted.Given as goal
 
 abbrev pub invariant-loop-bid : goal.invariant-loop-bid
 invariant-loop-bid g l =
-    TakesAllBut (flat_map accepted_text (drop l.bid-index l.bids)) (flat_map accepted_text l.bids) (g.K.Sink.written l.initial.out) (g.K.Sink.written l.out)
-    (g.K.Sink.faults l.initial.out) (g.K.Sink.faults l.out)
+    TakesAllBut (flat_map accepted_text (drop l.bid-index l.bids)) (flat_map accepted_text l.bids) (g.K.Sink.taken l.initial.out) (g.K.Sink.taken l.out)

@@ -14,5 +14,4 @@ returns-in_err-put_begin g c =
 
 pub returns : goal.returns
 returns g c =
-    put_last (begun_records c.args.halt.now.exchange) (halt_records c.args.halt.now ++ limit_records c.args.limit.now) c.put_limited.result (g.K.Sink.written c.put_limited.new.out)
-    (g.K.Sink.faults c.put_limited.new.out) c.in_ok-put_begin.ensures c.put_limited.ensures
+    put_last (begun_records c.args.halt.now.exchange) (halt_records c.args.halt.now ++ limit_records c.args.limit.now) c.put_limited.result (g.K.Sink.taken c.put_limited.new.out) c.in_ok-put_begin.ensures c.put_limited.ensures

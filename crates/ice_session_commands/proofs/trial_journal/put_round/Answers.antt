@@ -19,8 +19,7 @@ returns-in_err-put_opening g c =
 
 pub returns : goal.returns
 returns g c =
-    let new = g.K.Sink.written c.put_accepted.new.out in
-    let later = g.K.Sink.faults c.put_accepted.new.out in
-    put_last (opening_records c.args.exchange.now c.args.round.now.opening) (flat_map judged_records (accepted c.args.round.now.bids.items)) c.put_accepted.result new later c.in_ok-put_opening.ensures.put
-    (subst (λ (bids : List Submission). IsPut (bytes_of (flat_map judged_records (accepted bids))) c.put_accepted.result (g.K.Sink.written c.put_opening.new.out) new (g.K.Sink.faults c.put_opening.new.out) later)
+    let new = g.K.Sink.taken c.put_accepted.new.out in
+    put_last (opening_records c.args.exchange.now c.args.round.now.opening) (flat_map judged_records (accepted c.args.round.now.bids.items)) c.put_accepted.result new c.in_ok-put_opening.ensures.put
+    (subst (λ (bids : List Submission). IsPut (bytes_of (flat_map judged_records (accepted bids))) c.put_accepted.result (g.K.Sink.taken c.put_opening.new.out) new)
     c.deref.ensures.value c.put_accepted.ensures)

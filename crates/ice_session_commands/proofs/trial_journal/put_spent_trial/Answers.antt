@@ -20,7 +20,6 @@ pub returns : goal.returns
 returns g c =
     let ex = c.args.halt.now.exchange in
     record {
-      put = put_last (trial_records ex c.args.first.now) (halt_records c.args.halt.now ++ spent_records ex c.args.spent.now) c.put_halted.result (g.K.Sink.written c.put_halted.new.out)
-          (g.K.Sink.faults c.put_halted.new.out) c.in_ok-put_trial.ensures c.put_halted.ensures.put;
+      put = put_last (trial_records ex c.args.first.now) (halt_records c.args.halt.now ++ spent_records ex c.args.spent.now) c.put_halted.result (g.K.Sink.taken c.put_halted.new.out) c.in_ok-put_trial.ensures c.put_halted.ensures.put;
       record_is = c.put_halted.ensures.record_is;
     }

@@ -14,5 +14,5 @@ returns-in_err-put_begin g c =
 
 pub returns : goal.returns
 returns g c =
-    put_last (begun_records c.args.exchange.now) (first_records c.args.exchange.now c.args.first.now) c.put_first.result (g.K.Sink.written c.put_first.new.out) (g.K.Sink.faults c.put_first.new.out)
+    put_last (begun_records c.args.exchange.now) (first_records c.args.exchange.now c.args.first.now) c.put_first.result (g.K.Sink.taken c.put_first.new.out)
     c.in_ok-put_begin.ensures c.put_first.ensures
