@@ -98,7 +98,7 @@ fault() {
 rule() {
     case $1 in
     order) echo "another record belongs here" ;;
-    short) echo "the journal ends too early" ;;
+    short) if [ "${words[0]}" = audit ]; then echo "the statement ends too early"; else echo "the journal ends too early"; fi ;;
     exchange) echo "the exchange is at fault" ;;
     count) echo "a set has another length than its tree" ;;
     parent) echo "a set has a node without the one above it" ;;

@@ -123,6 +123,7 @@ class Words(unittest.TestCase):
             told = self.told(f"no 7 {name}\n", 3, "check", "j")
             self.assertRegex(told, "^j, line 7: [a-z ]{12,}")
             self.assertNotIn("failed", told)
+        self.assertEqual(self.told("no 7 short\n", 3, "audit", "s"), "s, line 7: the statement ends too early")
 
     def test_a_journal_that_is_right_as_far_as_it_goes(self):
         (self.top / "j").write_text(OPEN)
@@ -141,6 +142,7 @@ class Words(unittest.TestCase):
             ("best", "a"): "`best` takes an exchange and prices, and 1 words stand behind it",
             ("gen", "07"): "`gen` takes a number from 0 to 4294967295, with no sign and no leading zero, and not 07",
             ("replay", "j", "21"): "`replay` takes a settlement from 0 to 20, with no sign and no leading zero, and not 21",
+            ("audit",): "`audit` takes one file, and 0 words stand behind it",
             ("run",): "`run` takes an exchange, and no file is named",
             ("run", *"m12345678901234567890!"): "`run` takes up to 20 round files, and 21 are named",
             ("check", b"\xff"): "the word $'\\377' is no text in UTF-8",

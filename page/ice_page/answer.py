@@ -100,7 +100,7 @@ def checked(view: View) -> Fact:
     if not answer.text and not answer.asked:
         how = "; <code>ice check</code> judges it"
         how = "; whoever has the journal can have it checked" if view.alone else how
-        how = "" if view.journal.of_statement else how
+        how = "; <code>ice audit</code> tests it" if view.journal.of_statement else how
         return Fact(name, "not checked", f"this page retells the {view.file}{how}", "soft")
     if not answer.is_verdict():
         said = said if answer.text else f"the {view.judge} ended with status {answer.status}"

@@ -44,10 +44,14 @@ def words() -> Words:
         "-o", dest="page", metavar="PAGE", help="where the page goes, if not to standard output"
     )
     parser.add_argument(
-        "--checked", metavar="ANSWER", help='what ice check printed, such as "yes 0 0/1"'
+        "--checked",
+        metavar="ANSWER",
+        help='what ice check printed, such as "yes 0 0/1", or ice audit of a statement',
     )
     parser.add_argument(
-        "--check", action="store_true", help="run ice check on the same bytes and show its answer"
+        "--check",
+        action="store_true",
+        help="run ice check on the same bytes, or ice audit of a statement, and show its answer",
     )
     parser.add_argument(
         "--program", metavar="FILE", help="with --check: the program to ask instead of ./ice"

@@ -121,7 +121,7 @@ class OneStatement(unittest.TestCase):
                     for own, theirs in (
                         ("audit’s answer", "checker’s answer"),
                         (
-                            "retells the statement",
+                            "retells the statement; <code>ice audit</code> tests it",
                             "retells the journal; whoever has the journal can have it checked",
                         ),
                         ("<span>a statement</span>", "<span>kind session</span>"),
