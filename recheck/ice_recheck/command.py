@@ -5,27 +5,30 @@ import os
 import sys
 
 from .journals import LIMIT, Answer, check
+from .statements import audit
 
 HELP = ("--help", "-h")
 USAGE = """usage: ice-recheck JOURNAL
+       ice-reaudit STATEMENT
 
-Judges a journal as `ice check` does: the same line on standard output, and the same exit status.
-0: yes. 1: the words are no command. 2: the file is refused. 3: no, a test failed. 6: the file
-could not be read. 7: standard output failed. 8: want of memory.
+Judge a journal as `ice check` does, and a statement as `ice audit`: the same line on standard
+output, and the same exit status. 0: yes. 1: the words are no command. 2: the file is refused.
+3: no, a test failed. 6: the file could not be read. 7: standard output failed. 8: want of memory.
 
 It is a second opinion, written from docs/formats.md and docs/definitions.md alone, and shares no
 line with the program. Nothing of it is proved."""
-NOT_PROVED = "ice-recheck: a second opinion, of which nothing is proved"
+NOT_PROVED = "a second opinion, of which nothing is proved"
+JUDGES = {"ice-recheck": check, "ice-reaudit": audit}
 
 
-def answer_to(file: str) -> Answer:
-    """The answer to a file."""
+def answer_to(file: str, name: str) -> Answer:
+    """The answer to a file, by the command of this name."""
     try:
         with open(file, "rb") as source:
             content = source.read(LIMIT + 1)
     except OSError:
         return Answer("unread 1", 6)
-    return check(content)
+    return JUDGES[name](content)
 
 
 def is_text(word: str) -> bool:
@@ -45,17 +48,17 @@ def say(text: str) -> None:
         pass
 
 
-def main(words: list[str]) -> int:
-    """Writes the answer to what the words name; the exit status."""
+def main(words: list[str], name: str = "ice-recheck") -> int:
+    """Writes the answer of the command of this name to what the words name; the exit status."""
     if len(words) == 1 and words[0] in HELP:
         answer = Answer(USAGE, 0)
     elif len(words) != 1 or not is_text(words[0]):
         say(USAGE)
         answer = Answer("words refused", 1)
     else:
-        say(NOT_PROVED)
+        say(f"{name}: {NOT_PROVED}")
         try:
-            answer = answer_to(words[0])
+            answer = answer_to(words[0], name)
         except MemoryError:
             return 8
     try:

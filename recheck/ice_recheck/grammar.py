@@ -131,7 +131,7 @@ LEAF = exactly(GOOD, whole(1, 1000), VALUE, VALUE)
 SETTINGS = [whole(0, 100), whole(0, 10**12), whole(1, 10**9), whole(0, 10**9), whole(0, 20)]
 SETTINGS += [whole(0, 50_000)]
 KIND = one_of("assign", "regret", "session", "exchange", "prices")
-END = one_of("assign", "exchange", "prices", "regret", "closed", "open", "spent", "limit")
+ENDS = "assign", "exchange", "prices", "regret", "closed", "open", "spent", "limit"
 STAGE, LIMIT = one_of("accuracy", "balance"), one_of("wide", "pivots", "rows", "den")
 
 FORMS: dict[str, Form] = {
@@ -170,21 +170,30 @@ FORMS: dict[str, Form] = {
     "spent": exactly(TOTAL, whole(-(2**127), 2**127 - 1)),
     "limit": exactly(STAGE, LIMIT, VIOLATION, DENOMINATOR),
     "pool": exactly(BIDDER, bits),
-    "end": exactly(END),
+    "end": exactly(one_of(*ENDS)),
     "refused": exactly(FILE, whole(1, 99), spelled(256)),
     "unread": exactly(FILE),
 }
 
 
-def read_record(line: bytes) -> Record:
+# The lines of a statement: records, and four lines of its own.
+STATEMENT_FORMS = FORMS | {
+    "statement": exactly(NAME),
+    "kept": exactly(bits),
+    "offered": exactly(bits),
+    "end": exactly(one_of(*ENDS, "statement")),
+}
+
+
+def read_record(line: bytes, forms: dict[str, Form] = FORMS) -> Record:
     """The record that a line without its newline is; NoRecord where it is none."""
     try:
         demand(len(line) <= LONGEST_LINE)
         text = line.decode("ascii")
         demand(text.isprintable())
         words = text.split(" ")
-        size = 1 if words[0] in FORMS else 2
+        size = 1 if words[0] in forms else 2
         form = " ".join(words[:size])
-        return Record(form, FORMS[form](words[size:]))
+        return Record(form, forms[form](words[size:]))
     except (ValueError, KeyError) as fault:
         raise NoRecord from fault

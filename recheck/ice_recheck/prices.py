@@ -50,9 +50,15 @@ def read_prices(journal: Journal) -> Prices:
     records.test(record.form == "prices", Rule.CLOSED)
     denominator, numerators = record.fields
     records.test(len(numerators) == len(exchange.goods), Rule.ORDER)
-    is_within = max(numerators) <= exchange.settings.cap * denominator
-    records.test(is_within and gcd(denominator, *numerators) == 1, Rule.PRICES)
-    return Prices(denominator, numerators)
+    prices = Prices(denominator, numerators)
+    records.test(is_lawful(prices, exchange.settings.cap), Rule.PRICES)
+    return prices
+
+
+def is_lawful(prices: Prices, cap: int) -> bool:
+    """Whether prices are within the cap, and in lowest terms."""
+    is_within = max(prices.numerators) <= cap * prices.denominator
+    return is_within and gcd(prices.denominator, *prices.numerators) == 1
 
 
 def violation(journal: Journal, offer: Offer) -> int:

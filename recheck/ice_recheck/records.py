@@ -4,7 +4,7 @@ from __future__ import annotations
 from enum import Enum
 from typing import NoReturn
 
-from .grammar import NoRecord, Record, read_record
+from .grammar import FORMS, Form, NoRecord, Record, read_record
 
 
 class Rule(Enum):
@@ -58,8 +58,8 @@ NO_RECORD, NOT_ENDED, OTHER_KIND, TOO_LARGE = 50, 51, 53, 61
 class Records:
     """The records of a file, read one at a time. Lines are numbered from 1."""
 
-    def __init__(self, content: bytes) -> None:
-        self.content = content
+    def __init__(self, content: bytes, forms: dict[str, Form] = FORMS) -> None:
+        self.content, self.forms = content, forms
         self.start = 0  # of the line that is read next
         self.lines_read = 0
         self.line = 0  # of the record that was taken last
@@ -76,7 +76,7 @@ class Records:
         if end < 0:
             raise Refused(NOT_ENDED, str(self.lines_read))
         try:
-            self.following = read_record(self.content[self.start : end])
+            self.following = read_record(self.content[self.start : end], self.forms)
         except NoRecord:
             raise Refused(NO_RECORD, str(self.lines_read)) from None
         self.start = end + 1
