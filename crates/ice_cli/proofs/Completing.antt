@@ -1,4 +1,5 @@
--- `check` on told bytes, with no fault of the outside: the checker's answer on the bytes decides what is written.
+-- `check` on told bytes, with no fault of the outside: the
+-- checker's answer on the bytes decides what is written.
 use Rattle.std.proofs.Common.{◌≡◌, ◌≢◌, ◌∙◌, refl, ap, sym, subst, inl, inr, ◌⊎◌, ℕ, List, [], length, get_or, Some, Option, Result, Ok, Err, arith}
 use Rattle.ice_defs.specs.FileFault.{FileFault, at_line}
 use Rattle.ice_edge.specs.declared.status.Status.{Status}

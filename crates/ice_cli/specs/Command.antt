@@ -28,7 +28,8 @@ words_of (simulate exchange truths) = codes "simulate" ∷ exchange ∷ truths �
 words_of (statement journal name) = codes "statement" ∷ journal ∷ name ∷ []
 words_of (audit file) = codes "audit" ∷ file ∷ []
 
--- a session has at most 20 rounds, and a run as many round files; the number of a generated exchange has 32 bits
+-- a session has at most 20 rounds, and a run as many round
+-- files; the number of a generated exchange has 32 bits
 abbrev pub IsLimited : Command → Type 0
 IsLimited (replay journal number) = number ≤ 20
 IsLimited (run exchange rounds) = length rounds ≤ 20

@@ -1,4 +1,5 @@
--- With files that are told, no fault of the outside, and branches enough, a call ends as it is meant to.
+-- With files that are told, no fault of the outside, and
+-- branches enough, a call ends as it is meant to.
 use Rattle.std.specs.Prelude.{ℕ, ◌<◌, ◌≤◌, ◌≡◌, ◌≢◌, ◌⊎◌, List, length, Ok}
 use Rattle.std.specs.List.{AllByRecursion}
 use Rattle.ice_edge.specs.declared.status.Status.TheVariants.{Done, Input, No, Limit, NoMemory, StillOpen}
@@ -19,7 +20,8 @@ pub record IsFaultless (call : Call) : Type 0 where
 
 -- ---- `check`
 
--- the call is `check` on a file with these bytes, which are told and within the limit, and nothing outside fails
+-- the call is `check` on a file with these bytes, which are
+-- told and within the limit, and nothing outside fails
 pub record ChecksBytes (call : Call) (journal bytes : List ℕ) : Type 0 where
   pub served : IsServed call
   pub command : IsCommand call.words (check journal)
@@ -45,17 +47,21 @@ IsValidExchange call name ex = (bytes : List ℕ) × IsTold call name bytes × (
 
 -- or has bids
 abbrev pub IsValidRound : Call → List ℕ → Type 0
-IsValidRound call name = (bytes : List ℕ) × (bids : List Submission) × IsTold call name bytes × (length bytes ≤ file_limit) × (bids_of bytes ≡ Ok bids)
+IsValidRound call name = (bytes : List ℕ) × (bids : List Submission) × IsTold call name bytes × (length bytes ≤ file_limit)
+    × (bids_of bytes ≡ Ok bids)
 
 -- with branches enough for two searches, a regret is found
 abbrev pub RegretCompletes : Type 0
 RegretCompletes =
-    (call : Call) (exchange : List ℕ) (ex : Exchange) → IsServed call → IsCommand call.words (regret exchange) → IsFaultless call → IsValidExchange call exchange ex
+    (call : Call) (exchange : List ℕ) (ex : Exchange) → IsServed call → IsCommand call.words (regret exchange) → IsFaultless call
+    → IsValidExchange call exchange ex
     → enough_for_regret ex ≤ ex.settings.branches → (call.status ≡ Done) ⊎ (call.status ≡ NoMemory)
 
 -- with branches enough, a session closes, stays open, or ends at a limit of its pricing, and the
 -- last only where the settings allow a round
 abbrev pub RunCompletes : Type 0
 RunCompletes =
-    (call : Call) (exchange : List ℕ) (rounds : List (List ℕ)) (ex : Exchange) → IsServed call → IsCommand call.words (run exchange rounds) → IsFaultless call → IsValidExchange call exchange ex → AllByRecursion (IsValidRound call) rounds
-    → enough_for_session ex ≤ ex.settings.branches → (call.status ≡ Done) ⊎ (call.status ≡ StillOpen) ⊎ ((call.status ≡ Limit) × (0 < ex.settings.rounds)) ⊎ (call.status ≡ NoMemory)
+    (call : Call) (exchange : List ℕ) (rounds : List (List ℕ)) (ex : Exchange) → IsServed call → IsCommand call.words (run exchange rounds)
+    → IsFaultless call → IsValidExchange call exchange ex → AllByRecursion (IsValidRound call) rounds
+    → enough_for_session ex ≤ ex.settings.branches
+    → (call.status ≡ Done) ⊎ (call.status ≡ StillOpen) ⊎ ((call.status ≡ Limit) × (0 < ex.settings.rounds)) ⊎ (call.status ≡ NoMemory)

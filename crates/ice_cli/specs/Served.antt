@@ -2,7 +2,8 @@
 use Rattle.std.specs.Prelude.{◌≡◌, ℕ, List}
 use Rattle.ice_edge.specs.declared.status.Status.{Status}
 use Rattle.ice_edge.specs.declared.status.Status.TheVariants.{Words, WriteFault}
-use Rattle.ice_cli.specs.Command.{Command, check, best, regret, xor, run, gen, migrate, simulate, IsCommand, IsNoCommand, replay, statement, audit}
+use Rattle.ice_cli.specs.Command.{Command, check, best, regret, xor, run, gen, migrate, simulate, IsCommand, IsNoCommand, replay, statement}
+use Rattle.ice_cli.specs.Command.{audit}
 use Rattle.ice_commands.specs.Call.{Call, SinkFaultRose, IsPrefix}
 use Rattle.ice_commands.specs.Output.{words_line}
 use Rattle.ice_commands.specs.CheckServed.{CheckAnswers}
@@ -17,7 +18,8 @@ use Rattle.ice_commands.specs.MigrateServed.{MigrateAnswers}
 use Rattle.ice_commands.specs.StatementServed.{StatementAnswers}
 use Rattle.ice_commands.specs.AuditServed.{AuditAnswers}
 
--- the words are none of the forms; no file is fetched, so all that the shelf tells is the same, each count among it
+-- the words are none of the forms; no file is fetched, so all
+-- that the shelf tells is the same, each count among it
 pub record RefusesWords (call : Call) : Type 0 where
   pub none : IsNoCommand call.words
   pub untouched : call.after ≡ call.before
@@ -37,7 +39,8 @@ CommandAnswers call (simulate exchange truths) = SimulateAnswers call exchange t
 CommandAnswers call (statement journal name) = StatementAnswers call journal name call.status
 CommandAnswers call (audit file) = AuditAnswers call file call.status
 
--- the call refuses its words, or answers the command that they are; or the sink failed, and what it took is the front of such an answer
+-- the call refuses its words, or answers the command that they are; or
+-- the sink failed, and what it took is the front of such an answer
 pub data IsServed : Call → Type 0 where
   no_command : {call : Call} → RefusesWords call → IsServed call
   answers : {call : Call} (c : Command) → IsCommand call.words c → CommandAnswers call c → IsServed call

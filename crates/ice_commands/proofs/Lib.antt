@@ -1,4 +1,4 @@
--- parts of a call, and what is said of a part's answer
+-- parts of a call
 pub mod Parts
 -- why a file is not had
 pub mod Refusing

@@ -1,13 +1,9 @@
--- Parts of a call: what is told in one is told in the call; and what is said of a part's answer.
-use Rattle.std.proofs.Common.{◌≡◌, ◌∙◌, refl, sym, subst, ℕ, ◌≤◌, List, length, Option, Some, None, IfSome, Result, Ok, Err, OnOk, OnErr, MatchResult, inl, inr, arith}
+-- Parts of a call: what is told in one is told in the call.
+use Rattle.std.proofs.Common.{◌≡◌, ◌∙◌, refl, sym, subst, ℕ, ◌≤◌, List, length, Option, Some, None, IfSome, arith}
 use Rattle.std.proofs.lemmas.Option.{none-some}
-use Rattle.ice_edge.specs.Edge.{Rose, Appends, AppendsFront}
 use Rattle.ice_edge.specs.Told.{Told, IsLater}
-use Rattle.ice_edge.specs.declared.status.Status.{Status}
-use Rattle.ice_edge.specs.declared.status.Status.TheVariants.{WriteFault}
-use Rattle.ice_edge.specs.Taken.{Taken}
 use Rattle.ice_commands.specs.Call.{Call, OfTold, OfFile}
-use Rattle.ice_commands.specs.Parts.{HasPart, IsSaid}
+use Rattle.ice_commands.specs.Parts.{HasPart}
 
 -- ---- what is told
 

@@ -155,7 +155,8 @@ module _ (ex : Exchange) (lawful : IsExchange ex) where
   final_are : (left : ℕ) (f : Found) → IsFinal ex left f → AllByRecursion IsRecord (final_records ex f)
   final_are left f is = group_are_records (line.final f.value) (length (exact_of ex)) f.best f.log (final_writable left f is).value (final_writable left f is).group
 
-  -- the regret is no less than 0, by which the sets lead themselves, and the difference of the two values
+  -- the regret is no less than 0, by which the sets lead
+  -- themselves, and the difference of the two values
   regret_is : (left : ℕ) (f : Found) (r : Regret) → IsFinal ex left f → IsRegretOf ex (opening_bounds ex) f.best r → IsBetween (pos 0) (pos 400000000000000) r.amount
   regret_is left f r final is =
       let final_is = final_worth left f final in

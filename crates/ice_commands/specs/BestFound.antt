@@ -11,7 +11,8 @@ use Rattle.ice_commands.specs.Parts.{HasPart}
 use Rattle.ice_commands.specs.Refusals.{IsRefusal}
 use Rattle.ice_commands.specs.Bests.{AreBestSets}
 
--- the first file is an exchange, the second has prices for its goods, and these are the best sets at them
+-- the first file is an exchange, the second has prices for
+-- its goods, and these are the best sets at them
 pub record AreBestOf (shelf : Told) (exchange prices : List ℕ) (bests : List BestSet) : Type 0 where
   pub exchange_of : Exchange
   pub prices_of : Prices

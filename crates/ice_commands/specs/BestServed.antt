@@ -32,19 +32,24 @@ pub data AreBestLines (ex : Exchange) (p : Prices) : ℕ → List (List ℕ) →
 
 -- the exchange file is judged before the prices file is fetched
 pub data BestRefused (call : Call) (exchange prices : List ℕ) : Type 0 where
-  exchange_refused : (fault : FileFault) → IsRefused call exchange file_limit IsExchangeFault fault → call.text ≡ refused_line 1 fault → BestRefused call exchange prices
+  exchange_refused : (fault : FileFault) → IsRefused call exchange file_limit IsExchangeFault fault → call.text ≡ refused_line 1 fault
+      → BestRefused call exchange prices
   prices_refused : (fault : FileFault) (ex : Exchange) → OfFile call exchange file_limit (λ bytes. IsExchangeOf bytes (Ok ex))
-      → IsRefused call prices file_limit (IsPricesFault (length (exact_of ex))) fault → call.text ≡ refused_line 2 fault → BestRefused call exchange prices
+      → IsRefused call prices file_limit (IsPricesFault (length (exact_of ex))) fault → call.text ≡ refused_line 2 fault
+      → BestRefused call exchange prices
 
--- one of two files can't be read, and the count of that rose; the second is fetched where the first is an exchange
+-- one of two files can't be read, and the count of that rose;
+-- the second is fetched where the first is an exchange
 pub data IsOneUnread (call : Call) (exchange other : List ℕ) : Type 0 where
   exchange_unread : FaultRose call exchange → call.text ≡ unread_line 1 → IsOneUnread call exchange other
-  other_unread : (ex : Exchange) → OfFile call exchange file_limit (λ bytes. IsExchangeOf bytes (Ok ex)) → FaultRose call other → call.text ≡ unread_line 2 → IsOneUnread call exchange other
+  other_unread : (ex : Exchange) → OfFile call exchange file_limit (λ bytes. IsExchangeOf bytes (Ok ex)) → FaultRose call other
+      → call.text ≡ unread_line 2 → IsOneUnread call exchange other
 
 abbrev pub BestAnswers : Call → List ℕ → List ℕ → Status → Type 0
 BestAnswers call exchange prices Done =
     (ex : Exchange) × (p : Prices) × OfFile call exchange file_limit (λ bytes. IsExchangeOf bytes (Ok ex))
-    × OfFile call prices file_limit (λ bytes. IsPricesOfLines (length (exact_of ex)) bytes (Ok p)) × AreBestLines ex p 0 (names_of ex) call.text
+    × OfFile call prices file_limit (λ bytes. IsPricesOfLines (length (exact_of ex)) bytes (Ok p))
+    × AreBestLines ex p 0 (names_of ex) call.text
 BestAnswers call exchange prices Input = BestRefused call exchange prices
 BestAnswers call exchange prices ReadFault = IsOneUnread call exchange prices
 BestAnswers call exchange prices NoMemory = call.text ≡ []

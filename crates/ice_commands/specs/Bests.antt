@@ -12,7 +12,8 @@ abbrev pub AreBestSets : Exchange → Prices → ℕ → List (List ℕ) → Lis
 AreBestSets ex p b [] [] = Unit {0}
 AreBestSets ex p b [] (best ∷ bests) = ⊥
 AreBestSets ex p b (name ∷ names) [] = ⊥
-AreBestSets ex p b (name ∷ names) (best ∷ bests) = (best.name ≡ name) × IsBestNet ex p b best.set best.net × AreBestSets ex p (suc b) names bests
+AreBestSets ex p b (name ∷ names) (best ∷ bests) = (best.name ≡ name) × IsBestNet ex p b best.set best.net
+    × AreBestSets ex p (suc b) names bests
 
 abbrev pub lines_of : BestSet → List ℕ
 lines_of best = best_lines best.name best.net best.set

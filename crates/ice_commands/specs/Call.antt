@@ -5,7 +5,8 @@ use Rattle.ice_edge.specs.Edge.{Rose}
 use Rattle.ice_edge.specs.Told.{Told}
 use Rattle.ice_defs.specs.FileFault.{FileFault}
 
--- its words; what the shelf told before and after it, and the sink's count of faults then; and the text that it appended to the sink
+-- its words; what the shelf told before and after it, and the sink's
+-- count of faults then; and the text that it appended to the sink
 pub record Call : Type 0 where
   pub words : List (List ℕ)
   pub before : Told
@@ -44,11 +45,13 @@ OfTold limit P (Some (Some bytes)) = (length bytes ≤ limit) × P bytes
 abbrev pub OfFile : Call → List ℕ → ℕ → (List ℕ → Type 0) → Type 0
 OfFile call name limit P = OfTold limit P (call.before.holds name)
 
--- a file is refused: it is too long, and the count of that rose; or its bytes, which are those that are told, have this fault
+-- a file is refused: it is too long, and the count of that rose; or
+-- its bytes, which are those that are told, have this fault
 pub data IsRefused (call : Call) (name : List ℕ) (limit : ℕ) (HasFault : List ℕ → FileFault → Type 0) : FileFault → Type 0 where
   too_long : OverlongRose call name limit → ((bytes : List ℕ) → IsTold call name bytes → limit < length bytes)
       → IsRefused call name limit HasFault (record { number = 61; place = codes "-" })
-  at_fault : {fault : FileFault} (bytes : List ℕ) → HasFault bytes fault → OfFile call name limit (λ told. told ≡ bytes) → IsRefused call name limit HasFault fault
+  at_fault : {fault : FileFault} (bytes : List ℕ) → HasFault bytes fault → OfFile call name limit (λ told. told ≡ bytes)
+      → IsRefused call name limit HasFault fault
 
 abbrev pub IsPrefix : {X : Type 0} → List X → List X → Type 0
 IsPrefix {X} xs ys = (rest : List X) × (ys ≡ xs ++ rest)

@@ -43,12 +43,14 @@ HasAnswer call file answer = (bytes : List ℕ) × AnswersBytes bytes (Ok answer
 
 -- the checker's answer is written, and it is one of this status
 abbrev pub WritesAnswer : Call → List ℕ → Status → Type 0
-WritesAnswer call file status = (answer : Answer) × HasAnswer call file answer × (answer_status answer ≡ status) × (call.text ≡ answer_line answer)
+WritesAnswer call file status = (answer : Answer) × HasAnswer call file answer × (answer_status answer ≡ status)
+    × (call.text ≡ answer_line answer)
 
 abbrev pub CheckAnswers : Call → List ℕ → Status → Type 0
 CheckAnswers call file Done = WritesAnswer call file Done
 CheckAnswers call file No = WritesAnswer call file No
-CheckAnswers call file Input = (fault : FileFault) × IsRefused call file journal_limit IsCheckFault fault × (call.text ≡ refused_line 1 fault)
+CheckAnswers call file Input = (fault : FileFault) × IsRefused call file journal_limit IsCheckFault fault
+    × (call.text ≡ refused_line 1 fault)
 CheckAnswers call file ReadFault = FaultRose call file × (call.text ≡ unread_line 1)
 CheckAnswers call file NoMemory = call.text ≡ []
 CheckAnswers call file other = ⊥

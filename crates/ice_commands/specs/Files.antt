@@ -65,7 +65,8 @@ abbrev pub IsLineRefusal : ℕ → LineFileFault → Refusal → Type 0
 IsLineRefusal file (fault.Fault cause line) refusal = IsRefusalAt file (line_cause_number cause) line refusal
 IsLineRefusal file fault.NoMemory refusal = refusal ≡ NoMemory
 
--- a fault that the reader of JSON found in the file with this number: every number has its place; want of memory has no number
+-- a fault that the reader of JSON found in the file with this number:
+-- every number has its place; want of memory has no number
 abbrev pub IsPlaceRefusal : ℕ → ReadFault → Refusal → Type 0
 IsPlaceRefusal file fault refusal = numbered (cause_number fault.cause)
   where

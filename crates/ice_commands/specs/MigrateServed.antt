@@ -15,7 +15,8 @@ use Rattle.ice_commands.specs.Call.{Call, FaultRose, journal_limit, OfFile, IsRe
 use Rattle.ice_commands.specs.CheckServed.{other_kind}
 use Rattle.ice_commands.specs.Output.{no_line, refused_line, unread_line}
 
--- the fault of bytes that are no journal of version 1; a failed test and want of memory are no faults of a file
+-- the fault of bytes that are no journal of version 1; a
+-- failed test and want of memory are no faults of a file
 abbrev pub IsUnfitFault : Unfit → FileFault → Type 0
 IsUnfitFault (unfit.Grammar line) fault = fault ≡ at_line 50 line
 IsUnfitFault (unfit.Unended line) fault = fault ≡ at_line 51 line
@@ -33,8 +34,10 @@ HasJournal call file P = (bytes : List ℕ) × OfJournal bytes P × OfFile call 
 -- from what is written the journal that was read comes back: so `IsMigrated` says
 abbrev pub MigrateAnswers : Call → List ℕ → Status → Type 0
 MigrateAnswers call file Done = HasJournal call file (λ journal. IsMigrated journal × (call.text ≡ bytes_of (packed journal)))
-MigrateAnswers call file No = (failure : Failure) × HasJournal call file (λ journal. IsFailing journal failure) × (call.text ≡ no_line failure)
-MigrateAnswers call file Input = (fault : FileFault) × IsRefused call file journal_limit IsMigrateFault fault × (call.text ≡ refused_line 1 fault)
+MigrateAnswers call file No = (failure : Failure) × HasJournal call file (λ journal. IsFailing journal failure)
+    × (call.text ≡ no_line failure)
+MigrateAnswers call file Input = (fault : FileFault) × IsRefused call file journal_limit IsMigrateFault fault
+    × (call.text ≡ refused_line 1 fault)
 MigrateAnswers call file ReadFault = FaultRose call file × (call.text ≡ unread_line 1)
 MigrateAnswers call file NoMemory = call.text ≡ []
 MigrateAnswers call file other = ⊥

@@ -20,10 +20,12 @@ AreFetched shelf name limit bytes = OfTold limit (λ told. told ≡ bytes) (shel
 abbrev pub Answers : (Call → Status → Type 0) → Told → Told → List ℕ → Status → Type 0
 Answers IsAnswer before after text status = (call : Call) → HasPart call before after → call.text ≡ text → IsAnswer call status
 
--- what was written, and how it ended: the whole text with its status, or a front of it where the sink's count of faults rose
+-- what was written, and how it ended: the whole text with its
+-- status, or a front of it where the sink's count of faults rose
 abbrev pub IsSaid : List ℕ → Status → Taken → Taken → Status → Type 0
 IsSaid text status old new result =
-    ((result ≡ status) × Appends old.written text new.written) ⊎ ((result ≡ WriteFault) × Rose old.faults new.faults × AppendsFront old.written text new.written)
+    ((result ≡ status) × Appends old.written text new.written)
+    ⊎ ((result ≡ WriteFault) × Rose old.faults new.faults × AppendsFront old.written text new.written)
 
 -- a command has an answer, and says it
 abbrev pub Serves : (Call → Status → Type 0) → Told → Told → Taken → Taken → Status → Type 0

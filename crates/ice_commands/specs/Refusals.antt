@@ -35,7 +35,8 @@ refusal_status (File file fault) = status.Input
 refusal_status (Unread file) = status.ReadFault
 refusal_status NoMemory = status.NoMemory
 
--- the file with this number and name is refused in the call, or it can't be read, or there is no memory
+-- the file with this number and name is refused in the
+-- call, or it can't be read, or there is no memory
 abbrev pub IsRefusal : Call → ℕ → List ℕ → ℕ → (List ℕ → FileFault → Type 0) → Refusal → Type 0
 IsRefusal call number name limit HasFault (File file fault) = (file ≡ number) × IsRefused call name limit HasFault (fault_of fault)
 IsRefusal call number name limit HasFault (Unread file) = (file ≡ number) × FaultRose call name
@@ -43,7 +44,8 @@ IsRefusal call number name limit HasFault NoMemory = Unit {0}
 
 -- and so it is in every call that has this part
 abbrev pub Refuses : ℕ → List ℕ → ℕ → (List ℕ → FileFault → Type 0) → Told → Told → Refusal → Type 0
-Refuses number name limit HasFault before after refusal = (call : Call) → HasPart call before after → IsRefusal call number name limit HasFault refusal
+Refuses number name limit HasFault before after refusal = (call : Call) → HasPart call before after
+    → IsRefusal call number name limit HasFault refusal
 
 -- bytes that have no fault
 abbrev pub NoFault : List ℕ → FileFault → Type 0

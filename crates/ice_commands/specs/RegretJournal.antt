@@ -29,11 +29,15 @@ module _ (ex : Exchange) where
     pub found : IsFoundBy (lower_search ex (opening_bounds ex)) f
     pub branches : left + branch_count f.log ≡ ex.settings.branches
 
-  -- the journal is begun, it has its final group too, or it is whole; or one of its two searches is spent
+  -- the journal is begun, it has its final group too, or it
+  -- is whole; or one of its two searches is spent
   pub data IsRegretJournal : List Record → Status → Type 0 where
     begins : IsRegretJournal begun_records NoMemory
-    final_spent : (s : results.Spent) → IsSpentBy (lower_search ex (opening_bounds ex)) ex.settings.branches s → IsRecord (line.spent s.value s.bound) → IsRegretJournal (begun_records ++ spent_records ex s) Spent
+    final_spent : (s : results.Spent) → IsSpentBy (lower_search ex (opening_bounds ex)) ex.settings.branches s
+        → IsRecord (line.spent s.value s.bound) → IsRegretJournal (begun_records ++ spent_records ex s) Spent
     has_final : (left : ℕ) (f : Found) → IsFinal left f → IsRegretJournal (begun_records ++ final_records ex f) NoMemory
-    rival_spent : (left : ℕ) (f : Found) (s : results.Spent) → IsFinal left f → IsSpentBy (rival_search ex (opening_bounds ex) f.best) left s → IsRecord (line.spent s.value s.bound)
+    rival_spent : (left : ℕ) (f : Found) (s : results.Spent) → IsFinal left f
+        → IsSpentBy (rival_search ex (opening_bounds ex) f.best) left s → IsRecord (line.spent s.value s.bound)
         → IsRegretJournal ((begun_records ++ final_records ex f) ++ spent_records ex s) Spent
-    is_whole : (left : ℕ) (f : Found) (r : Regret) → IsFinal left f → IsRegretOf ex (opening_bounds ex) f.best r → IsRegretJournal ((begun_records ++ final_records ex f) ++ ending_records r) Done
+    is_whole : (left : ℕ) (f : Found) (r : Regret) → IsFinal left f → IsRegretOf ex (opening_bounds ex) f.best r
+        → IsRegretJournal ((begun_records ++ final_records ex f) ++ ending_records r) Done

@@ -34,7 +34,8 @@ pub record RegretEnds (call : Call) (exchange : List ℕ) : Type 0 where
   pub right : IsRightRegret said
   pub checks : Checks journal
 
--- one that stops at a search whose branches are spent: that it stops is its first failed test, and more branches would have been enough
+-- one that stops at a search whose branches are spent: that it stops is
+-- its first failed test, and more branches would have been enough
 pub record RegretSpends (call : Call) (exchange : List ℕ) : Type 0 where
   pub journal : List Record
   pub written : IsJournal call.text journal
@@ -46,11 +47,13 @@ pub record RegretSpends (call : Call) (exchange : List ℕ) : Type 0 where
 -- whole lines: nothing, or its journal as far as it goes, with no stop
 pub data IsRegretText (call : Call) (exchange : List ℕ) : List ℕ → Type 0 where
   nothing : IsRegretText call exchange []
-  of_journal : {journal : List Record} (regret : IsRegretSoFar call exchange journal) → IsUnstopped regret.so_far.end → IsRegretText call exchange (bytes_of journal)
+  of_journal : {journal : List Record} (regret : IsRegretSoFar call exchange journal) → IsUnstopped regret.so_far.end
+      → IsRegretText call exchange (bytes_of journal)
 
 abbrev pub RegretAnswers : Call → List ℕ → Status → Type 0
 RegretAnswers call exchange Done = RegretEnds call exchange
-RegretAnswers call exchange Input = (fault : FileFault) × IsRefused call exchange file_limit IsExchangeFault fault × (call.text ≡ refused_line 1 fault)
+RegretAnswers call exchange Input = (fault : FileFault) × IsRefused call exchange file_limit IsExchangeFault fault
+    × (call.text ≡ refused_line 1 fault)
 RegretAnswers call exchange Spent = RegretSpends call exchange
 RegretAnswers call exchange ReadFault = FaultRose call exchange × (call.text ≡ unread_line 1)
 RegretAnswers call exchange NoMemory = IsRegretText call exchange call.text

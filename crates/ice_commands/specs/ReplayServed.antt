@@ -30,12 +30,15 @@ IsReplayFault number bytes fault = (end : ReplayEnd) × ReplaysBytes bytes numbe
 
 -- this is the replay of the bytes of the file, which are those that are told
 abbrev pub HasReplay : Call → List ℕ → ℕ → Result Replay ReplayEnd → Type 0
-HasReplay call file number found = (bytes : List ℕ) × ReplaysBytes bytes number found × OfFile call file journal_limit (λ told. told ≡ bytes)
+HasReplay call file number found = (bytes : List ℕ) × ReplaysBytes bytes number found
+    × OfFile call file journal_limit (λ told. told ≡ bytes)
 
 abbrev pub ReplayAnswers : Call → List ℕ → ℕ → Status → Type 0
 ReplayAnswers call file number Done = (replay : Replay) × HasReplay call file number (Ok replay) × (call.text ≡ replay_lines replay)
-ReplayAnswers call file number No = (line : ℕ) × (rule : Rule) × HasReplay call file number (Err (ending.No line rule)) × (call.text ≡ no_line (record { line = line; rule = rule }))
-ReplayAnswers call file number Input = (fault : FileFault) × IsRefused call file journal_limit (IsReplayFault number) fault × (call.text ≡ refused_line 1 fault)
+ReplayAnswers call file number No = (line : ℕ) × (rule : Rule) × HasReplay call file number (Err (ending.No line rule))
+    × (call.text ≡ no_line (record { line = line; rule = rule }))
+ReplayAnswers call file number Input = (fault : FileFault) × IsRefused call file journal_limit (IsReplayFault number) fault
+    × (call.text ≡ refused_line 1 fault)
 ReplayAnswers call file number ReadFault = FaultRose call file × (call.text ≡ unread_line 1)
 ReplayAnswers call file number NoMemory = call.text ≡ []
 ReplayAnswers call file number other = ⊥

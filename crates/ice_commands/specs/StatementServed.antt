@@ -1,4 +1,5 @@
--- What `statement` writes at each status: what the journal says to the named bidder, or why nothing.
+-- What `statement` writes at each status: what the
+-- journal says to the named bidder, or why nothing.
 use Rattle.std.specs.Prelude.{ℕ, ◌≡◌, List, [], codes, Err}
 use Rattle.ice_edge.specs.declared.status.Status.{Status}
 use Rattle.ice_edge.specs.declared.status.Status.TheVariants.{Done, Input, No, ReadFault, NoMemory}

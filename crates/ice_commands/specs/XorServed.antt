@@ -28,7 +28,8 @@ abbrev pub IsTranslationOf : List ℕ → List ℕ → Type 0
 IsTranslationOf bytes text = (flat : FlatExchange) × (flat_of bytes ≡ Ok flat) × IsTranslation flat text
 
 abbrev pub XorAnswers : Call → List ℕ → Status → Type 0
-XorAnswers call file Done = (flat : FlatExchange) × OfFile call file file_limit (λ bytes. flat_of bytes ≡ Ok flat) × IsTranslation flat call.text
+XorAnswers call file Done = (flat : FlatExchange) × OfFile call file file_limit (λ bytes. flat_of bytes ≡ Ok flat)
+    × IsTranslation flat call.text
 XorAnswers call file Input = (fault : FileFault) × IsRefused call file file_limit IsFlatFault fault × (call.text ≡ refused_line 1 fault)
 XorAnswers call file ReadFault = FaultRose call file × (call.text ≡ unread_line 1)
 XorAnswers call file NoMemory = call.text ≡ []

@@ -43,7 +43,8 @@ summary_fields number s =
 abbrev pub summary_text : ℕ → Summary → List ℕ
 summary_text number s = flat_map line_text (summary_fields number s)
 
--- the figures are those of the generated exchange, in which the bidders state their generated true values; no regret is left
+-- the figures are those of the generated exchange, in which the
+-- bidders state their generated true values; no regret is left
 pub record GenEnds (text : List ℕ) (number : ℕ) : Type 0 where
   pub summary : Summary
   pub written : text ≡ summary_text number summary

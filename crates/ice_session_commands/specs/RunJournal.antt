@@ -39,7 +39,8 @@ module _ (call : Call) (files : List (List ℕ)) where
         → IsRunJournal s.exchange (round_records s going last) NoMemory
     stays_open : (going : List Going) (s : SessionAt) (last : Going) (r : RoundAt) → HasOpened going s last r → length going ≡ length files
         → IsRunJournal s.exchange (round_records s going last ++ line.end open_end ∷ []) StillOpen
-    refuses : (going : List Going) (s : SessionAt) (last : Going) (r : RoundAt) (file : List ℕ) (fault : FileFault) → HasOpened going s last r
+    refuses : (going : List Going) (s : SessionAt) (last : Going) (r : RoundAt) (file : List ℕ) (fault : FileFault)
+        → HasOpened going s last r
         → slice_get files (length going) ≡ Some file
         → IsRefused call file file_limit IsRoundFault fault
         → IsRunJournal s.exchange (round_records s going last ++ line.refused (length going + 2) fault.number fault.place ∷ []) Input

@@ -22,7 +22,8 @@ use Rattle.ice_commands.specs.Output.{refused_line, unread_line}
 use Rattle.ice_commands.specs.Journals.{HasFewerThan}
 use Rattle.ice_session_commands.specs.Rounds.{IsRunSoFar, AreRoundsOf, HasRounds, rounds_in}
 
--- the headline of a run: what it wrote is a closed journal of the exchange of the first file and of all bids of the round files, and it is right
+-- the headline of a run: what it wrote is a closed journal of the exchange of
+-- the first file and of all bids of the round files, and it is right
 pub record RunCloses (call : Call) (exchange : List ℕ) (rounds : List (List ℕ)) : Type 0 where
   pub journal : List Record
   pub session : Session
@@ -37,7 +38,8 @@ pub record RunCloses (call : Call) (exchange : List ℕ) (rounds : List (List �
 
 -- the exchange file, or the round file that stands next, is refused
 pub data RunRefused (call : Call) (exchange : List ℕ) (rounds : List (List ℕ)) : Type 0 where
-  at_start : (fault : FileFault) → IsRefused call exchange file_limit IsExchangeFault fault → call.text ≡ refused_line 1 fault → RunRefused call exchange rounds
+  at_start : (fault : FileFault) → IsRefused call exchange file_limit IsExchangeFault fault → call.text ≡ refused_line 1 fault
+      → RunRefused call exchange rounds
   in_round : (before : List Record) (number : ℕ) (file : List ℕ) (fault : FileFault)
       → length (rounds_in before) ≡ suc number → slice_get rounds number ≡ Some file → IsRefused call file file_limit IsRoundFault fault
       → IsRunSoFar call exchange rounds session_kind (before ++ line.refused (number + 2) fault.number fault.place ∷ [])
@@ -64,7 +66,8 @@ pub record RunStaysOpen (call : Call) (exchange : List ℕ) (rounds : List (List
 -- whole lines: nothing, or its journal as far as it goes, with no stop
 pub data IsRunText (call : Call) (exchange : List ℕ) (rounds : List (List ℕ)) : List ℕ → Type 0 where
   nothing : IsRunText call exchange rounds []
-  of_journal : {journal : List Record} (run : IsRunSoFar call exchange rounds session_kind journal) → IsUnstopped run.so_far.end → IsRunText call exchange rounds (bytes_of journal)
+  of_journal : {journal : List Record} (run : IsRunSoFar call exchange rounds session_kind journal) → IsUnstopped run.so_far.end
+      → IsRunText call exchange rounds (bytes_of journal)
 
 -- a search was spent, of fewer branches than would be enough
 pub record RunSpends (call : Call) (exchange : List ℕ) (rounds : List (List ℕ)) : Type 0 where

@@ -44,7 +44,8 @@ pub record Judges (before after : RoundAt) (bids : List Submission) (put : Resul
 abbrev pub OpensRound : SessionAt → RoundAt → Taken → Taken → Type 0
 OpensRound s r old new =
     (going : List Going) → IsRunning going s
-    → (last : Going) × IsInRound going s last r × (last.judged ≡ []) × Takes (bytes_of (going_in version_2 (length (exact_of s.exchange)) s.number last)) old new
+    → (last : Going) × IsInRound going s last r × (last.judged ≡ [])
+    × Takes (bytes_of (going_in version_2 (length (exact_of s.exchange)) s.number last)) old new
 
 -- the journal ends in this settlement
 abbrev pub EndsHere : SessionAt → Taken → Taken → Status → Type 0
@@ -63,13 +64,15 @@ FailsInRound r bids old new result =
 -- no file is left for the round, or the next one isn't had, and the journal ends in it
 abbrev pub LacksFile : List (List ℕ) → RoundAt → Told → Told → Taken → Taken → Status → Type 0
 LacksFile files r before after old new result =
-    (going : List Going) (s : SessionAt) (last : Going) (done : List (List ℕ)) → IsInRound going s last r → last.judged ≡ [] → length done ≡ length going → AreHeld before done going
+    (going : List Going) (s : SessionAt) (last : Going) (done : List (List ℕ)) → IsInRound going s last r → last.judged ≡ []
+    → length done ≡ length going → AreHeld before done going
     → WritesBehind (round_records s going last) (RunsTo s.exchange (done ++ files) before after) old new result
 
 -- the source has no bids for the round, and the journal ends in it
 abbrev pub EndsInRound : Source → RoundAt → Told → Told → Taken → Taken → Status → Type 0
 EndsInRound source r before after old new result =
-    (whole : Source) (going : List Going) (s : SessionAt) (last : Going) → IsInRound going s last r → last.judged ≡ [] → IsLeft before whole going s source
+    (whole : Source) (going : List Going) (s : SessionAt) (last : Going) → IsInRound going s last r → last.judged ≡ []
+    → IsLeft before whole going s source
     → WritesBehind (round_records s going last) (LeadsTo whole s.exchange before after) old new result
 
 -- the rest of the session is put, with the bids of what is left of its source
