@@ -44,7 +44,7 @@ pub record RegretSpends (call : Call) (exchange : List ℕ) : Type 0 where
   pub spent : IsSpent regret_kind journal
   pub few : HasFewerThan call exchange enough_for_regret
 
--- whole lines: nothing, or its journal as far as it goes, with no stop
+-- whole lines: nothing, or its journal as far as it goes, which ends early and without a stop
 pub data IsRegretText (call : Call) (exchange : List ℕ) : List ℕ → Type 0 where
   nothing : IsRegretText call exchange []
   of_journal : {journal : List Record} (regret : IsRegretSoFar call exchange journal) → IsUnstopped regret.so_far.end

@@ -63,7 +63,7 @@ pub record RunStaysOpen (call : Call) (exchange : List ℕ) (rounds : List (List
   pub all_rounds : length session.going ≡ suc (length rounds)
   pub right : IsRightOpen session
 
--- whole lines: nothing, or its journal as far as it goes, with no stop
+-- whole lines: nothing, or its journal as far as it goes, which ends early and without a stop
 pub data IsRunText (call : Call) (exchange : List ℕ) (rounds : List (List ℕ)) : List ℕ → Type 0 where
   nothing : IsRunText call exchange rounds []
   of_journal : {journal : List Record} (run : IsRunSoFar call exchange rounds session_kind journal) → IsUnstopped run.so_far.end

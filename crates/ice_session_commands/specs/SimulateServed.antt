@@ -81,7 +81,7 @@ pub record SimulateIsLimited (call : Call) (exchange truths : List ℕ) : Type 0
   pub limited : IsLimited journal
   pub allows_rounds : HasRounds call exchange
 
--- whole lines: nothing, or its journal as far as it goes, with no stop
+-- whole lines: nothing, or its journal as far as it goes, which ends early and without a stop
 pub data IsSimulatedText (call : Call) (exchange truths : List ℕ) : List ℕ → Type 0 where
   nothing : IsSimulatedText call exchange truths []
   of_journal : {journal : List Record} (simulated : IsSimulatedSoFar call exchange truths journal) → IsUnstopped simulated.so_far.end
