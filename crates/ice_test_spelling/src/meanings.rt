@@ -26,7 +26,7 @@ const ENDS: [(&str, EndWord); 8] = [
     ("end limit", EndWord::Limit),
 ];
 
-const LIMITS: [(&str, Stage, LimitKind); 8] = [
+const LIMITS: [(&str, PricingStage, LimitKind); 8] = [
     (
         "limit accuracy wide 0 1",
         PricingStage::Accuracy,
@@ -94,7 +94,7 @@ fn end(text: &str) -> Option<EndWord> {
     }
 }
 
-fn limit(text: &str) -> Option<(Stage, LimitKind)> {
+fn limit(text: &str) -> Option<(PricingStage, LimitKind)> {
     match read_record(text.as_bytes())? {
         Line::Limit { stage, kind, .. } => Some((stage, kind)),
         _ => None,
