@@ -47,7 +47,7 @@ answer() {
         "$program" "$@"
         status=$?
         case $1:$status in
-        run:0 | *:[234569]) said=$(tail -c "+$((begin + 1))" "/proc/$$/fd/1" 2>/dev/null | summary) ;;
+        run:0 | simulate:0 | *:[234569]) said=$(tail -c "+$((begin + 1))" "/proc/$$/fd/1" 2>/dev/null | summary) ;;
         esac
     else
         "$program" "$@"
@@ -89,6 +89,8 @@ fault() {
     61) echo "longer than such a file may be" ;;
     90) echo "a package with no good" ;;
     91) echo "a bidder with no package" ;;
+    92) echo "no true values of a bidder that no earlier bid names: two equal lists, a value for each node, inside its bounds" ;;
+    93) echo "a bidder of the exchange has no bid: its true values are wanted too" ;;
     94) echo "no bidder of the session has this name" ;;
     *) echo "refused" ;;
     esac
@@ -222,13 +224,13 @@ wrong_words() {
 
 # How a session ended that closed: its round and regret, and which of the files that were named it didn't come to.
 closed() {
-    local settle regret surplus beyond
+    local settle regret surplus beyond=()
     settle=$(field settle 2) regret=$(field regret 2) surplus=$(field threshold 3)
     if [ -z "$settle" ] || [ -z "$regret" ]; then
         echo "closed"
         return
     fi
-    beyond=("${words[@]:settle+2}")
+    [ "${words[0]}" != run ] || beyond=("${words[@]:settle+2}")
     echo "closed after round $settle: regret $regret, surplus $surplus${beyond[0]:+; not read: $(printf '%q ' "${beyond[@]}" | sed 's/ $//')}"
 }
 
@@ -257,7 +259,7 @@ describe() {
     shift
     local words=("$@")
     case $status in
-    0) [ "${words[0]}" != run ] || closed ;;
+    0) case ${words[0]} in run | simulate) closed ;; esac ;;
     1) wrong_words ;;
     2) refused ;;
     3)

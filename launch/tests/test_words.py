@@ -66,6 +66,16 @@ class Words(unittest.TestCase):
         self.assertEqual(self.told(spent, 4, "run", "m"), "the branches of the settings are used up: what was found is worth 50, and nothing is worth more than 65")
         self.assertEqual(self.told("limit accuracy rows 0 1\nend limit\n", 5, "run", "m"), "the pricing came to a limit: no prices are offered")
 
+    def test_simulations(self):
+        self.assertEqual(self.told(CLOSED, 0, "simulate", "m", "t"), "closed after round 1: regret 0, surplus 1/3")
+        spent = "settle 0\nspent 50 65\nset 1\nend spent\n"
+        self.assertIn("the branches of the settings are used up", self.told(spent, 4, "simulate", "m", "t"))
+        (self.top / "truths.json").write_text('{"bids": [{"bidder": "a", "lo": [1], "hi": [1]}, {"bidder": "b", "lo": [2], "hi": [3]}]}')
+        told = self.refused(92, "bids.1", "simulate", "market.json", "truths.json", file=2)
+        self.assertRegex(told, r'^truths.json is refused: bids.1 "b": no true values of .* \(number 92\)$')
+        told = self.refused(93, "-", "simulate", "market.json", "truths.json", file=2)
+        self.assertRegex(told, r"^truths.json is refused: a bidder of the exchange has no bid.* \(number 93\)$")
+
     def test_what_says_all_itself_has_no_line(self):
         self.assertEqual(self.told("yes 0 0/1\n", 0, "check", "j"), "")
         self.assertEqual(self.told("best a 1\nset 1\nend best\n", 0, "best", "e", "p"), "")
@@ -112,7 +122,7 @@ class Words(unittest.TestCase):
         self.assertEqual(self.refused(53, "-", "migrate", "j"), "j is refused: not a journal of a kind that `migrate` takes (number 53)")
 
     def test_each_number_has_words(self):
-        for number in [*range(1, 6), *range(10, 15), 16, 17, *range(20, 27), 50, 51, 52, 53, 61, 90, 91, 94]:
+        for number in [*range(1, 6), *range(10, 15), 16, 17, *range(20, 27), 50, 51, 52, 53, 61, 90, 91, 92, 93, 94]:
             told = self.refused(number, "-")
             self.assertRegex(told, rf"^market.json is refused: [^:]{{6,}}.*\(number {number}\)$")
             self.assertNotIn("refused: refused", told)
@@ -143,6 +153,8 @@ class Words(unittest.TestCase):
             ("gen", "07"): "`gen` takes a number from 0 to 4294967295, with no sign and no leading zero, and not 07",
             ("replay", "j", "21"): "`replay` takes a settlement from 0 to 20, with no sign and no leading zero, and not 21",
             ("audit",): "`audit` takes one file, and 0 words stand behind it",
+            ("simulate", "m"): "`simulate` takes an exchange and true values, and 1 words stand behind it",
+            ("statement", "j"): "`statement` takes a journal and the name of a bidder, and 1 words stand behind it",
             ("run",): "`run` takes an exchange, and no file is named",
             ("run", *"m12345678901234567890!"): "`run` takes up to 20 round files, and 21 are named",
             ("check", b"\xff"): "the word $'\\377' is no text in UTF-8",
