@@ -220,7 +220,7 @@ class Rounds:
         )
         bars = tag("div", table(caption, head, rows, self.sums()) + legend)
         why = tag("dl", self.reasons(), class_="why") if self.refused else ""
-        return tag("h3", caption) + tag("div", bars + why, class_="pair")
+        return tag("h3", caption) + tag("div", bars + why, class_="pair") + self.told()
 
     def bidder(self, number: int) -> str:
         """The row of a bidder."""
@@ -269,6 +269,41 @@ class Rounds:
             cell(numbers.whole(now), "right"),
             cell(text(numbers.percent(now, first)), "right soft"),
         )
+
+    def told(self) -> str:
+        """The heading and the table of how much of its opening intervals each bidder told."""
+        caption = "How much was told"
+        heads = [
+            column_head(f"round {number}", f"right{older(number, self.count)}")
+            for number in range(1, self.count)
+        ]
+        head = row(column_head("", "name"), *heads)
+        names = [text(bidder.name) for bidder in self.journal.bidders]
+        rows = [
+            self.told_row(names[number], [at[number] for at in self.loose])
+            for number in self.view.bidders
+        ]
+        foot = self.told_row("all", list(map(sum, self.loose)))
+        legend = key(
+            "the share of the opening intervals that is gone after each round",
+            "100&nbsp;% leaves none",
+            tag("span", "earlier rounds stand on a wider screen", class_="narrow")
+            if self.count - 1 > SHOWN_NARROW
+            else "",
+        )
+        return tag("h3", caption) + table(caption, head, rows, foot) + legend
+
+    def told_row(self, name: str, loose: list[int]) -> str:
+        """The row of a bidder, or of all, that has so much uncertainty at each settlement."""
+        first = loose[0]
+        cells = [
+            cell(
+                text(numbers.percent(first - now, first) or "exact before"),
+                f"right{' soft' if not first else ''}{older(number, self.count)}",
+            )
+            for number, now in enumerate(loose[1:], 1)
+        ]
+        return row(row_head(name, "name"), *cells)
 
     def reasons(self) -> str:
         """Why bids were refused, round by round, or over all rounds where they are many."""

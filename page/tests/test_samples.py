@@ -65,6 +65,23 @@ class Told:
         """The lower value of a bidder's set."""
         return sum(low for low, bit in zip(self.lows[name], self.sets[name]) if bit == "1")
 
+    def loose(self) -> dict[str, list[int]]:
+        """Upper less lower values at each settlement, of each bidder and of all."""
+        now = {
+            name: sum(int(node[-1]) - int(node[-2]) for node in self.nodes[name])
+            for name in self.bidders
+        }
+        loose = {name: [] for name in [*self.bidders, "all"]}
+        for line, behind in zip(self.lines, [*self.lines[1:], [""]]):
+            if line[0] == "submit" and behind == ["verdict", "accepted"]:
+                values = list(map(int, line[3:]))
+                middle = int(line[2])
+                now[line[1]] = sum(values[middle + 1 :]) - sum(values[:middle])
+            if line[0] == "settle":
+                for name, each in {**now, "all": sum(now.values())}.items():
+                    loose[name].append(each)
+        return loose
+
     def logs(self) -> list[tuple[int, int, int, int]]:
         """Branches, leaves, dead sides and bytes of each log."""
         logs, inside = [], False
@@ -234,6 +251,34 @@ class Samples(unittest.TestCase):
                 for bidder, cells in zip(told.bidders, rows):
                     opening = sum(int(node[-1]) - int(node[-2]) for node in told.nodes[bidder])
                     self.assertEqual((cells[0], cells[1]), (bidder, minus(opening)))
+
+    def test_how_much_was_told(self):
+        for name, told, page, _ in self.pages:
+            with self.subTest(name):
+                rows = page.table("How much was told")
+                settlements = told.rest("settle")
+                self.assertEqual(bool(rows), len(settlements) > 1)
+                if not rows:
+                    continue
+                loose = told.loose()
+                for who, (head, *cells) in zip([*told.bidders, "all"], rows[1:], strict=True):
+                    self.assertEqual((head, len(cells)), (who, len(settlements) - 1))
+                    first, *later = loose[who]
+                    for now, cell in zip(later, cells):
+                        if not first:
+                            self.assertEqual(cell, "exact before")
+                        elif cell[0] not in "<>":
+                            share = Fraction(100 * (first - now), first)
+                            self.assertLessEqual(abs(share - value_of(cell[:-2])), Fraction(1, 2))
+
+    def test_a_simulated_session(self):
+        page = page_of(sample("simulated.session"))
+        rows = page.table("How much was told")
+        # the seller has told all before, and the buyer's 16 to 17 is a tenth of 10 to 20
+        self.assertEqual(rows[1:], [["s", "exact before"], ["b", "90 %"], ["all", "90 %"]])
+        self.assertEqual(page.table("Prices of one unit")[1:], [["A", "14"]])
+        found = [cells[:4] for cells in page.table("What was sure")[1:]]
+        self.assertEqual(found, [["0", "0", "5", ""], ["1", "1", "0", "0 %"]])
 
     def test_trees(self):
         for name, told, page, _ in self.pages:
