@@ -16,7 +16,7 @@ from threading import Timer
 from harness.calls import CALLS, Call
 from harness.cases import FILES, shared
 from harness.edge import counts, edge
-from harness.program import INPUT, SECONDS, UNREAD, WORDS, WRITE_FAULT
+from harness.program import INPUT, NO, SECONDS, UNREAD, WORDS, WRITE_FAULT
 from harness.program import Program, Ran, ended, limit, programs
 
 NOBODY = 65534
@@ -315,6 +315,10 @@ class Files(Edge):
     @for_each_file
     def test_an_empty_device(self, program, call, place, _):
         ran = program.run(call.words({place: "/dev/null"}))
+        if call.command == "audit":
+            # no line of it is at fault: it is a statement that ends too early
+            self.assertEqual(ran, Ran(NO, b"no 1 short\n", b""))
+            return
         self.assertEqual((ran.status, ran.errors), (INPUT, b""))
         self.assertRegex(ran.output.splitlines()[-1], b"^refused %d " % place)
 
