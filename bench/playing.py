@@ -38,8 +38,10 @@ bounds.
 The rule: in each round every bidder bids, in the order of the market. It keeps a part of the
 distance from each bound to the true value, the first part of --keep; where the bid is refused it
 tries again behind the others with the next part, and at last with 0, its exact values. Distances
-are rounded down, so all bounds are whole and hold the true values. It is one rule of many, and
-what it shows of a setting is an example and no law.
+are rounded down, so all bounds are whole and hold the true values. With --proxies the program
+plays by its own rule, `simulate`: each bidder halves its distances as often as the activity rules
+ask, and tells no more. These are two rules of many, and what they show of a setting is an example
+and no law.
 
 Columns: how the session ended, its rounds, its bids and how many were refused; the trade's welfare
 at the true values; what all who are paid get, by the Threshold payments of the journal, by VCG
@@ -186,6 +188,20 @@ class Player:
         ]
 
 
+class Simulator(Player):
+    """Has the program play a market's rounds, with a proxy for each bidder."""
+
+    def play(self) -> Played:
+        """Plays until the session closes or stops."""
+        truths = self.folder / "truths.json"
+        bids = [{"bidder": name, "lo": own, "hi": own} for name, own in self.market.truths.items()]
+        truths.write_text(json.dumps({"bids": bids}))
+        self.rounds = [truths]
+        _, journal, verdicts = self.session()
+        judged = [verdict for each in verdicts for verdict in each]
+        return Played(journal, judged, sum(map(bool, verdicts)))
+
+
 def received(payments: list[Fraction]) -> Fraction:
     """What all who are paid get."""
     return -sum((each for each in payments if each < 0), Fraction(0))
@@ -328,22 +344,29 @@ def words() -> Words:
     parser.add_argument(
         "--keep", metavar="PART,..", type=keeps_of, default=KEEPS, help=f"the parts, if not {KEEPS}"
     )
+    parser.add_argument("--proxies", action="store_true", help="the program plays, by `simulate`")
     parser.add_argument("--program", metavar="FILE", default=TOP / "ice", help="if not ./ice")
     return parser
 
 
-def runner(program: str | Path) -> Runner:
-    """Runs sessions by a program."""
+def runner(program: str | Path, command: str = "run") -> Runner:
+    """Runs sessions by a command of a program."""
 
     def run(market: Path, rounds: list[Path]) -> tuple[int, bytes]:
-        ran = subprocess.run([program, "run", market, *rounds], stdout=subprocess.PIPE, check=False)
+        words = [program, command, market, *rounds]
+        ran = subprocess.run(words, stdout=subprocess.PIPE, check=False)
         return ran.returncode, ran.stdout
 
     return run
 
 
-def table(market: Market, vary: list[tuple[str, int]], run: Runner) -> Iterator[str]:
-    """Plays the market as it is, and with each value that is varied; gives the lines."""
+def table(
+    market: Market, vary: list[tuple[str, int]], run: Runner, simulate: Runner | None = None
+) -> Iterator[str]:
+    """Plays the market as it is, and with each value that is varied; gives the lines.
+
+    Proxies play where there is something that simulates.
+    """
     markets = {"as it is": market}
     markets |= {f"{name} {value}": market.changed(name, value) for name, value in vary}
     rows = [HEADS]
@@ -351,7 +374,8 @@ def table(market: Market, vary: list[tuple[str, int]], run: Runner) -> Iterator[
         for number, (name, one) in enumerate(markets.items()):
             folder = Path(made, str(number))
             folder.mkdir()
-            rows.append(cells(name, Player(one, run, folder).play(), market.truths))
+            player = Simulator(one, simulate, folder) if simulate else Player(one, run, folder)
+            rows.append(cells(name, player.play(), market.truths))
         best = best_at_truths(market, run, Path(made))
     yield f"greatest welfare at the true values: {'not found' if best is None else best}"
     yield from laid_out(rows)
@@ -367,7 +391,8 @@ def main(arguments: list[str] | None = None, run: Runner | None = None) -> int:
             options.keep if isinstance(options.keep, list) else keeps_of(options.keep),
         )
         vary = [pair for pairs in options.vary for pair in pairs]
-        lines = list(table(market, vary, run or runner(options.program)))
+        simulate = runner(options.program, "simulate") if options.proxies else None
+        lines = list(table(market, vary, run or runner(options.program), simulate))
     except (BadFile, Unplayable) as fault:
         print(f"play: {fault}", file=sys.stderr)
         return REFUSED

@@ -86,6 +86,31 @@ class Rule(unittest.TestCase):
         self.assertEqual(program.bids[-1]["lo"], [57, 0, 0])
 
 
+class Proxies(unittest.TestCase):
+    """Sessions that the program plays."""
+
+    def test_it_is_given_the_true_values(self):
+        given = []
+
+        def simulate(market: Path, rounds: list[Path]) -> tuple[int, bytes]:
+            given.append([json.loads(file.read_text()) for file in (market, *rounds)])
+            return 0, ("\n".join(LINES) + "\n").encode()
+
+        with tempfile.TemporaryDirectory() as folder:
+            result = playing.Simulator(MARKET, simulate, Path(folder)).play()
+        self.assertEqual(given, [[HALL, ROUND]])
+        verdicts = [line.split()[1] for line in LINES if line.startswith("verdict")]
+        self.assertEqual((result.rounds, result.verdicts), (1, verdicts))
+
+    def test_what_it_refuses(self):
+        def simulate(*_: object) -> tuple[int, bytes]:
+            return 2, b"refused 2 92 bids.1\n"
+
+        with tempfile.TemporaryDirectory() as folder:
+            with self.assertRaisesRegex(playing.Unplayable, "says: refused 2 92 bids.1"):
+                playing.Simulator(MARKET, simulate, Path(folder)).play()
+
+
 class Numbers(unittest.TestCase):
     """What is printed of a session."""
 
@@ -184,6 +209,13 @@ class Built(unittest.TestCase):
         with tempfile.TemporaryDirectory() as folder:
             result = playing.Player(MARKET, run, Path(folder)).play()
         self.assertEqual(result.journal.end.word, "closed")
+        self.assertEqual(playing.welfare(result.journal, TRUTHS), 40)
+
+    def test_the_hall_by_proxies(self):
+        simulate = playing.runner(ROOT / "crates/ice_cli/out/ice_cli", "simulate")
+        with tempfile.TemporaryDirectory() as folder:
+            result = playing.Simulator(MARKET, simulate, Path(folder)).play()
+        self.assertEqual((result.journal.end.word, result.refused), ("closed", 0))
         self.assertEqual(playing.welfare(result.journal, TRUTHS), 40)
 
 
