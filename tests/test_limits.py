@@ -127,6 +127,19 @@ class Limits(unittest.TestCase):
                 self.assertEqual(ran.output.decode().splitlines()[-1], last)
                 self.assertEqual(b"submit s 1 -15 1 -15" in ran.output, data == whole)
 
+    def test_length_of_true_values(self):
+        data = made.bids(("s", [-15], [-15]), ("b", [17], [17]))
+        whole = data + b" " * (made.EXCHANGE_BYTES - len(data))
+        for data, last in ((whole, "end closed"), (whole + b" ", "refused 2 61 -")):
+            self.file.write_bytes(data)
+            for program in programs():
+                with self.subTest(last, program=str(program)):
+                    ran = program.run(["simulate", FILES / "two.json", self.file])
+                    self.assertEqual(ran.output.decode().splitlines()[-1], last)
+                    self.assertEqual(ran.status, status_of(last), str(ran))
+        too_long = b" " * (made.EXCHANGE_BYTES + 1)
+        self.answers(too_long, "refused 1 61 -\n", ["simulate", "file", "absent"])
+
     def test_length_in_line_form(self):
         whole = b"i" * made.EXCHANGE_BYTES
         self.refused(whole, "refused 1 51 1\n")
