@@ -14,7 +14,7 @@ from harness.program import IS_ALL, NO_MEMORY, ROOT, Program, Ran, programs
 EXAMPLES = ROOT / "examples"
 
 # Commands that write a journal as it is found, so that its front stands where memory is wanted.
-GROWING = ("run", "regret")
+GROWING = ("run", "simulate", "regret")
 
 GENERATED = [EXAMPLES / "generated.json", EXAMPLES / "generated.truth.json"]
 
