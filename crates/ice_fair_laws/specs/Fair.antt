@@ -8,6 +8,8 @@ use Rattle.ice_defs.specs.Tree.{Tree}
 use Rattle.ice_defs.specs.Set.{Weights, units}
 use Rattle.ice_defs.specs.Trade.{Assignment, tree_of, set_of}
 use Rattle.ice_defs.specs.Bounds.{Bounds}
+use Rattle.ice_defs.specs.Weighing.{weighted_weights}
+use Rattle.ice_defs.specs.Exchange.{Exchange, trees_of, exact_of}
 use Rattle.ice_defs.specs.Prices.{Prices, cost_of}
 use Rattle.ice_defs.specs.Pricing.{IsViolation, IsAccurate}
 use Rattle.ice_defs.specs.Rows.{Row, IsRow, worth_above, units_above, weighted_sum}
@@ -25,6 +27,17 @@ pub record PaidTrade : Type 0 where
   pub goods : ℕ
   pub cap : ℤ
   pub payments : List Fraction
+
+-- a trade of an exchange's bidders at low bounds, with what they pay
+abbrev pub paid_of : Exchange → List Bounds → Assignment → List Fraction → PaidTrade
+paid_of ex bounds sets payments = record {
+  trees = trees_of ex;
+  weights = weighted_weights ex.settings.weight (low_bounds bounds);
+  sets = sets;
+  goods = length (exact_of ex);
+  cap = ex.settings.cap;
+  payments = payments;
+}
 
 module _ (t : PaidTrade) where
   -- the units of a bidder's own set

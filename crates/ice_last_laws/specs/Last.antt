@@ -1,11 +1,7 @@
 -- The last settlement of a closed session, at low bounds, and what its journal says of it.
 use Rattle.std.specs.Prelude.{◌≡◌, List, [], ◌∷◌, ◌++◌, length, map}
 use Rattle.std.specs.List.{AllByRecursion}
-use Rattle.ice_defs.specs.Weighing.{weighted_weights}
 use Rattle.ice_defs.specs.Fraction.{Fraction}
-use Rattle.ice_defs.specs.Exchange.{Exchange, trees_of, exact_of}
-use Rattle.ice_defs.specs.Bounds.{Bounds}
-use Rattle.ice_defs.specs.Trade.{Assignment}
 use Rattle.ice_defs.specs.Session.{Payment, Session}
 use Rattle.ice_defs.specs.Right.{IsRight, final_bounds, payments_of}
 use Rattle.ice_journal.specs.Records.{Record, session_kind}
@@ -15,20 +11,10 @@ use Rattle.ice_journal_laws.specs.State.{done, State, exchange_at}
 use Rattle.ice_journal_laws.specs.Progress.{nothing, passing, Leads}
 use Rattle.ice_journal_laws.specs.Theorems.{Says}
 use Rattle.ice_journal_laws.specs.Written.{session_records}
-use Rattle.ice_fair_laws.specs.Fair.{PaidTrade, low_bounds}
+use Rattle.ice_fair_laws.specs.Fair.{PaidTrade}
+pub use Rattle.ice_fair_laws.specs.Fair.{paid_of}
 use Rattle.ice_fair_laws.specs.Laws.{IsPaidTrade}
 use Rattle.ice_fair_laws.specs.Run.{IsCutDen}
-
--- a trade of an exchange's bidders at low bounds, with what they pay
-abbrev pub paid_of : Exchange → List Bounds → Assignment → List Fraction → PaidTrade
-paid_of ex bounds sets payments = record {
-  trees = trees_of ex;
-  weights = weighted_weights ex.settings.weight (low_bounds bounds);
-  sets = sets;
-  goods = length (exact_of ex);
-  cap = ex.settings.cap;
-  payments = payments;
-}
 
 -- the last settlement of a session
 abbrev pub last_of : Session → PaidTrade
