@@ -9,7 +9,7 @@ use Rattle.ice_row_laws.proofs.Weighted.{weighted_sum-ones}
 use Rattle.ice_pricing.specs.Provisional.{ProvisionalTrade}
 use Rattle.ice_fair_laws.specs.Fair.{PaidTrade, FairCertificate, asked, held_units, row_units}
 use Rattle.ice_fair_laws.specs.Whole.{IsEven, held_sum, rows_weight, rows_worth}
-use Rattle.ice_fair.specs.Trades.{num_at, paid_by, held_by, held_units_by, asked_by, paid_of, SumsAreEven}
+use Rattle.ice_fair.specs.Trades.{num_at, paid_by, held_by, held_units_by, asked_by, paid_sum, SumsAreEven}
 
 -- the equality of the test over any numbers
 abbrev pub Even : ℤ → ℤ → ℤ → ℤ → ℤ → ℤ → ℤ → ℤ → ℤ → Type 0
@@ -55,8 +55,8 @@ module _ (t : ProvisionalTrade) (cut : ℕ) (nums : List ℤ) (c : FairCertifica
   module _ (p : Prices) (x g : ℤ) (count : length nums ≡ length t.trees) where
     pub even-of : SumsAreEven t cut nums c.den c.low c.high p x g s → IsEven paid c p x cut (num_at nums) g
     even-of = even-moves x x g g (pos cut) (pos cut) (pos p.den) (pos p.den) (pos c.den) (pos c.den) (t.cap *ℤ asked_by t c.low c.high s) (t.cap *ℤ asked paid c) (pos s.weight) (rows_weight c)
-        (paid_of c.low c.high nums) (held_sum paid c (num_at nums)) s.worth (rows_worth paid c) refl refl refl refl refl (ap (λ z. t.cap *ℤ z) same-asked) same-weight (same-paid count) same-worth
+        (paid_sum c.low c.high nums) (held_sum paid c (num_at nums)) s.worth (rows_worth paid c) refl refl refl refl refl (ap (λ z. t.cap *ℤ z) same-asked) same-weight (same-paid count) same-worth
 
     pub of-even : IsEven paid c p x cut (num_at nums) g → SumsAreEven t cut nums c.den c.low c.high p x g s
     of-even = even-moves x x g g (pos cut) (pos cut) (pos p.den) (pos p.den) (pos c.den) (pos c.den) (t.cap *ℤ asked paid c) (t.cap *ℤ asked_by t c.low c.high s) (rows_weight c) (pos s.weight)
-        (held_sum paid c (num_at nums)) (paid_of c.low c.high nums) (rows_worth paid c) s.worth refl refl refl refl refl (ap (λ z. t.cap *ℤ z) (sym same-asked)) (sym same-weight) (sym (same-paid count)) (sym same-worth)
+        (held_sum paid c (num_at nums)) (paid_sum c.low c.high nums) (rows_worth paid c) s.worth refl refl refl refl refl (ap (λ z. t.cap *ℤ z) (sym same-asked)) (sym same-weight) (sym (same-paid count)) (sym same-worth)

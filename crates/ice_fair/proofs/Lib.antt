@@ -4,3 +4,6 @@ pub mod Larger
 pub mod Evenness
 pub mod Weights
 pub mod Passing
+pub mod Paying
+pub mod Keeping
+pub mod Lows

@@ -17,7 +17,7 @@ module _ (t : PaidTrade) (p : Prices) (n : ℕ) (a : ℕ → ℤ) where
     pub under : neg_ℤ z ≤ℤ v
     pub is : (z ≡ v) ⊎ (neg_ℤ z ≡ v)
     pub low : pos 0 ≤ℤ v
-    pub high : v ≤ℤ pos (2 ^ 96)
+    pub high : v ≤ℤ pos (2 ^ 102)
 
   -- no bidder below this number has a greater one, and one has this
   pub record IsGapBelow (count : ℕ) (v : ℤ) : Type 0 where
@@ -25,7 +25,7 @@ module _ (t : PaidTrade) (p : Prices) (n : ℕ) (a : ℕ → ℤ) where
     pub under : (b : ℕ) → b < count → neg_ℤ (gap_at b) ≤ℤ v
     pub attained : (b : ℕ) × (b < count) × ((gap_at b ≡ v) ⊎ (neg_ℤ (gap_at b) ≡ v))
     pub low : pos 0 ≤ℤ v
-    pub high : v ≤ℤ pos (2 ^ 96)
+    pub high : v ≤ℤ pos (2 ^ 102)
 
   each-more : (P : ℕ → Type 0) (k : ℕ) → ((b : ℕ) → b < k → P b) → P k → (b : ℕ) → b < k + 1 → P b
   each-more P k before here b h = by (cases_lt b k)

@@ -4,6 +4,8 @@ use Rattle.std.specs.List.{AllByRecursion}
 use Rattle.ice_defs.specs.Prices.{Prices, ArePrices}
 use Rattle.ice_defs.specs.Fraction.{Fraction}
 use Rattle.ice_defs.specs.Rows.{IsRow, Certificate, PassesAccuracy, HasCommonDivisor}
+use Rattle.ice_pricing.specs.Provisional.{ProvisionalTrade}
+use Rattle.ice_pricing.specs.Priced.{HasViolation}
 use Rattle.ice_fair_laws.specs.Fair.{PaidTrade, FairCertificate, IsDistance, HasViolationOf, PassesFairness, total_held}
 use Rattle.ice_fair_laws.specs.Whole.{IsEven}
 use Rattle.ice_fair_laws.specs.Laws.{violation_of}
@@ -26,6 +28,18 @@ pub record PassesFairTests (t : PaidTrade) (p : Prices) (violation : ℤ) (accur
   pub lowest : ¬ HasCommonDivisor p
   pub violates : HasViolationOf t p violation
   pub accurate : PassesAccuracy t.trees t.weights t.sets t.goods t.cap p violation accuracy
+  pub distance_is : IsDistance t p distance
+  pub fairness : PassesFairness t c (violation_of p violation) distance
+
+-- those of the tests that payments have no part in
+pub record PassesPriceTests (t : ProvisionalTrade) (p : Prices) (violation : ℤ) (accuracy : Certificate) : Type 0 where
+  pub within : ArePrices t.goods t.cap p
+  pub lowest : ¬ HasCommonDivisor p
+  pub violates : HasViolation t p violation
+  pub accurate : PassesAccuracy t.trees t.weights t.sets t.goods t.cap p violation accuracy
+
+-- and those of the distance
+pub record PassesNearness (t : PaidTrade) (p : Prices) (violation : ℤ) (distance : Fraction) (c : FairCertificate) : Type 0 where
   pub distance_is : IsDistance t p distance
   pub fairness : PassesFairness t c (violation_of p violation) distance
 

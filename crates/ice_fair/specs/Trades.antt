@@ -28,12 +28,12 @@ paid_by t cut nums = record {
   payments = map (over_cut cut) nums;
 }
 
--- one number a bidder, each at most 2^61 in size, over a denominator from 1 to 1,000
+-- one number a bidder, each at most 10^21 in size, over a denominator from 1 to 1,000
 pub record AreNumbers (t : ProvisionalTrade) (cut : ℕ) (nums : List ℤ) : Type 0 where
   pub count : length nums ≡ length t.trees
   pub positive : 0 < cut
   pub few : cut ≤ 1000
-  pub sized : (b : ℕ) → b < length nums → IsSizedWithin (2 ^ 61) (num_at nums b)
+  pub sized : (b : ℕ) → b < length nums → IsSizedWithin (10 ^ 21) (num_at nums b)
 
 -- what a bidder's two numbers weigh together
 abbrev pub held_by : List ℕ → List ℕ → ℕ → ℤ
@@ -48,11 +48,11 @@ abbrev pub asked_by : ProvisionalTrade → List ℕ → List ℕ → RowSums →
 asked_by t low high s = sum_below (λ g. int_max (held_units_by t low high g +ℤ (pos 100 *ℤ units_in s g)) (pos 0)) t.goods
 
 -- what numbers weigh of the payments
-abbrev pub paid_of : List ℕ → List ℕ → List ℤ → ℤ
-paid_of low high nums = sum_below (λ b. held_by low high b *ℤ num_at nums b) (length nums)
+abbrev pub paid_sum : List ℕ → List ℕ → List ℤ → ℤ
+paid_sum low high nums = sum_below (λ b. held_by low high b *ℤ num_at nums b) (length nums)
 
 -- the equality of the fairness test, of sums, times both denominators
 abbrev pub SumsAreEven : ProvisionalTrade → ℕ → List ℤ → ℕ → List ℕ → List ℕ → Prices → ℤ → ℤ → RowSums → Type 0
 SumsAreEven t cut nums den low high p x g s =
     ((pos cut *ℤ (pos p.den *ℤ (t.cap *ℤ asked_by t low high s))) +ℤ (pos cut *ℤ (x *ℤ pos s.weight)))
-    ≡ (((pos p.den *ℤ paid_of low high nums) +ℤ (pos cut *ℤ (pos p.den *ℤ s.worth))) -ℤ (pos den *ℤ g))
+    ≡ (((pos p.den *ℤ paid_sum low high nums) +ℤ (pos cut *ℤ (pos p.den *ℤ s.worth))) -ℤ (pos den *ℤ g))

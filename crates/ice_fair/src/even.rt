@@ -1,5 +1,6 @@
 //! Whether the two sides of the fairness test are even.
-ghost use Rattle.std.specs.Prelude.{◌≡◌, ◌<◌, ◌≤◌, ◌^◌, IsTrue, IfSome, IfNone, pos, neg_ℤ, ◌≤ℤ◌, ◌+ℤ◌, ◌-ℤ◌, ◌*ℤ◌};
+ghost use Rattle.std.specs.Prelude.{◌≡◌, ◌<◌, ◌≤◌, ◌^◌, ◌*◌, IsTrue, IfSome, IfNone, pos, neg_ℤ, ◌≤ℤ◌, ◌+ℤ◌, ◌-ℤ◌, ◌*ℤ◌};
+ghost use Rattle.ice_fair.specs.Sides.{AreEven};
 
 /// The product of two numbers that aren't below 0. None exactly where it is too large.
 fn times(one: i128, other: i128) -> Option<i128>
@@ -55,11 +56,11 @@ fn left(cut: i128, den: i128, cost: i128, violation: i128, weight: i128) -> Opti
 fn den_paid(den: i128, paid: i128) -> i128
     requires den_low { pos 0 ≤ℤ den }
     requires den_high { den ≤ℤ pos (2 ^ 32) }
-    requires low { neg_ℤ (pos (2 ^ 91)) ≤ℤ paid }
-    requires high { paid ≤ℤ pos (2 ^ 91) }
+    requires low { neg_ℤ (pos (2 ^ 24 * 10 ^ 21)) ≤ℤ paid }
+    requires high { paid ≤ℤ pos (2 ^ 24 * 10 ^ 21) }
     ensures value { result ≡ den *ℤ paid }
-    ensures low { neg_ℤ (pos (2 ^ 123)) ≤ℤ result }
-    ensures high { result ≤ℤ pos (2 ^ 123) }
+    ensures low { neg_ℤ (pos (2 ^ 56 * 10 ^ 21)) ≤ℤ result }
+    ensures high { result ≤ℤ pos (2 ^ 56 * 10 ^ 21) }
 {
     den * paid
 }
@@ -95,38 +96,66 @@ fn cert_gap(cert_den: i128, gap: i128) -> i128
     requires den_low { pos 0 ≤ℤ cert_den }
     requires den_high { cert_den ≤ℤ pos (2 ^ 24) }
     requires low { pos 0 ≤ℤ gap }
-    requires high { gap ≤ℤ pos (2 ^ 96) }
+    requires high { gap ≤ℤ pos (2 ^ 102) }
     ensures value { result ≡ cert_den *ℤ gap }
     ensures low { pos 0 ≤ℤ result }
-    ensures high { result ≤ℤ pos (2 ^ 120) }
+    ensures high { result ≤ℤ pos (2 ^ 126) }
 {
     cert_den * gap
 }
 
 /// A sum.
 fn sum(one: i128, other: i128) -> i128
-    requires one_low { neg_ℤ (pos (2 ^ 123)) ≤ℤ one }
-    requires one_high { one ≤ℤ pos (2 ^ 123) }
+    requires one_low { neg_ℤ (pos (2 ^ 56 * 10 ^ 21)) ≤ℤ one }
+    requires one_high { one ≤ℤ pos (2 ^ 56 * 10 ^ 21) }
     requires low { neg_ℤ (pos (2 ^ 123)) ≤ℤ other }
     requires high { other ≤ℤ pos (2 ^ 123) }
     ensures value { result ≡ one +ℤ other }
-    ensures low { neg_ℤ (pos (2 ^ 124)) ≤ℤ result }
-    ensures high { result ≤ℤ pos (2 ^ 124) }
+    ensures low { neg_ℤ (pos (2 ^ 126)) ≤ℤ result }
+    ensures high { result ≤ℤ pos (2 ^ 126) }
 {
     one + other
 }
 
 /// A difference.
 fn less(one: i128, other: i128) -> i128
-    requires one_low { neg_ℤ (pos (2 ^ 124)) ≤ℤ one }
-    requires one_high { one ≤ℤ pos (2 ^ 124) }
+    requires one_low { neg_ℤ (pos (2 ^ 126)) ≤ℤ one }
+    requires one_high { one ≤ℤ pos (2 ^ 126) }
     requires low { pos 0 ≤ℤ other }
-    requires high { other ≤ℤ pos (2 ^ 120) }
+    requires high { other ≤ℤ pos (2 ^ 126) }
     ensures value { result ≡ one -ℤ other }
-    ensures low { neg_ℤ (pos (2 ^ 125)) ≤ℤ result }
-    ensures high { result ≤ℤ pos (2 ^ 125) }
+    ensures low { neg_ℤ (pos (2 ^ 127)) ≤ℤ result }
+    ensures high { result ≤ℤ pos (2 ^ 126) }
 {
     one - other
+}
+
+/// The denominators of both sides.
+#[derive(Clone, Copy)]
+pub(crate) struct Dens {
+    /// Of the payments.
+    pub(crate) cut: i128,
+    /// Of the prices.
+    pub(crate) prices: i128,
+    /// Of the certificate.
+    pub(crate) certificate: i128,
+}
+
+/// What is compared, over these denominators.
+#[derive(Clone, Copy)]
+pub(crate) struct Amounts {
+    /// What is asked for, at the cap.
+    pub(crate) cost: i128,
+    /// The violation.
+    pub(crate) violation: i128,
+    /// The weight of all rows.
+    pub(crate) weight: i128,
+    /// What the held numbers weigh of the payments.
+    pub(crate) paid: i128,
+    /// What all rows are worth.
+    pub(crate) worth: i128,
+    /// The greatest gap.
+    pub(crate) gap: i128,
 }
 
 /// The other side of the test.
@@ -135,17 +164,17 @@ fn right(cut: i128, den: i128, paid: i128, worth: i128, cert_den: i128, gap: i12
     requires cut_high { cut ≤ℤ pos 1000 }
     requires den_low { pos 0 ≤ℤ den }
     requires den_high { den ≤ℤ pos (2 ^ 32) }
-    requires paid_low { neg_ℤ (pos (2 ^ 91)) ≤ℤ paid }
-    requires paid_high { paid ≤ℤ pos (2 ^ 91) }
+    requires paid_low { neg_ℤ (pos (2 ^ 24 * 10 ^ 21)) ≤ℤ paid }
+    requires paid_high { paid ≤ℤ pos (2 ^ 24 * 10 ^ 21) }
     requires worth_low { neg_ℤ (pos (2 ^ 81)) ≤ℤ worth }
     requires worth_high { worth ≤ℤ pos (2 ^ 81) }
     requires cert_low { pos 0 ≤ℤ cert_den }
     requires cert_high { cert_den ≤ℤ pos (2 ^ 24) }
     requires gap_low { pos 0 ≤ℤ gap }
-    requires gap_high { gap ≤ℤ pos (2 ^ 96) }
+    requires gap_high { gap ≤ℤ pos (2 ^ 102) }
     ensures value { result ≡ ((den *ℤ paid) +ℤ (cut *ℤ (den *ℤ worth))) -ℤ (cert_den *ℤ gap) }
-    ensures low { neg_ℤ (pos (2 ^ 125)) ≤ℤ result }
-    ensures high { result ≤ℤ pos (2 ^ 125) }
+    ensures low { neg_ℤ (pos (2 ^ 127)) ≤ℤ result }
+    ensures high { result ≤ℤ pos (2 ^ 126) }
 {
     less(
         sum(den_paid(den, paid), cut_worth(cut, den_worth(den, worth))),
@@ -154,39 +183,40 @@ fn right(cut: i128, den: i128, paid: i128, worth: i128, cert_den: i128, gap: i12
 }
 
 /// Whether both sides of the test are the same.
-pub(crate) fn is_even(
-    cut: i128,
-    den: i128,
-    cost: i128,
-    violation: i128,
-    weight: i128,
-    paid: i128,
-    worth: i128,
-    cert_den: i128,
-    gap: i128,
-) -> bool
-    requires cut_low { pos 1 ≤ℤ cut }
-    requires cut_high { cut ≤ℤ pos 1000 }
-    requires den_low { pos 0 ≤ℤ den }
-    requires den_high { den ≤ℤ pos (2 ^ 32) }
-    requires cost { pos 0 ≤ℤ cost }
-    requires violation { pos 0 ≤ℤ violation }
-    requires weight { pos 0 ≤ℤ weight }
-    requires paid_low { neg_ℤ (pos (2 ^ 91)) ≤ℤ paid }
-    requires paid_high { paid ≤ℤ pos (2 ^ 91) }
-    requires worth_low { neg_ℤ (pos (2 ^ 81)) ≤ℤ worth }
-    requires worth_high { worth ≤ℤ pos (2 ^ 81) }
-    requires cert_low { pos 0 ≤ℤ cert_den }
-    requires cert_high { cert_den ≤ℤ pos (2 ^ 24) }
-    requires gap_low { pos 0 ≤ℤ gap }
-    requires gap_high { gap ≤ℤ pos (2 ^ 96) }
-    ensures yes { IsTrue result → (cut *ℤ (den *ℤ cost)) +ℤ (cut *ℤ (violation *ℤ weight))
-        ≡ ((den *ℤ paid) +ℤ (cut *ℤ (den *ℤ worth))) -ℤ (cert_den *ℤ gap) }
-    ensures no { (cut *ℤ (den *ℤ cost)) +ℤ (cut *ℤ (violation *ℤ weight))
-        ≡ ((den *ℤ paid) +ℤ (cut *ℤ (den *ℤ worth))) -ℤ (cert_den *ℤ gap) → IsTrue result }
+pub(crate) fn is_even(dens: Dens, amounts: Amounts) -> bool
+    requires cut_low { pos 1 ≤ℤ dens.cut }
+    requires cut_high { dens.cut ≤ℤ pos 1000 }
+    requires den_low { pos 0 ≤ℤ dens.prices }
+    requires den_high { dens.prices ≤ℤ pos (2 ^ 32) }
+    requires cost { pos 0 ≤ℤ amounts.cost }
+    requires violation { pos 0 ≤ℤ amounts.violation }
+    requires weight { pos 0 ≤ℤ amounts.weight }
+    requires paid_low { neg_ℤ (pos (2 ^ 24 * 10 ^ 21)) ≤ℤ amounts.paid }
+    requires paid_high { amounts.paid ≤ℤ pos (2 ^ 24 * 10 ^ 21) }
+    requires worth_low { neg_ℤ (pos (2 ^ 81)) ≤ℤ amounts.worth }
+    requires worth_high { amounts.worth ≤ℤ pos (2 ^ 81) }
+    requires cert_low { pos 0 ≤ℤ dens.certificate }
+    requires cert_high { dens.certificate ≤ℤ pos (2 ^ 24) }
+    requires gap_low { pos 0 ≤ℤ amounts.gap }
+    requires gap_high { amounts.gap ≤ℤ pos (2 ^ 102) }
+    ensures yes { IsTrue result → AreEven dens amounts }
+    ensures no { AreEven dens amounts → IsTrue result }
 {
-    let other = right(cut, den, paid, worth, cert_den, gap);
-    match left(cut, den, cost, violation, weight) {
+    let other = right(
+        dens.cut,
+        dens.prices,
+        amounts.paid,
+        amounts.worth,
+        dens.certificate,
+        amounts.gap,
+    );
+    match left(
+        dens.cut,
+        dens.prices,
+        amounts.cost,
+        amounts.violation,
+        amounts.weight,
+    ) {
         Some(sum) => sum == other,
         None => false,
     }

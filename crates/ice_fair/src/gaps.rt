@@ -13,6 +13,14 @@ use ice_pricing::Provisional;
 use ice_terms::Prices;
 use std::cmp::Ordering;
 
+/// A trade with what each bidder pays, over one denominator.
+#[derive(Drop)]
+pub(crate) struct Paid<'a> {
+    pub(crate) trade: Provisional<'a>,
+    pub(crate) nums: &'a [i128],
+    pub(crate) cut: u16,
+}
+
 /// What units of a good cost.
 fn part(num: i128, units: i64) -> i128
     requires num_low { pos 0 ≤ℤ num }
@@ -27,7 +35,7 @@ fn part(num: i128, units: i64) -> i128
 }
 
 /// What the bidder's own set costs, times the prices' denominator.
-pub(crate) fn own_cost(trade: &Provisional<'_>, prices: &Prices, bidder: u8) -> i128
+fn own_cost(trade: &Provisional<'_>, prices: &Prices, bidder: u8) -> i128
     requires bidder { bidder < length trade.now.trees }
     requires goods { length prices.now.nums ≡ trade.now.goods }
     ensures value { let t = trade.now in
@@ -44,16 +52,16 @@ pub(crate) fn own_cost(trade: &Provisional<'_>, prices: &Prices, bidder: u8) -> 
 }
 
 /// A payment times the prices' denominator.
-fn paid_part(num: i64, den: i64) -> i128
-    requires num_low { neg_ℤ (pos (2 ^ 61)) ≤ℤ num }
-    requires num_high { num ≤ℤ pos (2 ^ 61) }
+fn paid_part(num: i128, den: i64) -> i128
+    requires num_low { neg_ℤ (pos (10 ^ 21)) ≤ℤ num }
+    requires num_high { num ≤ℤ pos (10 ^ 21) }
     requires den_low { pos 0 ≤ℤ den }
     requires den_high { den ≤ℤ pos (2 ^ 32) }
     ensures value { result ≡ num *ℤ den }
-    ensures low { neg_ℤ (pos (2 ^ 93)) ≤ℤ result }
-    ensures high { result ≤ℤ pos (2 ^ 93) }
+    ensures low { neg_ℤ (pos (10 ^ 21 * 2 ^ 32)) ≤ℤ result }
+    ensures high { result ≤ℤ pos (10 ^ 21 * 2 ^ 32) }
 {
-    i128::from(num) * i128::from(den)
+    num * i128::from(den)
 }
 
 /// A cost times the payments' denominator.
@@ -69,33 +77,28 @@ fn cut_part(cut: u16, cost: i128) -> i128
 }
 
 /// What the bidder pays less what its own set costs, times both denominators.
-pub(crate) fn gap(
-    trade: &Provisional<'_>,
-    nums: &[i64],
-    cut: u16,
-    prices: &Prices,
-    bidder: u8,
-) -> i128
-    requires numbers { AreNumbers trade.now cut nums.now }
-    requires bidder { bidder < length trade.now.trees }
-    requires goods { length prices.now.nums ≡ trade.now.goods }
-    ensures value { result
-        ≡ gap_num (paid_by trade.now cut nums.now) prices.now cut (num_at nums.now) bidder }
-    ensures low { neg_ℤ (pos (2 ^ 96)) ≤ℤ result }
-    ensures high { result ≤ℤ pos (2 ^ 96) }
+fn gap(paid: &Paid<'_>, prices: &Prices, bidder: u8) -> i128
+    requires numbers { AreNumbers paid.now.trade paid.now.cut paid.now.nums.now }
+    requires bidder { bidder < length paid.now.trade.trees }
+    requires goods { length prices.now.nums ≡ paid.now.trade.goods }
+    ensures value { let p = paid.now in
+        result ≡ gap_num (paid_by p.trade p.cut p.nums.now) prices.now p.cut (num_at p.nums.now) bidder }
+    ensures low { neg_ℤ (pos (2 ^ 102)) ≤ℤ result }
+    ensures high { result ≤ℤ pos (2 ^ 102) }
 {
-    paid_part(nums[bidder as usize], prices.den()) - cut_part(cut, own_cost(trade, prices, bidder))
+    let num = paid.nums[bidder as usize];
+    paid_part(num, prices.den()) - cut_part(paid.cut, own_cost(&paid.trade, prices, bidder))
 }
 
 /// The size of a number.
 fn size_of(number: i128) -> i128
-    requires low { neg_ℤ (pos (2 ^ 96)) ≤ℤ number }
-    requires high { number ≤ℤ pos (2 ^ 96) }
+    requires low { neg_ℤ (pos (2 ^ 102)) ≤ℤ number }
+    requires high { number ≤ℤ pos (2 ^ 102) }
     ensures over { number ≤ℤ result }
     ensures under { neg_ℤ number ≤ℤ result }
     ensures is { (number ≡ result) ⊎ (neg_ℤ number ≡ result) }
     ensures low { pos 0 ≤ℤ result }
-    ensures high { result ≤ℤ pos (2 ^ 96) }
+    ensures high { result ≤ℤ pos (2 ^ 102) }
 {
     if number < 0 { -number } else { number }
 }
@@ -108,17 +111,18 @@ fn greater(one: i128, other: i128) -> i128
 }
 
 /// The greatest size of what a bidder pays less what its own set costs, times both denominators.
-pub(crate) fn greatest_gap(trade: &Provisional<'_>, nums: &[i64], cut: u16, prices: &Prices) -> i128
-    requires numbers { AreNumbers trade.now cut nums.now }
-    requires goods { length prices.now.nums ≡ trade.now.goods }
-    ensures greatest { IsGreatestGap (paid_by trade.now cut nums.now) prices.now cut (num_at nums.now) result }
+pub(crate) fn greatest_gap(paid: &Paid<'_>, prices: &Prices) -> i128
+    requires numbers { AreNumbers paid.now.trade paid.now.cut paid.now.nums.now }
+    requires goods { length prices.now.nums ≡ paid.now.trade.goods }
+    ensures greatest { let p = paid.now in
+        IsGreatestGap (paid_by p.trade p.cut p.nums.now) prices.now p.cut (num_at p.nums.now) result }
     ensures low { pos 0 ≤ℤ result }
-    ensures high { result ≤ℤ pos (2 ^ 96) }
+    ensures high { result ≤ℤ pos (2 ^ 102) }
 {
-    let bidders = trade.bidders();
-    let mut greatest = size_of(gap(trade, nums, cut, prices, 0));
+    let bidders = paid.trade.bidders();
+    let mut greatest = size_of(gap(paid, prices, 0));
     for bidder in 1..bidders {
-        greatest = greater(greatest, size_of(gap(trade, nums, cut, prices, bidder)));
+        greatest = greater(greatest, size_of(gap(paid, prices, bidder)));
     }
     greatest
 }
@@ -135,7 +139,7 @@ fn both_dens(cut: u16, prices: &Prices) -> i128
 /// Whether a fraction is this number over both denominators.
 pub(crate) fn is_over_both(fraction: &Frac, num: i128, cut: u16, prices: &Prices) -> bool
     requires low { pos 0 ≤ℤ num }
-    requires high { num ≤ℤ pos (2 ^ 96) }
+    requires high { num ≤ℤ pos (2 ^ 102) }
     requires positive { 0 < cut }
     ensures yes { IsTrue result → Equals fraction.now (record { num = num; den = cut * prices.now.den }) }
     ensures no { Equals fraction.now (record { num = num; den = cut * prices.now.den }) → IsTrue result }

@@ -52,30 +52,30 @@ pub(crate) fn total(numbers: &[u64]) -> i128
 }
 
 /// A weight of a payment.
-fn of_payment(held: i128, num: i64) -> i128
+fn of_payment(held: i128, num: i128) -> i128
     requires held_low { neg_ℤ (pos (2 ^ 24)) ≤ℤ held }
     requires held_high { held ≤ℤ pos (2 ^ 24) }
-    requires low { neg_ℤ (pos (2 ^ 61)) ≤ℤ num }
-    requires high { num ≤ℤ pos (2 ^ 61) }
+    requires low { neg_ℤ (pos (10 ^ 21)) ≤ℤ num }
+    requires high { num ≤ℤ pos (10 ^ 21) }
     ensures value { result ≡ held *ℤ num }
-    ensures low { neg_ℤ (pos (2 ^ 85)) ≤ℤ result }
-    ensures high { result ≤ℤ pos (2 ^ 85) }
+    ensures low { neg_ℤ (pos (2 ^ 24 * 10 ^ 21)) ≤ℤ result }
+    ensures high { result ≤ℤ pos (2 ^ 24 * 10 ^ 21) }
 {
-    held * i128::from(num)
+    held * num
 }
 
 /// What all numbers weigh of the payments.
-pub(crate) fn held_paid(low: &[u64], high: &[u64], nums: &[i64]) -> i128
+pub(crate) fn held_paid(low: &[u64], high: &[u64], nums: &[i128]) -> i128
     requires few { length nums.now ≤ 40 }
     requires low_count { length low.now ≡ length nums.now }
     requires high_count { length high.now ≡ length nums.now }
     requires low_fits { AllByRecursion (λ n. n ≤ 2 ^ 24) low.now }
     requires high_fits { AllByRecursion (λ n. n ≤ 2 ^ 24) high.now }
-    requires sized { (b : ℕ) → b < length nums.now → IsSizedWithin (2 ^ 61) (num_at nums.now b) }
+    requires sized { (b : ℕ) → b < length nums.now → IsSizedWithin (10 ^ 21) (num_at nums.now b) }
     ensures value { result
         ≡ sum_below (λ b. held_by low.now high.now b *ℤ num_at nums.now b) (length nums.now) }
-    ensures low { neg_ℤ (pos (2 ^ 91)) ≤ℤ result }
-    ensures high { result ≤ℤ pos (2 ^ 91) }
+    ensures low { neg_ℤ (pos (2 ^ 100)) ≤ℤ result }
+    ensures high { result ≤ℤ pos (2 ^ 100) }
 {
     let mut sum = 0;
     for bidder in 0..nums.len() as u8 {

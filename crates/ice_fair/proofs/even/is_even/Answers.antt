@@ -5,10 +5,10 @@ use Rattle.std.proofs.lemmas.Int.{ints, to_z-of_z}
 use Rattle.std.proofs.lemmas.Bool.Decides.{nat_tests}
 use Rattle.ice_fair.proofs.even.is_even.Goals as goal
 
-back : (z : ℤ) → neg_ℤ (pos (2 ^ 125)) ≤ℤ z → z ≤ℤ pos (2 ^ 125) → to_z w128 (of_z w128 z) ≡ z
+back : (z : ℤ) → neg_ℤ (pos (2 ^ 127)) ≤ℤ z → z ≤ℤ pos (2 ^ 126) → to_z w128 (of_z w128 z) ≡ z
 back z low high = omega (arith, ints, low, high)
 
-large : (x y : ℤ) → pos (2 ^ 127) ≤ℤ x → y ≤ℤ pos (2 ^ 125) → x ≡ y → ⊥
+large : (x y : ℤ) → pos (2 ^ 127) ≤ℤ x → y ≤ℤ pos (2 ^ 126) → x ≡ y → ⊥
 large x y high low e = omega (arith, ints, high, low, e)
 
 -- five numbers that are read back, on the left
@@ -27,54 +27,54 @@ same_to m n e = grind (arith, nat_tests)
 
 pub returns-in-Some-clause-yes : goal.returns-in-Some-clause-yes
 returns-in-Some-clause-yes c =
-    let cut_fits : SFits w128 c.args.cut = search rules in
-    let den_fits : SFits w128 c.args.den = search rules in
-    let cost_fits : SFits w128 c.args.cost = search rules in
-    let violation_fits : SFits w128 c.args.violation = search rules in
-    let weight_fits : SFits w128 c.args.weight = search rules in
-    let paid_fits : SFits w128 c.args.paid = search rules in
-    let worth_fits : SFits w128 c.args.worth = search rules in
-    let cert_fits : SFits w128 c.args.cert_den = search rules in
-    let gap_fits : SFits w128 c.args.gap = search rules in
+    let cut_fits : SFits w128 c.args.dens.cut = search rules in
+    let den_fits : SFits w128 c.args.dens.prices = search rules in
+    let cost_fits : SFits w128 c.args.amounts.cost = search rules in
+    let violation_fits : SFits w128 c.args.amounts.violation = search rules in
+    let weight_fits : SFits w128 c.args.amounts.weight = search rules in
+    let paid_fits : SFits w128 c.args.amounts.paid = search rules in
+    let worth_fits : SFits w128 c.args.amounts.worth = search rules in
+    let cert_fits : SFits w128 c.args.dens.certificate = search rules in
+    let gap_fits : SFits w128 c.args.amounts.gap = search rules in
     let sum_fits : SFits w128 c.in-Some.sum = search rules in
-    let cut = to_z-of_z w128 c.args.cut cut_fits in
-    let den = to_z-of_z w128 c.args.den den_fits in
-    let left = left_read _ _ _ _ _ _ _ _ _ _ cut den (to_z-of_z w128 c.args.cost cost_fits) (to_z-of_z w128 c.args.violation violation_fits) (to_z-of_z w128 c.args.weight weight_fits) in
-    let right = right_read _ _ _ _ _ _ _ _ _ _ _ _ cut den (to_z-of_z w128 c.args.paid paid_fits) (to_z-of_z w128 c.args.worth worth_fits) (to_z-of_z w128 c.args.cert_den cert_fits) (to_z-of_z w128 c.args.gap gap_fits) in
+    let cut = to_z-of_z w128 c.args.dens.cut cut_fits in
+    let den = to_z-of_z w128 c.args.dens.prices den_fits in
+    let left = left_read _ _ _ _ _ _ _ _ _ _ cut den (to_z-of_z w128 c.args.amounts.cost cost_fits) (to_z-of_z w128 c.args.amounts.violation violation_fits) (to_z-of_z w128 c.args.amounts.weight weight_fits) in
+    let right = right_read _ _ _ _ _ _ _ _ _ _ _ _ cut den (to_z-of_z w128 c.args.amounts.paid paid_fits) (to_z-of_z w128 c.args.amounts.worth worth_fits) (to_z-of_z w128 c.args.dens.certificate cert_fits) (to_z-of_z w128 c.args.amounts.gap gap_fits) in
     let read = back c.right-other.result c.right-other.ensures.low c.right-other.ensures.high in
     λ h. let bits = same_from _ _ h in
     sym left ∙ sym c.in-Some.ensures.some ∙ sym (to_z-of_z w128 c.in-Some.sum sum_fits) ∙ ap (to_z w128) bits ∙ read ∙ c.right-other.ensures.value ∙ right
 
 pub returns-in-Some-clause-no : goal.returns-in-Some-clause-no
 returns-in-Some-clause-no c =
-    let cut_fits : SFits w128 c.args.cut = search rules in
-    let den_fits : SFits w128 c.args.den = search rules in
-    let cost_fits : SFits w128 c.args.cost = search rules in
-    let violation_fits : SFits w128 c.args.violation = search rules in
-    let weight_fits : SFits w128 c.args.weight = search rules in
-    let paid_fits : SFits w128 c.args.paid = search rules in
-    let worth_fits : SFits w128 c.args.worth = search rules in
-    let cert_fits : SFits w128 c.args.cert_den = search rules in
-    let gap_fits : SFits w128 c.args.gap = search rules in
-    let cut = to_z-of_z w128 c.args.cut cut_fits in
-    let den = to_z-of_z w128 c.args.den den_fits in
-    let left = left_read _ _ _ _ _ _ _ _ _ _ cut den (to_z-of_z w128 c.args.cost cost_fits) (to_z-of_z w128 c.args.violation violation_fits) (to_z-of_z w128 c.args.weight weight_fits) in
-    let right = right_read _ _ _ _ _ _ _ _ _ _ _ _ cut den (to_z-of_z w128 c.args.paid paid_fits) (to_z-of_z w128 c.args.worth worth_fits) (to_z-of_z w128 c.args.cert_den cert_fits) (to_z-of_z w128 c.args.gap gap_fits) in
+    let cut_fits : SFits w128 c.args.dens.cut = search rules in
+    let den_fits : SFits w128 c.args.dens.prices = search rules in
+    let cost_fits : SFits w128 c.args.amounts.cost = search rules in
+    let violation_fits : SFits w128 c.args.amounts.violation = search rules in
+    let weight_fits : SFits w128 c.args.amounts.weight = search rules in
+    let paid_fits : SFits w128 c.args.amounts.paid = search rules in
+    let worth_fits : SFits w128 c.args.amounts.worth = search rules in
+    let cert_fits : SFits w128 c.args.dens.certificate = search rules in
+    let gap_fits : SFits w128 c.args.amounts.gap = search rules in
+    let cut = to_z-of_z w128 c.args.dens.cut cut_fits in
+    let den = to_z-of_z w128 c.args.dens.prices den_fits in
+    let left = left_read _ _ _ _ _ _ _ _ _ _ cut den (to_z-of_z w128 c.args.amounts.cost cost_fits) (to_z-of_z w128 c.args.amounts.violation violation_fits) (to_z-of_z w128 c.args.amounts.weight weight_fits) in
+    let right = right_read _ _ _ _ _ _ _ _ _ _ _ _ cut den (to_z-of_z w128 c.args.amounts.paid paid_fits) (to_z-of_z w128 c.args.amounts.worth worth_fits) (to_z-of_z w128 c.args.dens.certificate cert_fits) (to_z-of_z w128 c.args.amounts.gap gap_fits) in
     λ e. same_to _ _ (ap (of_z w128) (c.in-Some.ensures.some ∙ left ∙ e ∙ sym (c.right-other.ensures.value ∙ right)))
 
 pub returns-in-None-clause-no : goal.returns-in-None-clause-no
 returns-in-None-clause-no c =
-    let cut_fits : SFits w128 c.args.cut = search rules in
-    let den_fits : SFits w128 c.args.den = search rules in
-    let cost_fits : SFits w128 c.args.cost = search rules in
-    let violation_fits : SFits w128 c.args.violation = search rules in
-    let weight_fits : SFits w128 c.args.weight = search rules in
-    let paid_fits : SFits w128 c.args.paid = search rules in
-    let worth_fits : SFits w128 c.args.worth = search rules in
-    let cert_fits : SFits w128 c.args.cert_den = search rules in
-    let gap_fits : SFits w128 c.args.gap = search rules in
-    let cut = to_z-of_z w128 c.args.cut cut_fits in
-    let den = to_z-of_z w128 c.args.den den_fits in
-    let left = left_read _ _ _ _ _ _ _ _ _ _ cut den (to_z-of_z w128 c.args.cost cost_fits) (to_z-of_z w128 c.args.violation violation_fits) (to_z-of_z w128 c.args.weight weight_fits) in
-    let right = right_read _ _ _ _ _ _ _ _ _ _ _ _ cut den (to_z-of_z w128 c.args.paid paid_fits) (to_z-of_z w128 c.args.worth worth_fits) (to_z-of_z w128 c.args.cert_den cert_fits) (to_z-of_z w128 c.args.gap gap_fits) in
+    let cut_fits : SFits w128 c.args.dens.cut = search rules in
+    let den_fits : SFits w128 c.args.dens.prices = search rules in
+    let cost_fits : SFits w128 c.args.amounts.cost = search rules in
+    let violation_fits : SFits w128 c.args.amounts.violation = search rules in
+    let weight_fits : SFits w128 c.args.amounts.weight = search rules in
+    let paid_fits : SFits w128 c.args.amounts.paid = search rules in
+    let worth_fits : SFits w128 c.args.amounts.worth = search rules in
+    let cert_fits : SFits w128 c.args.dens.certificate = search rules in
+    let gap_fits : SFits w128 c.args.amounts.gap = search rules in
+    let cut = to_z-of_z w128 c.args.dens.cut cut_fits in
+    let den = to_z-of_z w128 c.args.dens.prices den_fits in
+    let left = left_read _ _ _ _ _ _ _ _ _ _ cut den (to_z-of_z w128 c.args.amounts.cost cost_fits) (to_z-of_z w128 c.args.amounts.violation violation_fits) (to_z-of_z w128 c.args.amounts.weight weight_fits) in
+    let right = right_read _ _ _ _ _ _ _ _ _ _ _ _ cut den (to_z-of_z w128 c.args.amounts.paid paid_fits) (to_z-of_z w128 c.args.amounts.worth worth_fits) (to_z-of_z w128 c.args.dens.certificate cert_fits) (to_z-of_z w128 c.args.amounts.gap gap_fits) in
     λ e. absurd (large _ c.right-other.result c.in-None.ensures.none c.right-other.ensures.high (left ∙ e ∙ sym (c.right-other.ensures.value ∙ right)))

@@ -1,22 +1,25 @@
-use Rattle.std.proofs.Common.{ℤ, ◌≡◌, ◌∙◌, ◌^◌, ap, pos, neg_ℤ, ◌+ℤ◌, ◌-ℤ◌, ◌*ℤ◌, ◌≤ℤ◌, arith, rules, to_z, of_z}
+use Rattle.std.proofs.Common.{ℤ, ◌≡◌, ◌∙◌, ◌^◌, ◌*◌, ap, pos, neg_ℤ, ◌+ℤ◌, ◌-ℤ◌, ◌*ℤ◌, ◌≤ℤ◌, arith, rules, to_z, of_z}
 use mir.Syntax.{w128}
 use mir.Val.{SFits}
 use Rattle.std.proofs.lemmas.Int.{ints, to_z-of_z}
 use Rattle.ice_fair.proofs.even.right.Goals as goal
 
-back : (z : ℤ) → neg_ℤ (pos (2 ^ 125)) ≤ℤ z → z ≤ℤ pos (2 ^ 125) → to_z w128 (of_z w128 z) ≡ z
+back : (z : ℤ) → neg_ℤ (pos (2 ^ 127)) ≤ℤ z → z ≤ℤ pos (2 ^ 126) → to_z w128 (of_z w128 z) ≡ z
 back z low high = omega (arith, ints, low, high)
 
-wider : (z : ℤ) → neg_ℤ (pos (2 ^ 124)) ≤ℤ z → z ≤ℤ pos (2 ^ 124) → to_z w128 (of_z w128 z) ≡ z
+wider : (z : ℤ) → neg_ℤ (pos (2 ^ 126)) ≤ℤ z → z ≤ℤ pos (2 ^ 126) → to_z w128 (of_z w128 z) ≡ z
 wider z low high = omega (arith, ints, low, high)
 
 wide : (z : ℤ) → neg_ℤ (pos (2 ^ 123)) ≤ℤ z → z ≤ℤ pos (2 ^ 123) → to_z w128 (of_z w128 z) ≡ z
 wide z low high = omega (arith, ints, low, high)
 
+paying : (z : ℤ) → neg_ℤ (pos (2 ^ 56 * 10 ^ 21)) ≤ℤ z → z ≤ℤ pos (2 ^ 56 * 10 ^ 21) → to_z w128 (of_z w128 z) ≡ z
+paying z low high = omega (arith, ints, low, high)
+
 middle : (z : ℤ) → neg_ℤ (pos (2 ^ 113)) ≤ℤ z → z ≤ℤ pos (2 ^ 113) → to_z w128 (of_z w128 z) ≡ z
 middle z low high = omega (arith, ints, low, high)
 
-above : (z : ℤ) → pos 0 ≤ℤ z → z ≤ℤ pos (2 ^ 120) → to_z w128 (of_z w128 z) ≡ z
+above : (z : ℤ) → pos 0 ≤ℤ z → z ≤ℤ pos (2 ^ 126) → to_z w128 (of_z w128 z) ≡ z
 above z low high = omega (arith, ints, low, high)
 
 pub returns-clause-value : goal.returns-clause-value
@@ -39,7 +42,7 @@ returns-clause-value c =
     let two : c.cut_worth.result ≡ c.args.cut *ℤ (c.args.den *ℤ c.args.worth) =
     c.cut_worth.ensures.value ∙ ap (λ z. z *ℤ to_z w128 (of_z w128 c.den_worth.result)) cut ∙ ap (λ z. c.args.cut *ℤ z) (product ∙ inner) in
     let three : c.cert_gap.result ≡ c.args.cert_den *ℤ c.args.gap = c.cert_gap.ensures.value ∙ ap (λ z. z *ℤ to_z w128 (of_z w128 c.args.gap)) cert ∙ ap (λ z. c.args.cert_den *ℤ z) gap in
-    let a = wide c.den_paid.result c.den_paid.ensures.low c.den_paid.ensures.high in
+    let a = paying c.den_paid.result c.den_paid.ensures.low c.den_paid.ensures.high in
     let b = wide c.cut_worth.result c.cut_worth.ensures.low c.cut_worth.ensures.high in
     let d = above c.cert_gap.result c.cert_gap.ensures.low c.cert_gap.ensures.high in
     let s = wider c.sum.result c.sum.ensures.low c.sum.ensures.high in

@@ -1,0 +1,75 @@
+-- Low bounds: no tree refuses them, and they are bounds of the same bidders.
+use Rattle.std.proofs.Common.{ℕ, zero, suc, ◌+◌, ◌<◌, ◌≤◌, ◌≡◌, true, false, ◌&&◌, ◌||◌, not, eqb, None, List, [], ◌∷◌, ◌++◌, length, map, take, ℤ, pos, neg_ℤ, ◌≤ℤ◌, refl, arith, ap, sym, subst, ◌∙◌}
+use Rattle.std.specs.Prelude.{int_lt, int_le, ◌==◌}
+use Rattle.std.specs.List.{list_all}
+use Rattle.std.proofs.lemmas.Int.{ints}
+use Rattle.std.proofs.lemmas.Bool.{and_from, eq-eqb}
+use Rattle.std.proofs.lemmas.Bool.Decides.{nat_tests}
+use Rattle.std.proofs.lemmas.List.{length-map, get_or-map, take_more}
+use Rattle.ice_defs.specs.Set.{weight_of}
+use Rattle.ice_defs.specs.Bounds.{Bounds, bounds_of, no_bounds}
+use Rattle.ice_defs.specs.Exchange.{Exchange, trees_of}
+use Rattle.ice_defs.specs.Trade.{tree_of}
+use Rattle.ice_defs.specs.Lawful.{AreBounds}
+use Rattle.ice_defs.specs.Making.{is_value}
+use Rattle.ice_tree.specs.Bounds.{bounds_refusal, are_crossed}
+use Rattle.ice_pricing.specs.Bounding.{AreBoundsOf}
+use Rattle.ice_fair_laws.specs.Fair.{low_bounds}
+
+abbrev pub lowered : Bounds → Bounds
+lowered b = record { lo = b.lo; hi = b.lo }
+
+pub lowered-are : (nodes : ℕ) (b : Bounds) → AreBounds nodes b → AreBounds nodes (lowered b)
+lowered-are nodes b are = record {
+  lo_count = are.lo_count;
+  hi_count = are.lo_count;
+  low = are.low;
+  ordered = λ n h. omega (arith, ints);
+  high = λ n h. let less = are.ordered n h in let most = are.high n h in omega (arith, ints, less, most);
+}
+
+uncrossed : (zs : List ℤ) → are_crossed zs zs ≡ false
+uncrossed [] = refl
+uncrossed (z ∷ zs) =
+    let here : int_lt z z ≡ false = grind (arith, ints) in
+    ap (λ b. b || are_crossed zs zs) here ∙ uncrossed zs
+
+value_is : (z : ℤ) → neg_ℤ (pos 1000000000) ≤ℤ z → z ≤ℤ pos 1000000000 → is_value z ≡ true
+value_is z low high = grind (arith, ints)
+
+all_values : (zs : List ℤ) → ((n : ℕ) → n < length zs → neg_ℤ (pos 1000000000) ≤ℤ weight_of zs n) → ((n : ℕ) → n < length zs → weight_of zs n ≤ℤ pos 1000000000) → list_all is_value zs ≡ true
+all_values [] low high = refl
+all_values (z ∷ zs) low high =
+    and_from (is_value z) (list_all is_value zs) (value_is z (low zero (omega arith)) (high zero (omega arith)))
+    (all_values zs (λ n h. low (suc n) (omega (arith, h))) (λ n h. high (suc n) (omega (arith, h))))
+
+-- no tree refuses them
+pub lowered-unrefused : (nodes : ℕ) (b : Bounds) → AreBounds nodes b → bounds_refusal nodes b.lo b.lo ≡ None
+lowered-unrefused nodes b are =
+    let low = lowered-are nodes b are in
+    let counted : (length b.lo == nodes) ≡ true = eq-eqb (length b.lo) nodes are.lo_count in
+    let valued : list_all is_value b.lo ≡ true = all_values b.lo (λ n h. low.low n (omega (arith, are.lo_count, h))) (λ n h. low.high n (omega (arith, are.lo_count, h))) in
+    let ordered : are_crossed b.lo b.lo ≡ false = uncrossed b.lo in
+    rw (counted, valued, ordered) refl
+
+-- the list value by value
+pub one_value_more : (xs done : List ℤ) (n : ℕ) (x : ℤ) → n < length xs → done ≡ take n xs → x ≡ weight_of xs n → done ++ x ∷ [] ≡ take (n + 1) xs
+one_value_more xs done n x there so_far is =
+    ap (λ (ds : List ℤ). ds ++ x ∷ []) so_far ∙ ap (λ (z : ℤ). take n xs ++ z ∷ []) is ∙ sym (take_more xs n (pos 0) there)
+
+-- and bidder by bidder
+pub one_bidder_more : (bs done : List Bounds) (n : ℕ) (b : Bounds) → n < length bs → done ≡ take n (low_bounds bs) → b ≡ lowered (bounds_of bs n) → done ++ b ∷ [] ≡ take (n + 1) (low_bounds bs)
+one_bidder_more bs done n b there so_far is =
+    let there_too : n < length (low_bounds bs) = omega (arith, there, length-map bs lowered) in
+    let at : bounds_of (low_bounds bs) n ≡ lowered (bounds_of bs n) = get_or-map lowered bs n no_bounds no_bounds there in
+    ap (λ (ds : List Bounds). ds ++ b ∷ []) so_far ∙ ap (λ (z : Bounds). take n (low_bounds bs) ++ z ∷ []) (is ∙ sym at) ∙ sym (take_more (low_bounds bs) n no_bounds there_too)
+
+-- all of them are bounds of the same bidders
+pub low-bounds_of : (ex : Exchange) (bs : List Bounds) → AreBoundsOf ex bs → AreBoundsOf ex (low_bounds bs)
+low-bounds_of ex bs are = record {
+  count = length-map bs lowered ∙ are.count;
+  each = λ b h.
+      let there : b < length bs = omega (arith, h, length-map bs lowered) in
+      let at : bounds_of (low_bounds bs) b ≡ lowered (bounds_of bs b) = get_or-map lowered bs b no_bounds no_bounds there in
+      subst (AreBounds (length (tree_of (trees_of ex) b))) (sym at) (lowered-are (length (tree_of (trees_of ex) b)) (bounds_of bs b) (are.each b there));
+}
