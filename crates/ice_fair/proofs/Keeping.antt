@@ -1,11 +1,10 @@
 -- What is known of a last settlement that is kept.
-use Rattle.std.proofs.Common.{ℕ, ◌*◌, ◌/◌, ◌<◌, ◌≤◌, ◌^◌, ◌≡◌, List, [], ◌∷◌, length, map, ℤ, pos, neg_ℤ, ◌*ℤ◌, ◌≤ℤ◌, refl, arith, ap, sym, subst, ◌∙◌}
-use Rattle.std.specs.Int.{◌∣◌}
+use Rattle.std.proofs.Common.{ℕ, ◌*◌, ◌/◌, ◌<◌, ◌≤◌, ◌^◌, ◌≡◌, List, length, map, ℤ, pos, arith, ap, sym, subst, ◌∙◌}
 use Rattle.std.specs.List.{AllByRecursion}
 use Rattle.std.proofs.lemmas.Int.{ints}
 use Rattle.std.proofs.lemmas.List.{length-map, get_or-map}
 use Rattle.std.proofs.Math.Nat.{div-le_self}
-use Rattle.ice_defs.specs.Fraction.{Fraction, IsFraction, whole, Equals, fraction_at}
+use Rattle.ice_defs.specs.Fraction.{Fraction, whole, Equals, fraction_at}
 use Rattle.ice_defs.specs.Exchange.{Exchange, trees_of, exact_of}
 use Rattle.ice_defs.specs.PricingRun.{num_over}
 use Rattle.ice_row_laws.specs.Sizes.{IsSizedWithin}

@@ -1,10 +1,9 @@
 -- Low bounds: no tree refuses them, and they are bounds of the same bidders.
-use Rattle.std.proofs.Common.{ℕ, zero, suc, ◌+◌, ◌<◌, ◌≤◌, ◌≡◌, true, false, ◌&&◌, ◌||◌, not, eqb, None, List, [], ◌∷◌, ◌++◌, length, map, take, ℤ, pos, neg_ℤ, ◌≤ℤ◌, refl, arith, ap, sym, subst, ◌∙◌}
-use Rattle.std.specs.Prelude.{int_lt, int_le, ◌==◌}
+use Rattle.std.proofs.Common.{ℕ, zero, suc, ◌+◌, ◌<◌, ◌≡◌, true, false, ◌||◌, None, List, [], ◌∷◌, ◌++◌, length, take, ℤ, pos, neg_ℤ, ◌≤ℤ◌, refl, arith, ap, sym, subst, ◌∙◌}
+use Rattle.std.specs.Prelude.{int_lt, ◌==◌}
 use Rattle.std.specs.List.{list_all}
 use Rattle.std.proofs.lemmas.Int.{ints}
 use Rattle.std.proofs.lemmas.Bool.{and_from, eq-eqb}
-use Rattle.std.proofs.lemmas.Bool.Decides.{nat_tests}
 use Rattle.std.proofs.lemmas.List.{length-map, get_or-map, take_more}
 use Rattle.ice_defs.specs.Set.{weight_of}
 use Rattle.ice_defs.specs.Bounds.{Bounds, bounds_of, no_bounds}

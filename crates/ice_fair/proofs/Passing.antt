@@ -1,5 +1,5 @@
 -- From whole numbers to the distance and the fairness test, and what all tests together say.
-use Rattle.std.proofs.Common.{ℕ, ◌≡◌, ◌<◌, ◌*◌, List, length, ℤ, pos, sym, subst}
+use Rattle.std.proofs.Common.{ℕ, ◌≡◌, ◌<◌, ◌*◌, List, length, ℤ, sym, subst}
 use Rattle.ice_defs.specs.Fraction.{Fraction, IsFraction, Equals}
 use Rattle.ice_defs.specs.Prices.{Prices}
 use Rattle.ice_defs.specs.Rows.{Certificate}

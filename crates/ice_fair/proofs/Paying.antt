@@ -1,5 +1,5 @@
 -- What numbers of a certificate weigh of payments.
-use Rattle.std.proofs.Common.{ℕ, ◌≡◌, ◌≤◌, ◌<◌, ◌+◌, ◌*◌, ◌^◌, List, [], length, sum_by, ℤ, pos, neg_ℤ, ◌≤ℤ◌, ◌*ℤ◌, arith, sym, subst}
+use Rattle.std.proofs.Common.{ℕ, ◌≡◌, ◌≤◌, ◌+◌, ◌*◌, ◌^◌, List, [], length, sum_by, ℤ, ◌*ℤ◌, arith, sym, subst}
 use Rattle.std.proofs.lemmas.Int.{ints}
 use Rattle.ice_row_laws.specs.Sizes.{IsSizedWithin}
 use Rattle.ice_pricing.specs.Provisional.{ProvisionalTrade}

@@ -1,4 +1,5 @@
--- What is kept beside the last settlement: its low bounds, and its payments over the cut's denominator.
+-- What is kept beside the last settlement: its low bounds,
+-- and its payments over the cut's denominator.
 use Rattle.std.specs.Prelude.{◌≡◌, List, ℤ}
 use Rattle.ice_defs.specs.Bounds.{Bounds}
 use Rattle.ice_defs.specs.Weighing.{weighted_weights}

@@ -1,6 +1,6 @@
 -- The last settlement of a closed session: a trade at low bounds, with
 -- what its bidders pay and the denominator of the cut.
-use Rattle.std.specs.Prelude.{ℕ, ◌<◌, ◌≤◌, ◌≡◌, ◌^◌, List, length, map, ℤ}
+use Rattle.std.specs.Prelude.{ℕ, ◌≤◌, ◌^◌, List, map, ℤ}
 use Rattle.std.specs.List.{AllByRecursion}
 use Rattle.ice_defs.specs.Bounds.{Bounds}
 use Rattle.ice_defs.specs.Exchange.{Exchange}

@@ -1,4 +1,4 @@
-use Rattle.std.proofs.Common.{◌≡◌, IsTrue, pos, ◌≤ℤ◌, arith, rules}
+use Rattle.std.proofs.Common.{◌≡◌, IsTrue, arith, rules}
 use Rattle.std.proofs.lemmas.Int.{ints}
 use Rattle.ice_defs.specs.Prices.{ArePrices}
 use Rattle.ice_defs.specs.Rows.{PassesAccuracy, HasCommonDivisor}

@@ -1,4 +1,4 @@
-use Rattle.std.proofs.Common.{ℤ, ◌≡◌, ◌∙◌, ◌/◌, ◌≤◌, pos, ◌*ℤ◌, ap, arith, to_z, of_z}
+use Rattle.std.proofs.Common.{◌≡◌, ◌∙◌, ◌/◌, ◌≤◌, pos, ◌*ℤ◌, ap, arith, to_z, of_z}
 use mir.Syntax.{w128}
 use Rattle.std.proofs.lemmas.Int.{ints}
 use Rattle.std.proofs.Math.Nat.{div-le_self}

@@ -1,4 +1,4 @@
-use Rattle.std.proofs.Common.{◌≡◌, ◌∙◌, ◌<◌, length, arith}
+use Rattle.std.proofs.Common.{◌∙◌, ◌<◌, length, arith}
 use Rattle.ice_fair.proofs.Lows.{one_bidder_more}
 use Rattle.ice_fair.proofs.low.low_bounds.Goals as goal
 

@@ -1,5 +1,4 @@
 use Rattle.std.proofs.Common.{◌≡◌, ◌∙◌, map, ap, subst}
-use Rattle.ice_defs.specs.Exchange.{Exchange}
 use Rattle.ice_defs.specs.Lawful.{IsExchange}
 use Rattle.ice_defs.specs.PricingRun.{num_over}
 use Rattle.ice_defs.specs.Weighing.{weighted_weights}
