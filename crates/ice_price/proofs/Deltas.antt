@@ -26,7 +26,7 @@ use Rattle.ice_pricing_laws.proofs.Traces.{traces_solve}
 use Rattle.ice_pricing.specs.Provisional.{ProvisionalTrade, IsProvisional}
 use Rattle.ice_pricing.specs.Priced.{HasViolation}
 use Rattle.ice_price.specs.Runs.{IsState, IsStageEnd}
-use Rattle.ice_price.specs.Stages.{IsSizedStage}
+use Rattle.ice_turns.specs.Stages.{IsSizedStage}
 
 module _ (t : ProvisionalTrade) (is : IsProvisional t) where
   -- at prices of 0 units cost nothing

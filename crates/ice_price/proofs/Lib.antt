@@ -1,9 +1,7 @@
 pub mod Programs
-pub mod Multiples
 pub mod Scanning
-pub mod LargeWeights
+pub mod Certifying
 pub mod Turning
 pub mod TurnEnds
 pub mod Deltas
 pub mod Finishing
-pub mod Works

@@ -1,9 +1,7 @@
 -- The program of a stage, row by row.
-use Rattle.std.proofs.Common.{ℕ, suc, ◌+◌, ◌≡◌, List, [], ◌∷◌, ◌++◌, length, map, pos, refl, ap, sym, ◌∙◌, arith, add-one, append_assoc, ℤ, ◌-ℤ◌, ◌*ℤ◌}
+use Rattle.std.proofs.Common.{ℕ, suc, ◌+◌, ◌≡◌, List, [], ◌∷◌, ◌++◌, length, map, pos, refl, ap, sym, ◌∙◌, arith, add-one, append_assoc, ℤ}
 use Rattle.std.proofs.lemmas.List.{map-append, append-nil, length-append, length-map}
 use Rattle.ice_defs.specs.Sum.{numbers_below}
-use Rattle.ice_defs.specs.Set.{units}
-use Rattle.ice_defs.specs.Trade.{tree_of, set_of}
 use Rattle.ice_defs.specs.Program.{Constraint, Program}
 use Rattle.ice_defs.specs.PricingLimit.{Stage, accuracy_stage, balance_stage, fairness_stage}
 use Rattle.ice_defs.specs.PricingRun.{Member, StageAt, only_at}
@@ -60,10 +58,3 @@ program-is t at pool = by at.stage at.delta at.den
     by accuracy_stage delta den = refl
     by balance_stage delta den = refl
     by fairness_stage delta den = refl
-
--- a member's units of a good above those of the bidder's own set, times a factor
-abbrev pub unit_of : ProvisionalTrade → ℕ → Member → ℕ → ℤ
-unit_of t factor m g = pos factor *ℤ (units (tree_of t.trees m.bidder) m.set g -ℤ units (tree_of t.trees m.bidder) (set_of t.sets m.bidder) g)
-
-pub map_below-more : (f : ℕ → ℤ) (n : ℕ) → map f (numbers_below (n + 1)) ≡ map f (numbers_below n) ++ f n ∷ []
-map_below-more f n = ap (λ k. map f (numbers_below k)) (add-one n) ∙ map-append f (numbers_below n) (n ∷ [])

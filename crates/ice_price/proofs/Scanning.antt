@@ -1,64 +1,12 @@
--- What a scan of the bidders' best sets finds.
-use Rattle.std.proofs.Common.{ℕ, ◌+◌, ◌<◌, ◌≤◌, ◌≡◌, ◌⊎◌, inl, inr, ◌^◌, length, List, Some, ℤ, pos, ◌≤ℤ◌, ◌*ℤ◌, arith, sym, subst, refl}
-use Rattle.std.proofs.lemmas.Int.{ints, by_lt_z}
-use Rattle.std.proofs.lemmas.Bool.{cases_lt}
-use Rattle.ice_defs.specs.Fraction.{Fraction, IsFraction, Equals, AtMost, Below, fraction_at}
-use Rattle.ice_defs.specs.Set.{NodeSet, IsSatisfied}
-use Rattle.ice_defs.specs.Trade.{tree_of, set_of, weights_of}
-use Rattle.ice_defs.specs.Prices.{Prices}
-use Rattle.ice_defs.specs.Pricing.{excess_net}
+-- What a scan with a stage's allowed excess leads to.
+use Rattle.std.proofs.Common.{◌<◌, ◌≤◌, ◌≡◌, ◌^◌, length, List, Some, ℕ, ℤ, refl}
+use Rattle.ice_defs.specs.Fraction.{Fraction, IsFraction, Equals, fraction_at}
 use Rattle.ice_defs.specs.PricingLimit.{Stage, accuracy_stage, balance_stage, fairness_stage}
-use Rattle.ice_defs.specs.PricingRun.{Member, StageAt, solution, solution_prices, allowed, HasNoneToAdd, MayFollow}
-use Rattle.ice_frac.proofs.Fractions.{AtMost-left, AtMost-right}
-use Rattle.ice_frac.proofs.Ring.{scale_le}
-use Rattle.ice_certificate.specs.Excess.{IsGreatestExcess}
+use Rattle.ice_defs.specs.PricingRun.{Member, StageAt, solution, solution_prices, allowed, MayFollow}
 use Rattle.ice_pricing.specs.Provisional.{ProvisionalTrade}
 use Rattle.ice_price.specs.Programs.{allowed_excess}
-use Rattle.ice_price.specs.Scans.{AreAllowed, IsFirstAbove}
-
--- ---- the order
-
-below_from : (a b : Fraction) → ¬ AtMost b a → Below a b
-below_from a b h = by_lt_z (a.num *ℤ pos b.den) (b.num *ℤ pos a.den) (λ less. less) (λ most. absurd (h most))
-
-pub Below-right : (a b c : Fraction) → IsFraction c → Equals b c → Below a b → Below a c
-Below-right a b c hc e h = below_from a c (λ most. let m = AtMost-left c b a hc (sym e) most in omega (arith, ints, m, h))
-
-pub Below-left : (a b c : Fraction) → IsFraction b → Equals a b → Below a c → Below b c
-Below-left a b c hb e h = below_from b c (λ most. let m = AtMost-right c b a hb (sym e) most in omega (arith, ints, m, h))
-
--- ---- one bidder more
-
-module _ (t : ProvisionalTrade) (p : Prices) (most : Fraction) where
-  abbrev IsBest : ℕ → NodeSet → ℤ → Type 0
-  IsBest b s x = IsGreatestExcess (tree_of t.trees b) (weights_of t.weights b) p (set_of t.sets b) s x
-
-  abbrev over : ℤ → Fraction
-  over x = record { num = x; den = p.den }
-
-  below-more : (x y : ℤ) → x ≤ℤ y → Below most (over x) → Below most (over y)
-  below-more x y h below = let more = scale_le most.den x y h in omega (arith, ints, more, below)
-
-  pub allowed-more : (b : ℕ) (s : NodeSet) (x : ℤ) → AreAllowed t p most b → IsBest b s x → ¬ Below most (over x) → AreAllowed t p most (b + 1)
-  allowed-more b s x before best calm k other h offer = by (cases_lt k b)
-    where
-      by : (k < b) ⊎ (b ≤ k) → ¬ Below most (over (excess_net t.trees t.weights t.sets p (k, other)))
-      by (inl l) = before k other l offer
-      by (inr l) =
-          let same : b ≡ k = omega (arith, h, l) in
-          let P : ℕ → Type 0 = λ j. IsSatisfied (tree_of t.trees j) other → excess_net t.trees t.weights t.sets p (j, other) ≤ℤ x in
-          let few : excess_net t.trees t.weights t.sets p (k, other) ≤ℤ x = subst P same (best.greatest other) offer.1 in
-          λ below. calm (below-more (excess_net t.trees t.weights t.sets p (k, other)) x few below)
-
-  pub first-above : (b : ℕ) (s : NodeSet) (x : ℤ) → b < length t.trees → AreAllowed t p most b → IsBest b s x → Below most (over x) → IsFirstAbove t p most (record { bidder = b; set = s })
-  first-above b s x there before best below = record {
-    offer = (there, best.satisfied);
-    above = subst (λ z. Below most (over z)) (sym best.has) below;
-    best = λ other offer. let few = best.greatest other offer.1 in omega (arith, ints, few, best.has);
-    before = before;
-  }
-
--- ---- a whole scan
+use Rattle.ice_turns.specs.Scans.{IsFirstAbove}
+use Rattle.ice_turns.proofs.Scanning.{first-violates, first-best, none-before}
 
 pub allowed-is : (t : ProvisionalTrade) (at : StageAt) (x : List Fraction) → allowed t.trees t.weights t.sets t.goods t.cap at x ≡ allowed_excess at.stage (record { num = at.delta; den = at.den }) (fraction_at x t.goods)
 allowed-is t at x = by at.stage at.delta at.den
@@ -68,26 +16,19 @@ allowed-is t at x = by at.stage at.delta at.den
     by balance_stage delta den = refl
     by fairness_stage delta den = refl
 
-module _ (t : ProvisionalTrade) (at : StageAt) (x : List Fraction) (most : Fraction) where
-  abbrev own : Fraction
-  own = allowed t.trees t.weights t.sets t.goods t.cap at x
-
-  abbrev prices : Prices
-  prices = solution_prices t.trees t.weights t.sets t.goods t.cap x
-
-  pub none-to-add : IsFraction most → Equals most own → AreAllowed t prices most (length t.trees) → HasNoneToAdd t.trees t.weights t.sets t.goods t.cap at x
-  none-to-add proper e are m violates = are m.bidder m.set violates.0.0 violates.0 (Below-left own most _ proper (sym e) violates.1)
-
-  pub may-follow : (pool : List Member) (m : Member) → IsFraction most → IsFraction own → Equals most own → length pool < 200
-      → solution t.trees t.weights t.sets t.goods t.cap at pool ≡ Some x → prices.den ≤ 2 ^ 32 → IsFirstAbove t prices most m → MayFollow t.trees t.weights t.sets t.goods t.cap at pool m
-  may-follow pool m proper own_proper e room solved few is = record {
-    room = room;
-    solved = (
-      x,
-      solved,
-      few,
-      (is.offer, Below-left most own _ own_proper e is.above),
-      (is.offer, is.best),
-      λ other h violates. is.before other.bidder other.set h violates.0 (Below-left own most _ proper (sym e) violates.1),
-    );
-  }
+-- a best set of the first bidder that has one above may follow
+pub may-follow : (t : ProvisionalTrade) (at : StageAt) (x : List Fraction) (most : Fraction) → IsFraction most → IsFraction (allowed t.trees t.weights t.sets t.goods t.cap at x)
+    → Equals most (allowed t.trees t.weights t.sets t.goods t.cap at x) → (pool : List Member) (m : Member) → length pool < 200
+    → solution t.trees t.weights t.sets t.goods t.cap at pool ≡ Some x → (solution_prices t.trees t.weights t.sets t.goods t.cap x).den ≤ 2 ^ 32
+    → IsFirstAbove t (solution_prices t.trees t.weights t.sets t.goods t.cap x) most m → MayFollow t.trees t.weights t.sets t.goods t.cap at pool m
+may-follow t at x most proper own equal pool m room solved few is = record {
+  room = room;
+  solved = (
+    x,
+    solved,
+    few,
+    first-violates t at x most proper own equal m is,
+    first-best t at x most proper own equal m is,
+    none-before t at x most proper own equal m is,
+  );
+}

@@ -1,5 +1,5 @@
 -- How a turn of a stage ends.
-use Rattle.std.proofs.Common.{◌<◌, ◌≤◌, ◌≡◌, ◌^◌, inl, inr, List, length, drop, Result, Ok, Err, IfOk, IfErr, ℤ, pos, ◌≤ℤ◌, ap, sym, subst, ◌∙◌}
+use Rattle.std.proofs.Common.{◌<◌, ◌≤◌, ◌≡◌, ◌^◌, inl, inr, List, length, drop, ℤ, pos, ◌≤ℤ◌, ap, sym, subst, ◌∙◌}
 use Rattle.std.specs.List.{AllByRecursion}
 use Rattle.ice_defs.specs.Fraction.{Fraction, IsFraction, Equals, fraction_at}
 use Rattle.ice_defs.specs.Prices.{Prices}
@@ -10,16 +10,20 @@ use Rattle.ice_pricing_laws.specs.Weights.{certificate_with, weights_of_duals, n
 use Rattle.ice_pricing_laws.proofs.Scans.{certificate_fits}
 use Rattle.ice_pricing.specs.Provisional.{ProvisionalTrade}
 use Rattle.ice_pricing.specs.Priced.{HasViolation}
-use Rattle.ice_price.specs.declared.ends.Stop.{Stop}
-use Rattle.ice_price.specs.declared.ends.Stop.TheVariants.{AtLimit, WithoutMemory}
+use Rattle.ice_defs.specs.declared.LimitKind.TheVariants as kind
+use Rattle.ice_turns.specs.declared.ends.Stop.{Stop}
+use Rattle.ice_turns.specs.declared.ends.Stop.TheVariants.{AtLimit, WithoutMemory}
+use Rattle.ice_turns.specs.Large.{AreLarge, IsStoppedBy}
+use Rattle.ice_turns.specs.Scans.{AreAllowed, IsFirstAbove}
+use Rattle.ice_turns.specs.Steps.{IsStepStop}
+use Rattle.ice_turns.proofs.Scanning.{first-violates, none-to-add}
+use Rattle.ice_price.specs.Certified.{IsCertificate}
 use Rattle.ice_price.specs.Ends.{IsStopped, IsRunStopped}
-use Rattle.ice_price.specs.Large.{AreLarge, IsStoppedBy, IsCertificate}
 use Rattle.ice_price.specs.Programs.{dual_factor, allowed_excess}
 use Rattle.ice_price.specs.Runs.{IsState, IsSolved, IsTurn, IsEndWith, IsStageEnd}
 use Rattle.ice_price.specs.declared.turn.Turn.{Turn}
 use Rattle.ice_price.specs.declared.turn.Turn.TheVariants.{Adds, Ends}
-use Rattle.ice_price.specs.Scans.{AreAllowed, IsFirstAbove}
-use Rattle.ice_price.proofs.Scanning.{Below-left, allowed-is, none-to-add, may-follow}
+use Rattle.ice_price.proofs.Scanning.{allowed-is, may-follow}
 use Rattle.ice_price.proofs.Turning.{weights-are}
 
 module _ (t : ProvisionalTrade) (at : StageAt) (pool : List Member) (x y : List Fraction) (is : IsSolved t at pool x y) where
@@ -46,23 +50,15 @@ module _ (t : ProvisionalTrade) (at : StageAt) (pool : List Member) (x y : List 
     limited = cert.limited;
   }
 
-  pub too-large : HasNoneToAdd t.trees t.weights t.sets t.goods t.cap at x → AreLarge weights → IsAtLimit t.trees t.weights t.sets t.goods t.cap den_limit at pool
-  too-large none large = (x, is.solved, inr (none, subst AreLarge (sym same-weights) large))
+  pub too-large : HasNoneToAdd t.trees t.weights t.sets t.goods t.cap at x → AreLarge (2 ^ 32) weights → IsAtLimit t.trees t.weights t.sets t.goods t.cap den_limit at pool
+  too-large none large = (x, is.solved, inr (none, subst (AreLarge (2 ^ 32)) (sym same-weights) large))
 
   pub long-den : 2 ^ 32 < prices.den → IsAtLimit t.trees t.weights t.sets t.goods t.cap den_limit at pool
   long-den big = (x, is.solved, inl big)
 
-  pub no-room : (most : Fraction) (m : Member) → IsFraction (allowed t.trees t.weights t.sets t.goods t.cap at x) → Equals most (allowed t.trees t.weights t.sets t.goods t.cap at x)
-      → 200 ≤ length pool → IsFirstAbove t prices most m → IsAtLimit t.trees t.weights t.sets t.goods t.cap rows_limit at pool
-  no-room most m proper e full first = (full, x, m, is.solved, (first.offer, Below-left most _ _ proper e first.above))
-
 pub run-stopped : (t : ProvisionalTrade) (at : StageAt) (pool : List Member) (stop : Stop) → IsState t at pool → IsStopped t at pool stop → IsRunStopped t at pool stop
 run-stopped t at pool (AtLimit kind) state is = record { state = state; limit = is }
 run-stopped t at pool WithoutMemory state is = tt
-
-pub if_err-map : {T E : Type 0} {P Q : E → Type 0} → (r : Result T E) → ((e : E) → P e → Q e) → IfErr r P → IfErr r Q
-if_err-map (Ok x) f h = tt
-if_err-map (Err e) f h = f e h
 
 -- what a scan with the stage's allowed excess leads to
 module _ (t : ProvisionalTrade) (at : StageAt) (pool : List Member) (x y : List Fraction) (is : IsSolved t at pool x y) (p : Prices) (same : p ≡ solution_prices t.trees t.weights t.sets t.goods t.cap x)
@@ -77,23 +73,27 @@ module _ (t : ProvisionalTrade) (at : StageAt) (pool : List Member) (x y : List 
   allowed-proper : IsFraction (allowed t.trees t.weights t.sets t.goods t.cap at x)
   allowed-proper = subst IsFraction own-is own
 
-  pub adds-full : (m : Member) → 200 ≤ length pool → IsFirstAbove t p most m → IsAtLimit t.trees t.weights t.sets t.goods t.cap rows_limit at pool
-  adds-full m full first = no-room t at pool x y is most m allowed-proper there full (subst (λ q. IsFirstAbove t q most m) same first)
+  adds-full : (m : Member) → 200 ≤ length pool → IsFirstAbove t p most m → IsAtLimit t.trees t.weights t.sets t.goods t.cap rows_limit at pool
+  adds-full m full first = (full, x, m, is.solved, first-violates t at x most proper allowed-proper there m (subst (λ q. IsFirstAbove t q most m) same first))
 
   pub adds : (m : Member) → length pool < 200 → p.den ≤ 2 ^ 32 → IsFirstAbove t p most m → MayFollow t.trees t.weights t.sets t.goods t.cap at pool m
   adds m room few first =
-      may-follow t at x most pool m proper allowed-proper there room is.solved (subst (λ (q : Prices). q.den ≤ 2 ^ 32) same few) (subst (λ q. IsFirstAbove t q most m) same first)
+      may-follow t at x most proper allowed-proper there pool m room is.solved (subst (λ (q : Prices). q.den ≤ 2 ^ 32) same few) (subst (λ q. IsFirstAbove t q most m) same first)
 
   pub none-left : AreAllowed t p most (length t.trees) → HasNoneToAdd t.trees t.weights t.sets t.goods t.cap at x
-  none-left are = none-to-add t at x most proper there (subst (λ q. AreAllowed t q most (length t.trees)) same are)
+  none-left are = none-to-add t at x most proper allowed-proper there (subst (λ q. AreAllowed t q most (length t.trees)) same are)
 
-  pub stops : AreAllowed t p most (length t.trees) → (stop : Stop) → IsStoppedBy (AreLarge (weights_of_duals (dual_factor at.stage at.den) (drop t.goods y))) stop → IsStopped t at pool stop
+  -- a stop of the step is the turn's
+  pub step-stops : (stop : Stop) → IsStepStop t (length pool) p most stop → IsStopped t at pool stop
+  step-stops (AtLimit kind.Wide) h = absurd h
+  step-stops (AtLimit kind.Pivots) h = absurd h
+  step-stops (AtLimit kind.Rows) (full, m, first) = adds-full m full first
+  step-stops (AtLimit kind.Den) big = long-den t at pool x y is (subst (λ (q : Prices). 2 ^ 32 < q.den) same big)
+  step-stops WithoutMemory h = absurd h
+
+  pub stops : AreAllowed t p most (length t.trees) → (stop : Stop) → IsStoppedBy (AreLarge (2 ^ 32) (weights_of_duals (dual_factor at.stage at.den) (drop t.goods y))) stop → IsStopped t at pool stop
   stops are (AtLimit kind) (e, large) = subst (λ k. IsStopped t at pool (AtLimit k)) (sym e) (too-large t at pool x y is (none-left are) large)
   stops are WithoutMemory h = tt
-
-pub if_ok-map : {T E : Type 0} {P Q : T → Type 0} → (r : Result T E) → ((x : T) → P x → Q x) → IfOk r P → IfOk r Q
-if_ok-map (Ok x) f h = f x h
-if_ok-map (Err e) f h = tt
 
 -- an end with the stage's certificate is the stage's
 pub end-turn : (t : ProvisionalTrade) (at : StageAt) (pool : List Member) (x y : List Fraction) → IsSolved t at pool x y → (p : Prices) (v : ℤ) (made : Turn)

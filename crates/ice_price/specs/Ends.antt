@@ -11,8 +11,8 @@ use Rattle.ice_defs.specs.PricingLimit.{stage_of, limit_of}
 use Rattle.ice_price.specs.declared.ends.PriceLimit.{PriceLimit}
 use Rattle.ice_price.specs.declared.ends.PriceEnd.{PriceEnd}
 use Rattle.ice_price.specs.declared.ends.PriceEnd.TheVariants.{Limit, NoMemory}
-use Rattle.ice_price.specs.declared.ends.Stop.{Stop}
-use Rattle.ice_price.specs.declared.ends.Stop.TheVariants.{AtLimit, WithoutMemory}
+use Rattle.ice_turns.specs.declared.ends.Stop.{Stop}
+use Rattle.ice_turns.specs.declared.ends.Stop.TheVariants.{AtLimit, WithoutMemory}
 
 -- the stage of a limit, with the violation of the accuracy stage over its denominator
 abbrev pub stage_at : PriceLimit → StageAt

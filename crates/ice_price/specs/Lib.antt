@@ -1,10 +1,8 @@
-pub mod Stages
 pub mod Programs
 pub mod Runs
 pub mod Ends
-pub mod Large
+pub mod Certified
 pub use Rattle.ice_pricing.specs.Bounding
-pub mod Scans
-pub mod Works
+pub use Rattle.ice_turns.specs.Stages
 pub use Rattle.ice_pricing.specs.Provisional
 pub use Rattle.ice_pricing.specs.Priced

@@ -10,7 +10,7 @@ use Rattle.ice_defs.specs.PricingRun.{MayFollow}
 use Rattle.ice_pricing_laws.specs.Ends.{certificate_at}
 use Rattle.ice_pricing.specs.Provisional.{ProvisionalTrade}
 use Rattle.ice_pricing.specs.Priced.{HasViolation, IsLimited}
-use Rattle.ice_price.specs.Large.{IsCertificate}
+use Rattle.ice_price.specs.Certified.{IsCertificate}
 use Rattle.ice_price.specs.Programs.{program_over}
 use Rattle.ice_price.specs.declared.turn.Turn.{Turn}
 use Rattle.ice_price.specs.declared.turn.Turn.TheVariants.{Adds, Ends}

@@ -1,26 +1,8 @@
 //! How a pricing run ends without prices.
 use ice_defs::{LimitKind, PricingStage};
-use ice_tree::NodeSet;
-use std::alloc::{AllocError, AllocFailed};
-use std::marker::Model;
+use ice_turns::PoolMember;
+use std::alloc::AllocError;
 use thiserror::Error;
-
-/// A bidder and a satisfied set of it.
-#[derive(Debug, Drop)]
-pub struct PoolMember {
-    /// The bidder's number.
-    pub bidder: u8,
-    /// The set.
-    pub set: NodeSet,
-}
-
-impl Model for PoolMember {
-    ghost use Rattle.ice_defs.specs.PricingRun.{Member};
-
-    ghost Value = { Member };
-
-    ghost view = { λ m. record { bidder = m.bidder; set = m.set } };
-}
 
 /// Where a pricing run stood when it ended at a limit.
 #[derive(Debug, Drop)]
@@ -56,34 +38,5 @@ impl From<AllocError> for PriceEnd {
 
     fn from(_: AllocError) -> PriceEnd {
         PriceEnd::NoMemory
-    }
-}
-
-/// What stops a turn of a pricing run.
-#[derive(Clone, Copy)]
-pub(crate) enum Stop {
-    AtLimit(LimitKind),
-    WithoutMemory,
-}
-
-impl From<AllocError> for Stop {
-    ghost use Rattle.std.specs.Prelude.{◌≡◌};
-    ghost use Rattle.ice_price.specs.declared.ends.Stop.{Stop};
-
-    ghost from_gives = { λ _ e. e ≡ Stop.WithoutMemory };
-
-    fn from(_: AllocError) -> Stop {
-        Stop::WithoutMemory
-    }
-}
-
-impl<T: Drop> From<AllocFailed<T>> for Stop {
-    ghost use Rattle.std.specs.Prelude.{◌≡◌};
-    ghost use Rattle.ice_price.specs.declared.ends.Stop.{Stop};
-
-    ghost from_gives = { λ _ e. e ≡ Stop.WithoutMemory };
-
-    fn from(_failed: AllocFailed<T>) -> Stop {
-        Stop::WithoutMemory
     }
 }

@@ -3,17 +3,14 @@
 #![tactic(auto)]
 
 mod ends;
-mod fractions;
 mod pricing;
 mod program;
-mod scan;
 mod solution;
 mod stages;
 mod turn;
 mod weighing;
-mod work;
 
-pub use ends::{PoolMember, PriceEnd, PriceLimit};
+pub use ends::{PriceEnd, PriceLimit};
 pub use ice_pricing::{Certificate, CertificateRow, Pricing};
+pub use ice_turns::{PoolMember, RunWork};
 pub use pricing::{price, run_prices};
-pub use work::RunWork;

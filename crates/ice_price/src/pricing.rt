@@ -5,17 +5,17 @@ ghost use Rattle.ice_defs.specs.Weighing.{weighted_weights};
 ghost use Rattle.ice_row_laws.specs.Laws.{AreSatisfied};
 ghost use Rattle.ice_pricing.specs.Provisional.{provisional_of};
 ghost use Rattle.ice_price.specs.Ends.{IsPriceEnd, IsPriced, IsRunPriced, IsRunStopped};
-ghost use Rattle.ice_price.specs.Works.{IsMoreWork, HasTurns};
+ghost use Rattle.ice_turns.specs.Works.{IsMoreWork, HasTurns};
 ghost use Rattle.ice_pricing.specs.Bounding.{AreBoundsOf};
 
-use crate::ends::{PoolMember, PriceEnd, Stop};
+use crate::ends::PriceEnd;
 use crate::stages::StageAt;
 use crate::turn::run_stage;
-use crate::work::RunWork;
 use ice_cutting_planes::{GivenUp, Work, cut_prices};
 use ice_pricing::{Pricing, Provisional, Scratch, weighted_values};
 use ice_trade::Exchange;
 use ice_tree::{Assignment, Bounds};
+use ice_turns::{PoolMember, RunWork, Stop};
 use std::alloc::{AllocError, Global};
 
 /// The end of a run that stopped in this stage with this pool.

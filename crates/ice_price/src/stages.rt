@@ -1,18 +1,19 @@
 //! Where a pricing run stands, apart from its pool.
-ghost use Rattle.std.specs.Prelude.{suc, replicate, vec_len, All, IfOk, ◌+◌, ◌≡◌, ◌*◌, ◌≤◌, ◌<◌, ◌^◌, pos, neg_ℤ, ◌≤ℤ◌, ℤ, ◌-ℤ◌, ◌*ℤ◌};
+ghost use Rattle.std.specs.Prelude.{vec_len, All, IfOk, ◌+◌, ◌≡◌, ◌*◌, ◌≤◌, ◌^◌, pos, neg_ℤ, ◌≤ℤ◌, ℤ};
 ghost use Rattle.ice_defs.specs.Fraction.{Equals, IsFraction};
-ghost use Rattle.ice_defs.specs.PricingRun.{StageAt as RunStageAt, first_stage, only_at};
+ghost use Rattle.ice_defs.specs.PricingRun.{StageAt as RunStageAt, first_stage};
 ghost use Rattle.ice_lp.specs.Limits.{IsNumber};
 ghost use Rattle.ice_pricing_laws.specs.Laws.{balance_at};
 ghost use Rattle.ice_price.specs.Programs.{no_price, dual_factor, allowed_excess, unit_factor, last_factor, member_least, good_least};
 ghost use Rattle.ice_defs.specs.PricingLimit.{stage_of};
-ghost use Rattle.ice_price.specs.Stages.{IsSizedStage};
+ghost use Rattle.ice_turns.specs.Stages.{IsSizedStage};
 
-use crate::ends::{PoolMember, PriceLimit};
+use crate::ends::PriceLimit;
 use ice_defs::{LimitKind, PricingStage};
 use ice_frac::Frac;
 use ice_pricing::Certificate;
 use ice_terms::Prices;
+use ice_turns::{PoolMember, last_alone, least_above, over, zeros};
 use std::alloc::{AllocError, Global};
 use std::marker::Model;
 
@@ -31,7 +32,7 @@ impl Model for StageAt {
     ghost Value = { RunStageAt };
 
     ghost use Rattle.ice_defs.specs.PricingLimit.{stage_of};
-    ghost use Rattle.ice_price.specs.Stages.{IsSizedStage};
+    ghost use Rattle.ice_turns.specs.Stages.{IsSizedStage};
 
     ghost view = { λ s. record { stage = stage_of s.stage; delta = s.delta; den = s.den } };
 
@@ -49,55 +50,6 @@ pub(crate) struct StageEnd {
     pub(crate) prices: Prices,
     pub(crate) violation: i128,
     pub(crate) certificate: Certificate,
-}
-
-/// A number by a denominator, less another.
-fn scaled_less(den: u64, number: i128, less: i128) -> i128
-    requires den { den ≤ 2 ^ 32 }
-    requires low { neg_ℤ (pos (2 ^ 49)) ≤ℤ number }
-    requires high { number ≤ℤ pos (2 ^ 49) }
-    requires less_low { pos 0 ≤ℤ less }
-    requires less_high { less ≤ℤ pos (2 ^ 81) }
-    ensures value { result ≡ (pos den *ℤ number) -ℤ less }
-    ensures low { neg_ℤ (pos (2 ^ 82)) ≤ℤ result }
-    ensures high { result ≤ℤ pos (2 ^ 82) }
-{
-    i128::from(den) * number - less
-}
-
-/// The fraction of a number of at most 2^81 over a denominator.
-fn over(num: i128, den: u64) -> Frac
-    requires low { pos 0 ≤ℤ num }
-    requires high { num ≤ℤ pos (2 ^ 81) }
-    requires positive { 0 < den }
-    ensures proper { IsFraction result }
-    ensures equal { Equals result (record { num = num; den = den }) }
-{
-    match Frac::new(num, i128::from(den)) {
-        Some(fraction) => fraction,
-        None => unreachable!(),
-    }
-}
-
-/// A 0 for each price, and one more.
-fn zeros(alloc: Global, goods: u8) -> Result<Vec<i128>, AllocError>
-    ensures value { IfOk result (λ made. made.items ≡ replicate (suc goods) (pos 0)) }
-    ensures len { IfOk result (λ made. vec_len made ≡ goods + 1) }
-    ensures sized { IfOk result (λ made. All IsNumber made.items) }
-{
-    vec![in alloc; 0i128; usize::from(goods) + 1]
-}
-
-/// A 0 for each price, and then 1: the costs of a stage's program.
-pub(crate) fn last_alone(alloc: Global, goods: u8) -> Result<Vec<i128>, AllocError>
-    ensures value { IfOk result (λ made. made.items ≡ only_at (suc goods) goods (pos 1)) }
-    ensures len { IfOk result (λ made. vec_len made ≡ goods + 1) }
-    ensures sized { IfOk result (λ made. All IsNumber made.items) }
-    ensures low { IfOk result (λ made. All (λ c. pos 0 ≤ℤ c) made.items) }
-{
-    let mut made = zeros(alloc, goods)?;
-    made[usize::from(goods)] = 1;
-    Ok(made)
 }
 
 impl StageAt {
@@ -202,7 +154,7 @@ impl StageAt {
     {
         match self.stage {
             PricingStage::Accuracy => worth,
-            PricingStage::Balance => scaled_less(self.den, worth, self.delta),
+            PricingStage::Balance => least_above(self.den, worth, self.delta),
         }
     }
 

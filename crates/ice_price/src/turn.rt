@@ -1,26 +1,19 @@
 //! The turns of a stage.
-ghost use Rattle.std.specs.Prelude.{◌≡◌, ◌<◌, ◌≤◌, ◌*◌, ◌^◌, length, drop, IfOk, IfErr, IfSome, IfNone};
-ghost use Rattle.ice_defs.specs.PricingRun.{solution_prices};
-ghost use Rattle.ice_defs.specs.Prices.{ArePrices};
+ghost use Rattle.std.specs.Prelude.{◌≡◌, ◌≤◌, ◌*◌, ◌^◌, length, drop, IfOk, IfErr};
 ghost use Rattle.ice_defs.specs.Program.{AreNonNegative};
 ghost use Rattle.ice_pricing_laws.specs.Weights.{weights_of_duals};
-ghost use Rattle.ice_defs.specs.Rows.{HasCommonDivisor};
 ghost use Rattle.ice_price.specs.Ends.{IsStopped, IsRunStopped};
-ghost use Rattle.ice_price.specs.Large.{AreLarge, IsStoppedBy};
+ghost use Rattle.ice_turns.specs.Large.{AreLarge, IsStoppedBy};
 ghost use Rattle.ice_price.specs.Runs.{IsState, IsRunFrom, IsTurn, IsEndWith, IsStageEnd};
-ghost use Rattle.ice_price.specs.Works.{IsMoreWork, HasTurns};
+ghost use Rattle.ice_turns.specs.Works.{IsMoreWork, HasTurns};
 
-use crate::ends::{PoolMember, Stop};
-use crate::fractions::{common_den, prices_over};
-use crate::scan::{Scan, scan_bidders};
 use crate::solution::solve_stage;
 use crate::stages::{StageAt, StageEnd};
 use crate::weighing::certified;
-use crate::work::RunWork;
-use ice_defs::LimitKind;
 use ice_frac::Frac;
 use ice_pricing::{Provisional, Scratch};
 use ice_terms::Prices;
+use ice_turns::{PoolMember, RunWork, Step, Stop, next_step};
 use std::alloc::Global;
 
 /// What a turn does.
@@ -30,26 +23,6 @@ pub(crate) enum Turn {
     Adds(PoolMember),
     /// No set is to be added.
     Ends(StageEnd),
-}
-
-/// The prices of a point, over their least common denominator. None exactly where that is above
-/// 2^32.
-fn prices_of(trade: &Provisional<'_>, point: &[Frac]) -> Option<Prices>
-    requires long { trade.now.goods < length point.now }
-    requires low { AreNonNegative point.now }
-    requires within { let t = trade.now in
-        ArePrices t.goods t.cap (solution_prices t.trees t.weights t.sets t.goods t.cap point.now) }
-    ensures value { let t = trade.now in
-        IfSome result (λ p. p ≡ solution_prices t.trees t.weights t.sets t.goods t.cap point.now) }
-    ensures fits { IfSome result (λ p. p.den ≤ 2 ^ 32) }
-    ensures lowest { IfSome result (λ p. ¬ HasCommonDivisor p) }
-    ensures none { let t = trade.now in
-        let p = solution_prices t.trees t.weights t.sets t.goods t.cap point.now in
-        IfNone result (2 ^ 32 < p.den) }
-{
-    let prices = &point[..usize::from(trade.goods())];
-    let den = common_den(prices)?;
-    Some(prices_over(prices, den))
 }
 
 /// The duals of the pool's members, which stand behind those of the goods.
@@ -76,7 +49,7 @@ fn end_stage(
     requires low { AreNonNegative duals.now }
     ensures ended { let ws = weights_of_duals factor duals.now in
         IfOk result (IsEndWith pool.now ws prices violation) }
-    ensures stopped { IfErr result (IsStoppedBy (AreLarge (weights_of_duals factor duals.now))) }
+    ensures stopped { IfErr result (IsStoppedBy (AreLarge (2 ^ 32) (weights_of_duals factor duals.now))) }
 {
     let certificate = certified(alloc, factor, pool, duals)?;
     Ok(Turn::Ends(StageEnd {
@@ -103,14 +76,10 @@ fn take_turn(
 {
     let goods = usize::from(trade.goods());
     let solution = solve_stage(alloc, trade, at, pool, work)?;
-    let Some(prices) = prices_of(trade, &solution.point) else {
-        return Err(Stop::AtLimit(LimitKind::Den));
-    };
     let most = at.allowed(&solution.point[goods]);
-    match scan_bidders(trade, &prices, &most, scratch) {
-        Scan::Adds(_) if pool.len() >= 200 => Err(Stop::AtLimit(LimitKind::Rows)),
-        Scan::Adds(member) => Ok(Turn::Adds(member)),
-        Scan::Ends(violation) => end_stage(
+    match next_step(trade, pool, &solution.point, &most, scratch)? {
+        Step::Adds(member) => Ok(Turn::Adds(member)),
+        Step::Ends(prices, violation) => end_stage(
             alloc,
             at.weight_factor(),
             pool,

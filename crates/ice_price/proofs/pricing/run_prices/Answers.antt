@@ -6,9 +6,9 @@ use Rattle.std.proofs.lemmas.Int.{ints, to_z-of_z}
 use Rattle.ice_defs.specs.PricingRun.{Member, StageAt, first_stage, starts}
 use Rattle.ice_pricing_laws.specs.Laws.{balance_at}
 use Rattle.ice_price.specs.Runs.{IsState, IsRunFrom, IsStageEnd}
-use Rattle.ice_price.specs.Stages.{IsSizedStage}
+use Rattle.ice_turns.specs.Stages.{IsSizedStage}
 use Rattle.ice_price.proofs.Deltas.{violation-sized}
-use Rattle.ice_price.proofs.Works.{more-trans, two-turns}
+use Rattle.ice_turns.proofs.Works.{more-trans, two-turns}
 use Rattle.ice_price.proofs.Finishing.{turned, priced}
 use Rattle.ice_price.proofs.pricing.run_prices.Goals as goal
 

@@ -1,7 +1,7 @@
 use Rattle.std.proofs.Common.{◌≡◌, ◌++◌, [], ◌∷◌, List, sym, subst, rules}
 use Rattle.ice_defs.specs.PricingRun.{Member, MayFollow, follows}
 use Rattle.ice_price.specs.Runs.{IsState, IsRunFrom, stays, adds}
-use Rattle.ice_price.proofs.Works.{more-trans}
+use Rattle.ice_turns.proofs.Works.{more-trans}
 use Rattle.ice_price.proofs.turn.run_stage.Goals as goal
 
 pub turns-init : goal.turns-init

@@ -1,6 +1,6 @@
 use Rattle.std.proofs.Common.{◌-◌, vec_len}
 use Rattle.ice_price.specs.Runs.{IsState, IsRunFrom}
-use Rattle.ice_price.specs.Works.{IsMoreWork}
+use Rattle.ice_turns.specs.Works.{IsMoreWork}
 use Rattle.ice_price.proofs.turn.run_stage.Given as goal
 
 abbrev pub invariant-turns : goal.invariant-turns

@@ -1,8 +1,0 @@
-use Rattle.std.proofs.Common.{arith}
-use Rattle.ice_price.proofs.Multiples.{none_if, large-drop}
-use Rattle.ice_price.proofs.fractions.common_den.Goals as goal
-
-pub returns-in_err-den-clause-none : goal.returns-in_err-den-clause-none
-returns-in_err-den-clause-none c =
-    none_if c.from_residual.result
-    (large-drop c.args.fractions.now c.loop-place.place c.index-fractions-place.result c.loop-place.den c.requires (omega arith) (omega arith) c.index-fractions-place.is c.loop-place.invariant c.in_err-den.ensures.none)
