@@ -1,0 +1,5 @@
+pub mod Paid
+pub mod Certified
+pub mod Stages
+pub mod Turns
+pub mod Ends
