@@ -1,4 +1,5 @@
 //! Certificates of a dictionary: the multipliers of its cuts as weights.
+use crate::cut::{Cut, Kind};
 use crate::dictionary::Dictionary;
 use crate::equation::{Equation, Variable};
 use crate::numbers::{divisor, product, quotient};
@@ -42,49 +43,78 @@ fn weight_of(number: i128) -> Result<u64, GivenUp> {
     u64::try_from(number).map_err(|_| GivenUp::Wide)
 }
 
-impl Equation {
-    /// The number of the cut whose multiplier this is, where that isn't 0.
-    fn cut(&self) -> Option<usize> {
-        match self.variable {
-            Variable::Cut(number) if self.main != 0 => Some(number),
+impl Dictionary {
+    /// The cut whose multiplier this equation's variable is, where that isn't 0.
+    fn cut_of(&self, equation: &Equation) -> Option<&Cut> {
+        match equation.variable {
+            Variable::Cut(number) if equation.main != 0 => self.cuts.get(number),
             _ => None,
         }
     }
-}
 
-impl Dictionary {
-    /// The least common denominator of the cuts' multipliers.
+    /// The denominator of the multiplier of a cut as a weight.
+    fn weight_den(&self, equation: &Equation, cut: &Cut) -> Result<i128, GivenUp> {
+        product(equation.den, cut.parts(&self.asked))
+    }
+
+    /// The multiplier of a cut as a weight over a denominator.
+    fn weight(&self, equation: &Equation, cut: &Cut, den: i128) -> Result<u64, GivenUp> {
+        let own = self.weight_den(equation, cut)?;
+        weight_of(num_over(equation.main, own, den)?)
+    }
+
+    /// The least common denominator of the cuts' multipliers as weights.
     fn common_den(&self) -> Result<i128, GivenUp> {
         let mut den = 1;
         for equation in &self.left {
-            if equation.cut().is_some() {
-                let shared = divisor(equation.main, equation.den);
-                den = common_multiple(den, quotient(equation.den, shared))?;
+            if let Some(cut) = self.cut_of(equation) {
+                let own = self.weight_den(equation, cut)?;
+                den = common_multiple(den, quotient(own, divisor(equation.main, own)))?;
             }
         }
         Ok(den)
     }
 
-    /// The certificate that the multipliers of the cuts make.
+    /// The certificate that the multipliers of the sets make, over the denominator of all weights.
     pub(crate) fn certificate(&self, alloc: Global) -> Result<Certificate, GivenUp> {
         let den = self.common_den()?;
         let mut rows = Vec::new(alloc);
         for equation in &self.left {
-            let Some(number) = equation.cut() else {
+            let Some(cut) = self.cut_of(equation) else {
                 continue;
             };
-            let Some(cut) = self.cuts.get(number) else {
-                return Err(GivenUp::Spent);
-            };
-            rows.push(CertificateRow {
-                bidder: cut.bidder,
-                weight: weight_of(num_over(equation.main, equation.den, den)?)?,
-                set: cut.set,
-            })?;
+            if cut.kind == Kind::Gain {
+                rows.push(CertificateRow {
+                    bidder: cut.bidder,
+                    weight: self.weight(equation, cut, den)?,
+                    set: cut.set,
+                })?;
+            }
         }
         Ok(Certificate {
             den: weight_of(den)?,
             rows,
         })
+    }
+
+    /// For each bidder the weight of its cut of this kind of gap, over a denominator.
+    pub(crate) fn gap_weights(
+        &self,
+        alloc: Global,
+        bidders: u8,
+        kind: Kind,
+        den: u64,
+    ) -> Result<Vec<u64>, GivenUp> {
+        let mut weights = vec![in alloc; 0u64; usize::from(bidders)]?;
+        for equation in &self.left {
+            let Some(cut) = self.cut_of(equation) else {
+                continue;
+            };
+            let place = usize::from(cut.bidder);
+            if cut.kind == kind && place < weights.len() {
+                weights[place] = self.weight(equation, cut, i128::from(den))?;
+            }
+        }
+        Ok(weights)
     }
 }

@@ -1,7 +1,9 @@
 //! Dictionaries of the dual program.
-use crate::cut::{Asked, Cut};
+use crate::asked::Asked;
+use crate::cut::Cut;
 use crate::equation::{Equation, Variable};
 use crate::numbers::{divisor_of, product, quotient, sum};
+use crate::violation::Violation;
 use crate::work::GivenUp;
 use std::alloc::{AllocError, Global};
 
@@ -38,6 +40,13 @@ impl Drop for Dictionary {
 pub(crate) struct Point {
     pub(crate) den: i128,
     pub(crate) nums: Vec<i128>,
+}
+
+impl Point {
+    /// The number of the last column.
+    pub(crate) fn last(&self) -> i128 {
+        self.nums.last().copied().unwrap_or(0)
+    }
 }
 
 /// A place on the right with a coefficient.
@@ -130,22 +139,36 @@ impl Dictionary {
         })
     }
 
-    /// The program that makes the violation least, at prices up to the cap. Prices are in
-    /// hundredths.
-    pub(crate) fn accuracy(alloc: Global, goods: u8, cap: i64) -> Result<Dictionary, GivenUp> {
-        let highest = product(100, i128::from(cap))?;
-        Dictionary::of_goods(alloc, goods, Asked::accuracy(), 0, highest.wrapping_neg())
+    /// A program over prices up to the cap.
+    fn capped(alloc: Global, goods: u8, cap: i64, asked: Asked) -> Result<Dictionary, GivenUp> {
+        let highest = asked.highest(cap, 1)?;
+        Dictionary::of_goods(alloc, goods, asked, 0, highest.wrapping_neg())
     }
 
-    /// The program that makes the greatest price least, at a violation over a denominator. Prices
-    /// are in hundredths and times this denominator.
+    /// The program that makes the violation least, at prices up to the cap.
+    pub(crate) fn accuracy(alloc: Global, goods: u8, cap: i64) -> Result<Dictionary, GivenUp> {
+        Dictionary::capped(alloc, goods, cap, Asked::accuracy())
+    }
+
+    /// The program that makes the greatest price least, at a violation.
     pub(crate) fn balance(
         alloc: Global,
         goods: u8,
-        violation: i128,
-        den: i128,
+        violation: &Violation,
     ) -> Result<Dictionary, GivenUp> {
-        Dictionary::of_goods(alloc, goods, Asked::balance(violation, den), 1, 0)
+        Dictionary::of_goods(alloc, goods, Asked::balance(violation), 1, 0)
+    }
+
+    /// The program that makes the greatest gap between what bidders pay, over the denominator
+    /// `cut`, and what their sets cost least, at a violation and at prices up to the cap.
+    pub(crate) fn nearest(
+        alloc: Global,
+        goods: u8,
+        cap: i64,
+        violation: &Violation,
+        cut: u16,
+    ) -> Result<Dictionary, GivenUp> {
+        Dictionary::capped(alloc, goods, cap, Asked::nearest(violation, cut)?)
     }
 
     /// How many columns there are.

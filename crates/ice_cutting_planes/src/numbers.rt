@@ -73,12 +73,3 @@ pub(crate) fn divide_all(numbers: &mut [i128], by: i128)
         numbers[place] = quotient(numbers[place], by);
     }
 }
-
-/// The greatest of some numbers, and 0 where all are below it.
-pub(crate) fn greatest(numbers: &[i128]) -> i128 {
-    let mut most = 0;
-    for number in numbers {
-        most = most.max(*number);
-    }
-    most
-}

@@ -1,41 +1,17 @@
 //! Prices by cutting planes.
 ghost use Rattle.ice_cutting_planes.specs.Works.{IsMoreWork};
 
-use crate::cut::Asked;
+use crate::asked::Asked;
 use crate::dictionary::{Dictionary, Point};
 use crate::equation::Variable;
-use crate::numbers::{divisor, divisor_of, product, quotient};
+use crate::numbers::{divisor_of, product, quotient};
 use crate::rounding::Rounding;
 use crate::stage::CutSearch;
+use crate::violation::Violation;
 use crate::work::{GivenUp, Work};
 use ice_pricing::{Certificate, Pricing, Provisional};
 use ice_terms::Prices;
 use std::alloc::Global;
-
-/// A violation over its denominator.
-#[derive(Clone, Copy)]
-struct Violation {
-    num: i128,
-    den: i128,
-}
-
-impl Violation {
-    /// The violation at the end of the first stage, in lowest terms: the last column of its point.
-    fn of(point: &Point) -> Violation {
-        let num = point.nums.last().copied().unwrap_or(0);
-        let shared = divisor(num, point.den);
-        Violation {
-            num: quotient(num, shared),
-            den: quotient(point.den, shared),
-        }
-    }
-
-    /// The violation times a denominator.
-    fn over(&self, den: i128) -> Result<i128, GivenUp> {
-        let shared = divisor(den, self.den);
-        product(self.num, quotient(den, shared))
-    }
-}
 
 /// The dictionary of the second stage, with the cuts whose multipliers stand on the left at the end
 /// of the first.
@@ -45,7 +21,7 @@ fn second_dictionary(
     violation: &Violation,
     first: &Dictionary,
 ) -> Result<Dictionary, GivenUp> {
-    let mut second = Dictionary::balance(alloc, goods, violation.num, violation.den)?;
+    let mut second = Dictionary::balance(alloc, goods, violation)?;
     for equation in &first.left {
         if let Variable::Cut(number) = equation.variable {
             if let Some(cut) = first.cuts.get(number) {
@@ -85,7 +61,7 @@ fn whole_prices(alloc: Global, found: &Rounding) -> Result<Prices, GivenUp> {
 }
 
 /// Runs a stage, and makes the certificate of its end.
-fn run_whole_stage(
+pub(crate) fn run_whole_stage(
     search: &mut CutSearch<'_>,
     dictionary: &mut Dictionary,
     work: &mut Work,
@@ -97,18 +73,18 @@ fn run_whole_stage(
     Ok((point, certificate))
 }
 
-/// The prices of the point at which the balance stage ended, rounded where their denominator is too
-/// long.
-fn prices_at(
-    mut point: Point,
+/// The prices of the point at which a stage ended, rounded where their denominator is too long, to
+/// prices up to `top`.
+pub(crate) fn prices_at(
+    point: Point,
+    top: i128,
     search: &mut CutSearch<'_>,
     asked: &Asked,
     work: &mut Work,
 ) -> Result<Prices, GivenUp>
     ensures { IsMoreWork work.old work.new }
 {
-    point.nums.truncate(usize::from(search.trade.goods()));
-    let mut found = Rounding::of(point.den, point.nums, asked)?;
+    let mut found = Rounding::of(point, top, search, asked)?;
     round_to_fit(&mut found, search, work)?;
     whole_prices(search.alloc, &found)
 }
@@ -130,13 +106,14 @@ pub fn cut_prices(
     ensures { IsMoreWork work.old work.new }
 {
     let goods = trade.goods();
-    let mut search = CutSearch::new(alloc, trade);
+    let mut search = CutSearch::new(alloc, trade, None);
     let mut first = Dictionary::accuracy(alloc, goods, trade.cap())?;
     let (point, accuracy) = run_whole_stage(&mut search, &mut first, work)?;
-    let violation = Violation::of(&point);
+    let violation = Violation::at(&point);
     let mut second = second_dictionary(alloc, goods, &violation, &first)?;
     let (point, balance) = run_whole_stage(&mut search, &mut second, work)?;
-    let prices = prices_at(point, &mut search, &second.asked, work)?;
+    let top = point.last();
+    let prices = prices_at(point, top, &mut search, &second.asked, work)?;
     let delta = violation.over(i128::from(prices.den()))?;
     Ok(Pricing {
         prices,

@@ -1,9 +1,10 @@
-//! Prices over a long denominator, rounded where neither the greatest price nor the violation
-//! grows.
+//! Prices over a long denominator, rounded where no price passes a top, and neither the violation
+//! nor the greatest gap grows.
+use crate::asked::Asked;
 use crate::certified::LARGEST;
-use crate::cut::Asked;
+use crate::dictionary::Point;
 use crate::nets::LongPrices;
-use crate::numbers::{divisor_of, greatest, product, quotient, sum};
+use crate::numbers::{divisor_of, product, quotient, sum};
 use crate::stage::CutSearch;
 use crate::work::GivenUp;
 
@@ -14,10 +15,14 @@ pub(crate) struct Rounding {
     pub(crate) den: i128,
     /// The prices, times the denominator.
     pub(crate) nums: Vec<i128>,
-    /// The greatest price, times the denominator.
+    /// What no price is to pass, times the denominator.
     top: i128,
     /// The violation, times the denominator.
     violation: i128,
+    /// The denominator of the stage's own prices.
+    stage_den: i128,
+    /// The greatest gap, times that denominator.
+    farthest: i128,
 }
 
 /// The number, rounded down to a multiple.
@@ -29,12 +34,21 @@ fn rounded_down(number: i128, grid: i128) -> i128 {
 }
 
 impl Rounding {
-    /// The prices of a balance stage over `den` times the stage's own denominator.
-    pub(crate) fn of(den: i128, nums: Vec<i128>, asked: &Asked) -> Result<Rounding, GivenUp> {
+    /// The prices of the point at which a stage ended, of which none is to pass `top`.
+    pub(crate) fn of(
+        point: Point,
+        top: i128,
+        search: &CutSearch<'_>,
+        asked: &Asked,
+    ) -> Result<Rounding, GivenUp> {
+        let mut nums = point.nums;
+        nums.truncate(usize::from(search.trade.goods()));
         Ok(Rounding {
-            den: product(den, asked.times)?,
-            top: greatest(&nums),
-            violation: product(den, asked.allowed)?,
+            den: product(point.den, asked.times)?,
+            top,
+            violation: product(point.den, asked.allowed)?,
+            stage_den: point.den,
+            farthest: search.farthest(point.den, &nums)?,
             nums,
         })
     }
@@ -46,8 +60,11 @@ impl Rounding {
         Ok(quotient(whole, shared) <= LARGEST)
     }
 
-    /// Whether no bidder gains more than the violation.
+    /// Whether no bidder gains more than the violation, and no gap has grown past the greatest one.
     fn is_allowed(&self, search: &mut CutSearch<'_>) -> Result<bool, GivenUp> {
+        if search.farthest(self.stage_den, &self.nums)? > self.farthest {
+            return Ok(false);
+        }
         let prices = LongPrices {
             den: self.den,
             nums: &self.nums,

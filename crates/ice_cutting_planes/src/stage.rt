@@ -4,6 +4,7 @@ ghost use Rattle.ice_cutting_planes.specs.Works.{IsMoreWork};
 
 use crate::cut::Cut;
 use crate::dictionary::{Dictionary, Point};
+use crate::gaps::{Gap, Payments};
 use crate::nets::LongPrices;
 use crate::numbers::product;
 use crate::work::{GivenUp, MOST_COLUMNS, Work};
@@ -11,7 +12,7 @@ use ice_best::Scratch;
 use ice_pricing::Provisional;
 use std::alloc::{AllocError, Global};
 
-/// The most cuts that a turn adds.
+/// The most cuts of sets that a turn adds, and the most of gaps.
 const CUTS_PER_TURN: u8 = 8;
 
 /// Where cuts are sought next, and how.
@@ -19,6 +20,8 @@ const CUTS_PER_TURN: u8 = 8;
 pub(crate) struct CutSearch<'a> {
     pub(crate) alloc: Global,
     pub(crate) trade: &'a Provisional<'a>,
+    /// What prices are to come near, if anything.
+    payments: Option<Payments<'a>>,
     pub(crate) scratch: Scratch,
     /// The bidder that is asked first.
     next: u8,
@@ -45,18 +48,62 @@ fn cut_short(alloc: Global, nums: &[i128], bits: u32) -> Result<Vec<i128>, Alloc
 
 impl<'a> CutSearch<'a> {
     /// A search that begins with the first bidder.
-    pub(crate) fn new(alloc: Global, trade: &'a Provisional<'a>) -> CutSearch<'a> {
+    pub(crate) fn new(
+        alloc: Global,
+        trade: &'a Provisional<'a>,
+        payments: Option<Payments<'a>>,
+    ) -> CutSearch<'a> {
         CutSearch {
             alloc,
             trade,
+            payments,
             scratch: Scratch::new(),
             next: 0,
         }
     }
 
+    /// The size of the greatest gap at prices, and 0 where they aren't to come near to payments.
+    pub(crate) fn farthest(&self, den: i128, nums: &[i128]) -> Result<i128, GivenUp> {
+        match &self.payments {
+            Some(payments) => payments.farthest(self.trade, den, nums),
+            None => Ok(0),
+        }
+    }
+
+    /// The gaps that are greater than the last column of a point, the greatest first.
+    fn wide_gaps(&self, point: &Point) -> Result<Vec<Gap>, GivenUp> {
+        let mut gaps = Vec::new(self.alloc);
+        if let Some(payments) = &self.payments {
+            for bidder in 0..self.trade.bidders() {
+                let gap = payments.gap(self.trade, bidder, point.den, &point.nums)?;
+                if gap.size() > point.last() {
+                    gaps.push(gap)?;
+                }
+            }
+        }
+        gaps.sort_unstable_by_key(|gap| (gap.size().wrapping_neg(), gap.bidder));
+        Ok(gaps)
+    }
+
+    /// Adds the greatest gaps at a point as cuts, where the point doesn't meet them. Whether any was
+    /// added.
+    fn add_gaps(&mut self, dictionary: &mut Dictionary, point: &Point) -> Result<bool, GivenUp> {
+        let gaps = self.wide_gaps(point)?;
+        let mut is_added = false;
+        for gap in gaps.iter().take(usize::from(CUTS_PER_TURN)) {
+            let Some(cut) = Cut::of_gap(self.trade, gap) else {
+                continue;
+            };
+            if dictionary.add(self.alloc, cut)? {
+                is_added = true;
+            }
+        }
+        Ok(is_added)
+    }
+
     /// Adds the best sets of bidders at a point as cuts, where the point doesn't meet them. How
     /// many were added.
-    fn add_cuts(&mut self, dictionary: &mut Dictionary, point: &Point) -> Result<u8, GivenUp> {
+    fn add_sets(&mut self, dictionary: &mut Dictionary, point: &Point) -> Result<u8, GivenUp> {
         let den = product(point.den, dictionary.asked.times)?;
         let bits = excess_bits(den, &point.nums);
         let nums = cut_short(self.alloc, &point.nums, bits)?;
@@ -95,13 +142,14 @@ impl<'a> CutSearch<'a> {
             work.turns = work.turns.saturating_add(1);
             dictionary.solve(work)?;
             let point = dictionary.point(self.alloc)?;
-            let added = self.add_cuts(dictionary, &point)?;
+            let has_gaps = self.add_gaps(dictionary, &point)?;
+            let sets = self.add_sets(dictionary, &point)?;
             let columns = dictionary.columns();
             if columns > MOST_COLUMNS {
                 return Err(GivenUp::Spent);
             }
             work.columns = work.columns.max(columns);
-            if added == 0 {
+            if !has_gaps && sets == 0 {
                 return Ok(point);
             }
         }
