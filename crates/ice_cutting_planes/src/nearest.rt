@@ -13,6 +13,7 @@ use ice_terms::Prices;
 use std::alloc::Global;
 
 /// Prices that come near to payments, and what may show that no accurate prices come nearer.
+#[derive(Drop)]
 pub struct Nearest {
     /// The prices.
     pub prices: Prices,
@@ -24,19 +25,6 @@ pub struct Nearest {
     pub low: Vec<u64>,
     /// For each bidder, the weight of its own set's cost above what it pays.
     pub high: Vec<u64>,
-}
-
-// By hand, so that each exit that drops one has one call to prove, and not all its parts.
-impl Drop for Nearest {
-    fn drop(self) {
-        let Nearest {
-            prices: _,
-            delta: _,
-            certificate: _,
-            low: _,
-            high: _,
-        } = self;
-    }
 }
 
 /// The dictionary of the stage, with the sets of this certificate of accuracy.
