@@ -1,5 +1,5 @@
 //! The cut and the surplus of a session that closes.
-ghost use Rattle.std.specs.Prelude.{◌≡◌, ◌<◌, pos};
+ghost use Rattle.std.specs.Prelude.{◌≡◌, ◌<◌, ◌≤◌, pos};
 ghost use Rattle.ice_defs.specs.Fraction.{whole};
 ghost use Rattle.ice_frac.specs.Lowest.{IsLowest};
 ghost use Rattle.ice_journal.specs.Lines.{fraction_of};
@@ -17,6 +17,7 @@ pub struct Charge {
 }
 
 impl Model for Charge {
+    ghost use Rattle.std.specs.Prelude.{◌≤◌};
     ghost use Rattle.ice_frac.specs.Lowest.{IsLowest};
     ghost use Rattle.ice_journal.specs.Lines.{fraction_of};
     ghost use Rattle.ice_journal_laws.specs.Fields.{Closing};
@@ -25,7 +26,8 @@ impl Model for Charge {
 
     ghost view = { λ c. record { cut = fraction_of c.cut; surplus = fraction_of c.surplus } };
 
-    ghost invariant = { λ c. IsLowest (fraction_of c.cut) × IsLowest (fraction_of c.surplus) };
+    ghost invariant = { λ c. IsLowest (fraction_of c.cut) × IsLowest (fraction_of c.surplus)
+        × (c.cut.den ≤ 1000) };
 
     ghost inverse = { λ v. record {
       cut = record { num = v.cut.num; den = v.cut.den };
@@ -56,10 +58,11 @@ impl Charge {
         Charge { cut, surplus }
     }
 
-    /// The cut.
-    pub(crate) fn cut(&self) -> LowestFraction
+    /// The cut, over a denominator of at most 1,000.
+    pub fn cut(&self) -> LowestFraction
         ensures value { fraction_of result ≡ self.now.cut }
         ensures proper { 0 < result.den }
+        ensures few { result.den ≤ 1000 }
     {
         self.cut
     }

@@ -20,3 +20,5 @@ pub mod Placing
 pub mod Reading
 -- what the stages of the checker stand for, behind the exchange and at the end
 pub mod Staged
+-- a journal that has not ended leaves no session
+pub mod Leaving

@@ -8,3 +8,4 @@ pub mod Groups
 pub mod Taking
 pub mod Due
 pub mod Checking
+pub mod Closed

@@ -1,12 +1,14 @@
 //! The checker, which takes one record at a time.
-ghost use Rattle.std.specs.Prelude.{◌≡◌, ◌<◌, ◌^◌, ◌↔◌, suc, length, IsTrue, IfSome, OnOk, OnErr, IsOk};
+ghost use Rattle.std.specs.Prelude.{◌≡◌, ◌<◌, ◌^◌, ◌↔◌, suc, length, IsTrue, IfSome, IfOk, OnOk, OnErr, IsOk};
 ghost use Rattle.ice_journal.specs.Lines.{record_of};
 ghost use Rattle.ice_journal.specs.Ranges.{IsRecord};
 ghost use Rattle.ice_journal_laws.specs.Progress.{Progress, nothing, out_of_memory, is_ready};
 ghost use Rattle.ice_journal_laws.specs.Answers.{EndsWith};
 ghost use Rattle.ice_check_records.specs.Checking.{HasCome, ComesTo, is_ready_checker};
 ghost use Rattle.ice_check_records.specs.Due.{awaits_prices, TellsDue};
+ghost use Rattle.ice_check_records.specs.Closed.{TellsClosed};
 
+use crate::closed::ClosedSession;
 use crate::due::DueRegret;
 use crate::stage::Stage;
 use ice_journal::Line;
@@ -115,9 +117,29 @@ impl Checker {
 
     /// What the tests find, where the records taken so far are the whole journal. It wants no
     /// memory.
+    pub fn answer(&self) -> Result<Answer, CheckEnd>
+        ensures { (p : Progress) → HasCome self.now p → EndsWith p result }
+    {
+        self.stage.answer(self.next_line)
+    }
+
+    /// What the tests find, as `answer`.
     pub fn finish(self) -> Result<Answer, CheckEnd>
         ensures { (p : Progress) → HasCome self p → EndsWith p result }
     {
-        self.stage.answer(self.next_line)
+        self.answer()
+    }
+
+    /// The session that the records taken so far are, and None exactly where they are none that has
+    /// closed or a test has failed.
+    pub fn into_session(self) -> Result<Option<ClosedSession>, AllocError>
+        ensures { IfOk result (λ found. (p : Progress) → HasCome self p → TellsClosed found p) }
+    {
+        let Checker {
+            alloc,
+            next_line: _,
+            stage,
+        } = self;
+        stage.into_session(alloc)
     }
 }

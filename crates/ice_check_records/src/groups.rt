@@ -1,5 +1,5 @@
 //! What stands behind the exchange of a journal: its groups, and what comes after them.
-ghost use Rattle.std.specs.Prelude.{IfOk};
+ghost use Rattle.std.specs.Prelude.{◌≡◌, IfOk};
 ghost use Rattle.ice_journal.specs.Lines.{record_of};
 ghost use Rattle.ice_journal.specs.Ranges.{IsRecord};
 ghost use Rattle.ice_check_records.specs.Groups.{AreKept, IsReady};
@@ -99,6 +99,29 @@ impl Groups {
             charge: Charge::none(),
             log,
         })
+    }
+
+    /// The exchange, and the final sets.
+    pub(crate) fn into_exchange_and_sets(self) -> (Exchange, Assignment)
+        ensures exchange { result.0 ≡ self.stated.exchange }
+        ensures sets { result.1 ≡ self.final_sets }
+    {
+        let Groups {
+            head: _,
+            next: _,
+            stated,
+            value: _,
+            number: _,
+            final_sets,
+            final_value: _,
+            rival: _,
+            regret: _,
+            offer: _,
+            withouts: _,
+            charge: _,
+            log: _,
+        } = self;
+        (stated.into_exchange(), final_sets)
     }
 
     /// Takes the next record, or tells the first test that fails; then it is of no more use. Takes

@@ -3,6 +3,7 @@
 #![tactic(auto)]
 
 mod checker;
+mod closed;
 mod closing;
 mod describing;
 mod due;
@@ -21,6 +22,7 @@ mod stated;
 mod steps_in;
 
 pub use checker::Checker;
+pub use closed::ClosedSession;
 pub use due::DueRegret;
 pub use ice_journal_laws::{Answer, CheckEnd, Rule};
 pub use lines::amount_in;

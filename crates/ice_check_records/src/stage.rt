@@ -1,5 +1,5 @@
 //! How far the records of a journal have come.
-ghost use Rattle.std.specs.Prelude.{◌≡◌, ℕ, suc, false, length, IsTrue, IfSome, OnOk, OnErr, IsOk};
+ghost use Rattle.std.specs.Prelude.{◌≡◌, ℕ, suc, false, length, IsTrue, IfSome, IfOk, OnOk, OnErr, IsOk};
 ghost use Rattle.ice_journal.specs.Lines.{record_of};
 ghost use Rattle.ice_journal.specs.Ranges.{IsRecord};
 ghost use Rattle.ice_journal_laws.specs.Progress.{Progress};
@@ -7,7 +7,9 @@ ghost use Rattle.ice_journal_laws.specs.Answers.{EndsWith};
 ghost use Rattle.ice_check_records.specs.Stages.{IsProgress, is_ready_stage, IsAtLine, IsKept, LeadsOn, TakesFurther, failed_stage};
 ghost use Rattle.ice_check_records.specs.Taking.{failure_at};
 ghost use Rattle.ice_check_records.specs.Due.{awaits_prices, TellsDue};
+ghost use Rattle.ice_check_records.specs.Closed.{TellsClosed};
 
+use crate::closed::ClosedSession;
 use crate::describing::{begin, describe};
 use crate::due::DueRegret;
 use crate::groups::Groups;
@@ -135,6 +137,18 @@ impl Stage {
                 rule: *rule,
             }),
             Stage::OutOfMemory => Err(CheckEnd::NoMemory),
+        }
+    }
+
+    /// The session, where the journal is one and has closed.
+    pub(crate) fn into_session(self, alloc: Global) -> Result<Option<ClosedSession>, AllocError>
+        requires { IsKept self }
+        ensures { IfOk result (λ found. (n : ℕ) (p : Progress) → IsProgress n self p
+            → TellsClosed found p) }
+    {
+        match self {
+            Stage::Behind(groups) => Box::into_inner(groups).into_session(alloc),
+            _ => Ok(None),
         }
     }
 

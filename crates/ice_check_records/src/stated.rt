@@ -138,6 +138,18 @@ impl Stated {
         self.taken = 0;
     }
 
+    /// The exchange, without the sets.
+    pub(crate) fn into_exchange(self) -> Exchange
+        ensures { result ≡ self.exchange }
+    {
+        let Stated {
+            exchange,
+            sets: _,
+            taken: _,
+        } = self;
+        exchange
+    }
+
     /// Hands over the sets, of which each bidder has one, for room for new ones.
     pub(crate) fn hand_over(&mut self, sets: &mut Assignment)
         requires full { length self.old.sets ≡ length (trees_of self.old.exchange) }

@@ -7,4 +7,4 @@ use Rattle.ice_check_charge.proofs.charge.Charge.none.Goals as goal
 pub invariant_of-result : goal.invariant_of-result
 invariant_of-result c =
     let lowest : IsLowest (whole (pos 0)) = record { num_fits = omega arith; positive = omega arith; den_fits = omega arith; coprime = gcd_one 0 } in
-    (lowest, lowest)
+    (lowest, lowest, omega arith)
