@@ -32,7 +32,7 @@ use Rattle.ice_last_laws.specs.Last.{paid_of, paid_after, paid_from, payments_sa
 
 -- ---- payments that are said
 
-paid_append : (before : List Payment) (xs ys : List Record) → paid_from before (xs ++ ys) ≡ paid_from (paid_from before xs) ys
+pub paid_append : (before : List Payment) (xs ys : List Record) → paid_from before (xs ++ ys) ≡ paid_from (paid_from before xs) ys
 paid_append before [] ys = refl
 paid_append before (r ∷ xs) ys = paid_append (paid_after before r) xs ys
 
@@ -50,7 +50,7 @@ settlements_said : (before : List Payment) (number : ℕ) (going : List Going) (
 settlements_said before number [] c = closed_said before number c
 settlements_said before number (g ∷ later) c = paid_append before (going_records number g) (settlement_records (suc number) later c) ∙ settlements_said (paid_from before (going_records number g)) (suc number) later c
 
-session_said : (x : Session) → payments_said (session_records x) ≡ x.closed.payments
+pub session_said : (x : Session) → payments_said (session_records x) ≡ x.closed.payments
 session_said x =
     paid_append [] (line.head version_1 session_kind ∷ section_records x.exchange) (settlement_records 0 x.going x.closed)
     ∙ settlements_said (paid_from [] (section_records x.exchange)) 0 x.going x.closed
@@ -75,6 +75,7 @@ done_is_last journal s records l place kind =
       x,
       is.says,
       is.right,
+      is.exchange,
       is.cut,
       ap (λ (ex : Exchange). paid_of ex (final_bounds x) x.closed.settlement.final.sets (payments_of x.closed)) is.exchange
           ∙ ap (λ (bounds : List Bounds). paid_of (exchange_at s) bounds x.closed.settlement.final.sets (payments_of x.closed)) is.bounds
@@ -128,7 +129,7 @@ closed_of ex n bounds (g ∷ later) c (on, going, rest) = closed_of ex (suc n) (
 pub last_is_paid : LastIsPaid
 last_is_paid journal s records l place kind =
     let (x, is) = done_is_session journal s records l place kind in
-    let (y, says, right, cut, same) = done_is_last journal s records l place kind in
+    let (y, says, right, exchange, cut, same) = done_is_last journal s records l place kind in
     let payments : List Payment = payments_said journal in
     let lawful : AllByRecursion IsFractionField (amounts payments) = all-map IsFractionField (λ (p : Payment). p.payment) payments (said_lawful [] journal records tt) in
     let closed = closed_of x.exchange 0 (opening_bounds x.exchange) x.going x.closed is.right.settlements in
@@ -155,4 +156,5 @@ last_is_paid journal s records l place kind =
             (cut-divides x.closed.cut (fraction_at (amounts payments) b) worth vickrey own (subst (λ (f : Fraction). Equals f (less (whole worth) (cut_down x.closed.cut vickrey))) here equal));
       },
       lawful,
+      sym (ap (λ (sets : Assignment). length sets) is.final) ∙ closed.settled.final.feasible.same_length ∙ ap length trees,
     )

@@ -1,7 +1,8 @@
 -- The last settlement of a closed session, at low bounds, and what its journal says of it.
-use Rattle.std.specs.Prelude.{◌≡◌, List, [], ◌∷◌, ◌++◌, map}
+use Rattle.std.specs.Prelude.{◌≡◌, List, [], ◌∷◌, ◌++◌, length, map}
 use Rattle.std.specs.List.{AllByRecursion}
 use Rattle.ice_defs.specs.Fraction.{Fraction}
+use Rattle.ice_defs.specs.Exchange.{trees_of}
 use Rattle.ice_defs.specs.Session.{Payment, Session}
 use Rattle.ice_defs.specs.Right.{IsRight, final_bounds, payments_of}
 use Rattle.ice_journal.specs.Records.{Record, session_kind}
@@ -41,15 +42,15 @@ amounts payments = map (λ p. p.payment) payments
 
 -- ---- laws
 
--- where the records of a session lead to its end, they state a right session,
--- whose last settlement is that of the end and of the payments that were said
+-- where the records of a session lead to its end, they state a right session of the end's
+-- exchange, whose last settlement is that of the end and of the payments that were said
 abbrev pub DoneIsLast : Type 0
 DoneIsLast = (journal : List Record) (s : State) → AllByRecursion IsRecord journal → Leads nothing journal (passing s) → s.place ≡ done
     → s.kind ≡ session_kind
-    → (x : Session) × Says journal (session_records x) × IsRight x × (x.closed.cut ≡ s.cut)
+    → (x : Session) × Says journal (session_records x) × IsRight x × (x.exchange ≡ exchange_at s) × (x.closed.cut ≡ s.cut)
     × (last_of x ≡ paid_of (exchange_at s) s.bounds s.final.sets (amounts (payments_said journal)))
 
--- its bidders have satisfied sets and pay fractions, each
+-- its bidders have one satisfied set each and pay fractions, each
 -- with a denominator that divides that of the cut
 abbrev pub LastIsPaid : Type 0
 LastIsPaid = (journal : List Record) (s : State) → AllByRecursion IsRecord journal → Leads nothing journal (passing s) → s.place ≡ done
@@ -57,3 +58,4 @@ LastIsPaid = (journal : List Record) (s : State) → AllByRecursion IsRecord jou
     → IsPaidTrade (paid_of (exchange_at s) s.bounds s.final.sets (amounts (payments_said journal)))
     × IsCutDen (paid_of (exchange_at s) s.bounds s.final.sets (amounts (payments_said journal))) s.cut.den
     × AllByRecursion IsFractionField (amounts (payments_said journal))
+    × (length s.final.sets ≡ length (trees_of (exchange_at s)))
