@@ -1,0 +1,5 @@
+pub mod Lasts
+pub mod Ending
+pub mod Watching
+pub mod Reading
+pub mod Laws

@@ -1,0 +1,14 @@
+//! The last settlement of a closed session, from the bytes of its journal, which pass every test of
+//! the checker.
+#![tactic(auto)]
+
+mod ending;
+mod laws;
+mod payments;
+mod reading;
+mod watch;
+
+pub use ending::LastEnd;
+pub use ice_check_records::Rule;
+pub use laws::bytes_have_one_last;
+pub use reading::last;
