@@ -7,3 +7,4 @@ pub mod Passing
 pub mod Paying
 pub mod Keeping
 pub mod Lows
+pub mod Stating

@@ -9,9 +9,10 @@ use Rattle.ice_fair_laws.specs.Whole.{ArePaidOver, IsGreatestGap}
 use Rattle.ice_fair_laws.proofs.Wholes.{test_is_whole, greatest_gap_is_distance}
 use Rattle.ice_fair_laws.proofs.Nearest.{test_gives_fair}
 use Rattle.ice_pricing.specs.Provisional.{ProvisionalTrade}
+use Rattle.ice_fair_stage.specs.Certified.{IsFairLimited}
 use Rattle.ice_fair.specs.Lasts.{LastTrade, trade_of}
 use Rattle.ice_fair.specs.Trades.{num_at, paid_by}
-use Rattle.ice_fair.specs.Tested.{IsFairLimited, IsTested, PassesFairTests, PassesPriceTests, PassesNearness}
+use Rattle.ice_fair.specs.Tested.{IsTested, PassesFairTests, PassesPriceTests, PassesNearness}
 
 module _ (t : PaidTrade) (cut : ℕ) (nums : List ℤ) (proper : IsPaidTrade t) (over : ArePaidOver t cut (num_at nums)) (p : Prices) (positive : 0 < p.den) (g : ℤ) (d : Fraction) (fraction : IsFraction d) where
   abbrev own : PaidTrade

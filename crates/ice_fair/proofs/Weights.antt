@@ -9,7 +9,8 @@ use Rattle.ice_row_laws.specs.Sums.{RowSums, AreSums}
 use Rattle.ice_row_laws.specs.Sizes.{IsSizedWithin}
 use Rattle.ice_pricing.specs.Priced.{IsLimited}
 use Rattle.ice_pricing.specs.Provisional.{ProvisionalTrade}
-use Rattle.ice_fair.specs.Tested.{IsFairLimited, numbers_of}
+use Rattle.ice_fair_stage.specs.Certified.{IsFairLimited}
+use Rattle.ice_fair.specs.Tested.{numbers_of}
 
 total-most : (rows : List Row) → AllByRecursion (λ row. row.weight ≤ 2 ^ 24) rows → sum_by (λ row. row.weight) rows ≤ length rows * 2 ^ 24
 total-most [] fits = omega arith

@@ -4,5 +4,7 @@ pub mod Sides
 pub mod Lasts
 pub mod Kept
 pub mod Found
+pub mod Ends
 pub use Rattle.ice_pricing.specs.Bounding
 pub use Rattle.ice_pricing.specs.Priced
+pub use Rattle.ice_fair_stage.specs.Certified

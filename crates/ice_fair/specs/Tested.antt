@@ -1,5 +1,5 @@
 -- Prices that pass the tests of fair prices.
-use Rattle.std.specs.Prelude.{ℕ, ◌<◌, ◌≤◌, ◌≡◌, ◌^◌, List, length, ℤ}
+use Rattle.std.specs.Prelude.{ℕ, ◌≤◌, List, ℤ}
 use Rattle.std.specs.List.{AllByRecursion}
 use Rattle.ice_defs.specs.Prices.{Prices, ArePrices}
 use Rattle.ice_defs.specs.Fraction.{Fraction}
@@ -9,18 +9,6 @@ use Rattle.ice_pricing.specs.Priced.{HasViolation}
 use Rattle.ice_fair_laws.specs.Fair.{PaidTrade, FairCertificate, IsDistance, HasViolationOf, PassesFairness, total_held}
 use Rattle.ice_fair_laws.specs.Whole.{IsEven}
 use Rattle.ice_fair_laws.specs.Laws.{violation_of}
-
--- a denominator from 1 to 2^24, two numbers a bidder and
--- at most 200 rows of weights, all at most 2^24
-pub record IsFairLimited (bidders : ℕ) (c : FairCertificate) : Type 0 where
-  pub positive : 0 < c.den
-  pub den_fits : c.den ≤ 2 ^ 24
-  pub low_count : length c.low ≡ bidders
-  pub high_count : length c.high ≡ bidders
-  pub low_fits : AllByRecursion (λ n. n ≤ 2 ^ 24) c.low
-  pub high_fits : AllByRecursion (λ n. n ≤ 2 ^ 24) c.high
-  pub few : length c.rows ≤ 200
-  pub weights_fit : AllByRecursion (λ row. row.weight ≤ 2 ^ 24) c.rows
 
 pub record PassesFairTests (t : PaidTrade) (p : Prices) (violation : ℤ) (accuracy : Certificate) (distance : Fraction)
     (c : FairCertificate) : Type 0 where

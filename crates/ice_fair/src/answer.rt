@@ -1,5 +1,5 @@
 //! Fair prices, with what shows them to be fair.
-use crate::certificate::FairCertificate;
+use ice_fair_stage::FairCertificate;
 use ice_frac::Frac;
 use ice_pricing::Certificate;
 use ice_terms::Prices;

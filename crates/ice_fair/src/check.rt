@@ -1,22 +1,23 @@
 //! Whether prices are fair.
 ghost use Rattle.std.specs.Prelude.{◌≡◌, ◌≤◌, ◌^◌, length, IsTrue, pos, ◌≤ℤ◌};
 ghost use Rattle.ice_fair.specs.Found.{PassesAll};
-ghost use Rattle.ice_fair.specs.Tested.{IsFairLimited, PassesNearness, PassesPriceTests};
+ghost use Rattle.ice_fair.specs.Tested.{PassesNearness, PassesPriceTests};
+ghost use Rattle.ice_fair_stage.specs.Certified.{IsFairLimited};
 ghost use Rattle.ice_fair_laws.specs.Fair.{AreFair};
 ghost use Rattle.ice_pricing.specs.Priced.{IsLimited};
 
 use crate::answer::Fair;
-use crate::certificate::FairCertificate;
 use crate::gaps::{Paid, greatest_gap, is_over_both};
 use crate::last::Last;
 use crate::passes::{Priced, passes};
+use ice_fair_stage::FairCertificate;
 use ice_frac::Frac;
 use ice_pricing::{Certificate, Provisional, Scratch, are_lowest, are_within};
 use ice_terms::Prices;
 
 /// Whether prices are within the cap and in lowest common terms, have this violation, and the rows
 /// show them accurate.
-fn are_accurate(
+pub(crate) fn are_accurate(
     trade: &Provisional<'_>,
     prices: &Prices,
     violation: i128,
@@ -41,7 +42,7 @@ fn are_accurate(
 
 /// Whether this is the distance of the prices, and the numbers and rows show that no accurate
 /// prices have a smaller one.
-fn are_nearest(
+pub(crate) fn are_nearest(
     last: &Last,
     prices: &Prices,
     violation: i128,

@@ -152,3 +152,15 @@ pub(crate) fn is_over_both(fraction: &Frac, num: i128, cut: u16, prices: &Prices
         Ordering::Less | Ordering::Greater => false,
     }
 }
+
+/// The greatest size of what a bidder pays less what its own set costs.
+pub(crate) fn distance_of(paid: &Paid<'_>, prices: &Prices) -> Frac
+    requires numbers { AreNumbers paid.now.trade paid.now.cut paid.now.nums.now }
+    requires goods { length prices.now.nums ≡ paid.now.trade.goods }
+{
+    let gap = greatest_gap(paid, prices);
+    let Some(distance) = Frac::new(gap, both_dens(paid.cut, prices)) else {
+        unreachable!()
+    };
+    distance
+}

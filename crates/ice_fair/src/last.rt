@@ -1,5 +1,5 @@
 //! The last settlement of a closed session.
-ghost use Rattle.std.specs.Prelude.{◌≡◌, ◌<◌, ◌≤◌, length, map, IfOk};
+ghost use Rattle.std.specs.Prelude.{◌≡◌, ◌<◌, ◌≤◌, length, map, IfOk, IfErr};
 ghost use Rattle.std.specs.List.{AllByRecursion};
 ghost use Rattle.ice_fair.specs.Lasts.{IsLast, IsShortPayment, last_at, nums_of, trade_of};
 ghost use Rattle.ice_fair.specs.Trades.{num_at, AreNumbers};
@@ -8,10 +8,12 @@ ghost use Rattle.ice_fair_laws.specs.Fair.{paid_of};
 ghost use Rattle.ice_fair_laws.specs.Laws.{IsPaidTrade};
 ghost use Rattle.ice_fair_laws.specs.Run.{IsCutDen};
 ghost use Rattle.ice_fair_laws.specs.Whole.{ArePaidOver};
+ghost use Rattle.ice_price.specs.Ends.{IsPriced, IsPriceEnd};
 ghost use Rattle.ice_pricing.specs.Bounding.{AreBoundsOf};
 
 use crate::low::low_bounds;
 use ice_frac::Frac;
+use ice_price::{PriceEnd, Pricing, price};
 use ice_pricing::{Provisional, weighted_values};
 use ice_trade::Exchange;
 use ice_tree::{AllWeights, Assignment, Bounds};
@@ -170,5 +172,21 @@ impl Last {
         ensures over { ArePaidOver self.now.paid self.now.cut (num_at result.now) }
     {
         &self.nums
+    }
+
+    /// What each bidder pays, in lowest terms.
+    pub fn payments(&self) -> &[Frac]
+        ensures value { result.now ≡ self.now.paid.payments }
+        ensures lawful { IsLast self.now }
+    {
+        &self.payments
+    }
+
+    /// Accurate and balanced prices for the final sets at the low bounds.
+    pub(crate) fn price(&self, alloc: Global) -> Result<Pricing, PriceEnd>
+        ensures priced { IfOk result (IsPriced (trade_of self.now.paid)) }
+        ensures ended { IfErr result (IsPriceEnd (trade_of self.now.paid)) }
+    {
+        price(alloc, &self.exchange, &self.bounds, &self.sets)
     }
 }

@@ -3,16 +3,20 @@
 #![tactic(auto)]
 
 mod answer;
-mod certificate;
 mod check;
+mod ends;
 mod even;
+mod finding;
 mod gaps;
 mod held;
 mod last;
+mod limits;
 mod low;
 mod passes;
 
 pub use answer::Fair;
-pub use certificate::FairCertificate;
 pub use check::check_fair;
+pub use ends::FairEnd;
+pub use finding::fair;
+pub use ice_fair_stage::{FairCertificate, FairLimit};
 pub use last::Last;

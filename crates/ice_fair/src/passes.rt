@@ -2,7 +2,8 @@
 ghost use Rattle.std.specs.Prelude.{◌≡◌, ◌<◌, ◌≤◌, ◌+◌, ◌^◌, IsTrue, length, sum_by, pos, ◌≤ℤ◌, ◌*ℤ◌};
 ghost use Rattle.ice_row_laws.specs.Sizes.{IsSizedWithin};
 ghost use Rattle.std.specs.List.{AllByRecursion};
-ghost use Rattle.ice_fair.specs.Tested.{IsFairLimited, IsTested, numbers_of};
+ghost use Rattle.ice_fair.specs.Tested.{IsTested, numbers_of};
+ghost use Rattle.ice_fair_stage.specs.Certified.{IsFairLimited};
 ghost use Rattle.ice_fair.specs.Trades.{num_at, paid_by, AreNumbers, SumsAreEven};
 
 use crate::even::{Amounts, Dens, is_even};

@@ -8,6 +8,7 @@ use std::alloc::AllocError;
 use thiserror::Error;
 
 /// Fair prices as the stage ends with them, with what shows them to be fair.
+#[derive(Drop)]
 pub struct FairStageEnd {
     /// The sets whose rows the last program had.
     pub pool: Vec<PoolMember>,
@@ -19,19 +20,6 @@ pub struct FairStageEnd {
     pub distance: Frac,
     /// What shows that no prices of this violation have a smaller distance.
     pub certificate: FairCertificate,
-}
-
-// By hand, so that each exit that drops one has one call to prove, and not all its parts.
-impl Drop for FairStageEnd {
-    fn drop(self) {
-        let FairStageEnd {
-            pool: _,
-            prices: _,
-            violation: _,
-            distance: _,
-            certificate: _,
-        } = self;
-    }
 }
 
 /// Where the fairness stage stood when it ended at a limit.
