@@ -8,6 +8,7 @@ from pathlib import Path
 from typing import NoReturn
 
 from .checker import PROGRAM, Answer, Checker
+from .fair_file import read_fair
 from .journal import BadJournal, Journal, Lines
 from .page import whole_page
 from .statement import read_file
@@ -15,8 +16,9 @@ from .view import View
 
 WRITTEN, BAD_WORDS, NO_JOURNAL, UNREAD, UNWRITTEN = 0, 1, 2, 6, 7
 STATUSES = (
-    "status: 0 the page is written, 1 the words are wrong, 2 the file is no journal "
-    "(standard error names the line), 6 it could not be read, 7 the page could not be written"
+    "status: 0 the page is written, 1 the words are wrong, 2 the file is no journal, or has no "
+    "fair prices of it (standard error names the line), 6 a file could not be read, 7 the page "
+    "could not be written"
 )
 
 
@@ -79,6 +81,12 @@ def words() -> Words:
         metavar="N",
         type=int,
         help="with --bidder: its sets in this round, if not in the one that is awaited",
+    )
+    parser.add_argument(
+        "--fair",
+        metavar="FILE",
+        help="fair prices of a closed session, which ice fair JOURNAL writes, to show beside the "
+        "payments",
     )
     return parser
 
@@ -148,15 +156,21 @@ def main(arguments: list[str] | None = None) -> int:
         parser.error("--round goes with --bidder")
     if options.page and is_same(options.journal, options.page):
         parser.error("the page would overwrite the journal")
+    if options.page and options.fair and is_same(options.fair, options.page):
+        parser.error("the page would overwrite the fair prices")
     source = "standard input" if options.journal == "-" else os.path.basename(options.journal)
+    name, fair = options.journal, None
     try:
         journal, answer = read(options)
         bidder = number_of(journal, options.bidder)
+        if options.fair is not None:
+            name = options.fair
+            fair = read_fair(name, journal)
     except BadJournal as fault:
-        print(f"ice-page: {options.journal}: {fault}", file=sys.stderr)
+        print(f"ice-page: {name}: {fault}", file=sys.stderr)
         return NO_JOURNAL
     except OSError as fault:
-        print(f"ice-page: {fault.filename or options.journal}: {fault.strerror}", file=sys.stderr)
+        print(f"ice-page: {fault.filename or name}: {fault.strerror}", file=sys.stderr)
         return UNREAD
     view = View(
         journal,
@@ -169,6 +183,7 @@ def main(arguments: list[str] | None = None) -> int:
         date=options.date,
         program=options.made_by,
         digest=options.digest,
+        fair=fair,
     )
     try:
         page = whole_page(view)

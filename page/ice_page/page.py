@@ -7,6 +7,7 @@ from . import numbers
 from .answer import answer_section
 from .certificates import certificates_section
 from .course import course_section
+from .fair import fair_section
 from .markup import key, tag, text
 from .own import bids_section, nets_section
 from .trees import trees_section
@@ -53,6 +54,7 @@ def whole_page(view: View) -> str:
     )
     sections = (
         answer_section(view),
+        fair_section(view),
         nets_section(view),
         bids_section(view),
         course_section(view) + tries_part(view),

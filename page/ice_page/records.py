@@ -120,6 +120,7 @@ TOTAL, REGRET, VICKREY = (
 MULTIPLIER = whole(-(2**56), 2**56)
 VIOLATION, DENOMINATOR = whole(0, 2**100), whole(1, 2**32)
 FRACTION = Field(f"{whole(-10**18, 10**18).pattern}/{whole(1, 1000).pattern}", lowest)
+HELD, HELD_MOST = whole(0, 2**24), whole(1, 2**24)
 STAGE, KIND = one_of("accuracy", "balance"), one_of("wide", "pivots", "rows", "den")
 ENDS = one_of("assign", "exchange", "prices", "regret", "closed", "open", "spent", "limit")
 
@@ -200,11 +201,17 @@ STATEMENT_FORMS = (
     Form("offered BITS", BITS),
     Form("end statement"),
 )
-ALL_HEADS = FORMS | {form.head: form for form in STATEMENT_FORMS}
+FAIR_FORMS = (
+    Form("distance N/D", Field(f"{whole(0, 2**127).pattern}/{whole(1, 2**48).pattern}", lowest)),
+    Form("fairness D", HELD_MOST),
+    Form("hold B LOW HIGH", BIDDER, HELD, HELD),
+    Form("end fair"),
+)
+ALL_HEADS = FORMS | {form.head: form for form in (*STATEMENT_FORMS, *FAIR_FORMS)}
 
 
 def read_record(line: str) -> Record:
-    """The record, or the line of a statement alone, that the line is; Misspelt where it is none."""
+    """The record, or the line of a statement or of fair prices, that the line is, else Misspelt."""
     words = line.split(" ", 2)
     form = ALL_HEADS.get(" ".join(words[:2])) or ALL_HEADS.get(words[0])
     if form is None:

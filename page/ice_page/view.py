@@ -5,6 +5,7 @@ from dataclasses import dataclass
 from functools import cached_property
 
 from .checker import Answer, total, worths
+from .fair_file import FairPrices
 from .journal import Journal
 from .markup import text
 
@@ -28,6 +29,7 @@ class View:
     date: str = ""
     program: str = ""
     digest: str = ""
+    fair: FairPrices | None = None
 
     @property
     def alone(self) -> bool:
