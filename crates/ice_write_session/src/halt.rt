@@ -118,8 +118,8 @@ fn put_member<K: Sink>(member: &PoolMember, out: &mut K) -> Result<(), SinkFault
     put_record(&line, out)
 }
 
-/// Puts a pool.
-fn put_pool<K: Sink>(pool: &[PoolMember], out: &mut K) -> Result<(), SinkFault>
+/// Puts the `pool` records of sets, whose numbers are in their ranges. It takes no memory.
+pub fn put_pool<K: Sink>(pool: &[PoolMember], out: &mut K) -> Result<(), SinkFault>
     requires { AllByRecursion IsWritableMember pool.now }
     ensures { IsPut (bytes_of (map member_record pool.now)) result
         (K.taken out.old) (K.taken out.new) }

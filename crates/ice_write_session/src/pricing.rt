@@ -16,8 +16,8 @@ use ice_pricing::{Certificate, CertificateRow, Pricing};
 use ice_terms::Prices;
 use ice_write::put_record;
 
-/// Puts the prices.
-fn put_prices<K: Sink>(prices: &Prices, out: &mut K) -> Result<(), SinkFault>
+/// Puts the `prices` record. It takes no memory.
+pub fn put_prices<K: Sink>(prices: &Prices, out: &mut K) -> Result<(), SinkFault>
     ensures { IsPut (bytes_of (line.prices prices.now ∷ [])) result
         (K.taken out.old) (K.taken out.new) }
 {
@@ -51,8 +51,8 @@ fn put_each_row<K: Sink>(rows: &[CertificateRow], out: &mut K) -> Result<(), Sin
     Ok(())
 }
 
-/// Puts the rows of a certificate.
-fn put_rows<K: Sink>(certificate: &Certificate, out: &mut K) -> Result<(), SinkFault>
+/// Puts the `row` records of a certificate, whose numbers are in their ranges. It takes no memory.
+pub fn put_rows<K: Sink>(certificate: &Certificate, out: &mut K) -> Result<(), SinkFault>
     requires { AllByRecursion IsWritableRow certificate.now.rows }
     ensures { IsPut (bytes_of (map row_record certificate.now.rows)) result
         (K.taken out.old) (K.taken out.new) }

@@ -10,8 +10,8 @@ use ice_edge::{Sink, SinkFault};
 use ice_journal::{EndWord, Line};
 use ice_write::put_record;
 
-/// Puts the line of a record, whose numbers are in their ranges.
-pub(crate) fn put_line<K: Sink>(line: &Line, out: &mut K) -> Result<(), SinkFault>
+/// Puts the line of a record, whose numbers are in their ranges. It takes no memory.
+pub fn put_line<K: Sink>(line: &Line, out: &mut K) -> Result<(), SinkFault>
     requires { IsRecord (record_of line.now) }
     ensures { IsPut (bytes_of (record_of line.now ∷ [])) result
         (K.taken out.old) (K.taken out.new) }
@@ -28,8 +28,8 @@ pub(crate) fn put_settle<K: Sink>(number: u8, out: &mut K) -> Result<(), SinkFau
     put_line(&Line::Settle { number }, out)
 }
 
-/// Puts the end of a journal.
-pub(crate) fn put_end<K: Sink>(word: EndWord, out: &mut K) -> Result<(), SinkFault>
+/// Puts the `end` record with this word. It takes no memory.
+pub fn put_end<K: Sink>(word: EndWord, out: &mut K) -> Result<(), SinkFault>
     ensures { IsPut (bytes_of (line.end (end_of word) ∷ [])) result
         (K.taken out.old) (K.taken out.new) }
 {
