@@ -1,0 +1,2 @@
+-- the numbers of bidders, one after another
+pub mod Holding
