@@ -28,3 +28,7 @@ pub mod Migrating
 pub mod Stating
 -- what `audit` answers
 pub mod Auditing
+-- what is found of a last settlement may be written
+pub mod FairWritable
+-- what `fair` answers
+pub mod Fairing

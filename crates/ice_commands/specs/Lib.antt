@@ -22,3 +22,5 @@ pub mod StatementServed
 pub mod StatementParts
 pub mod AuditServed
 pub mod AuditParts
+pub mod FairServed
+pub mod FairParts

@@ -8,6 +8,8 @@ pub mod best;
 mod best_lines;
 mod best_set;
 pub mod check;
+pub mod fair;
+mod fair_prices;
 mod files;
 pub mod migrate;
 mod refusal;

@@ -1,0 +1,39 @@
+-- What `fair` finds in its file, and what it says of a last settlement.
+use Rattle.std.specs.Prelude.{◌≡◌, ℕ, List, [], Err}
+use Rattle.ice_edge.specs.declared.status.Status.{Status}
+use Rattle.ice_edge.specs.declared.status.Status.TheVariants.{Done, Limit, NoMemory}
+use Rattle.ice_edge.specs.Taken.{Taken}
+use Rattle.ice_defs.specs.Exchange.{trees_of}
+use Rattle.ice_journal_laws.specs.Checks.{Failure}
+use Rattle.ice_fair.specs.Lasts.{LastTrade}
+use Rattle.ice_last.specs.declared.ending.LastEnd.{LastEnd}
+use Rattle.ice_last.specs.declared.ending.LastEnd.TheVariants as ending
+use Rattle.ice_last.specs.Lasts.{LastsBytes}
+use Rattle.ice_commands.specs.declared.unwritten.Unwritten.{Unwritten}
+use Rattle.ice_commands.specs.declared.unwritten.Unwritten.TheVariants.{Fails, Refused}
+use Rattle.ice_commands.specs.FairServed.{IsLastEnd, SaysFair, SaysLimit}
+use Rattle.ice_commands.specs.Parts.{IsSaid}
+use Rattle.ice_commands.specs.Refusals.{IsFaultOf}
+
+-- why there is no last settlement, in the words of `Unwritten`
+abbrev pub TellsEnd : LastEnd → Unwritten → Type 0
+TellsEnd end (Fails line rule) = end ≡ ending.No line rule
+TellsEnd end (Refused refusal) = IsFaultOf 1 (IsLastEnd end) refusal
+
+-- bytes of a session journal that fails this test first
+abbrev pub AreFailing : Failure → List ℕ → Type 0
+AreFailing failure bytes = LastsBytes bytes (Err (ending.No failure.line failure.rule))
+
+-- the bidders' trees are those of the exchange
+abbrev pub HasItsTrees : LastTrade → Type 0
+HasItsTrees last = last.paid.trees ≡ trees_of last.exchange
+
+abbrev pub IsAnswerTo : LastTrade → List ℕ → Status → Type 0
+IsAnswerTo last text Done = SaysFair last text
+IsAnswerTo last text Limit = SaysLimit last text
+IsAnswerTo last text NoMemory = text ≡ []
+IsAnswerTo last text other = ⊥
+
+-- an answer is said of the last settlement
+abbrev pub IsFairSaid : LastTrade → Taken → Taken → Status → Type 0
+IsFairSaid last old new result = (text : List ℕ) × (status : Status) × IsAnswerTo last text status × IsSaid text status old new result
