@@ -10,7 +10,7 @@ use Rattle.ice_journal_laws.specs.declared.answer.CheckEnd.TheVariants as ending
 use Rattle.ice_journal_laws.specs.Answers.{AnswersBytes}
 use Rattle.ice_journal_laws.proofs.Answered.{one_answer_of_bytes}
 use Rattle.ice_commands.specs.Call.{Call, IsTold, journal_limit, OfTold, too_long, at_fault}
-use Rattle.ice_cli.specs.Command.{check, best, regret, xor, run, gen, migrate, simulate, IsCommand, replay, statement, audit}
+use Rattle.ice_cli.specs.Command.{check, best, regret, xor, run, gen, migrate, simulate, IsCommand, replay, statement, audit, fair}
 use Rattle.ice_commands.specs.CheckServed.{IsEndFault, CheckAnswers, WritesAnswer, answer_line, answer_status, other_kind}
 use Rattle.ice_commands.specs.Output.{refused_line}
 use Rattle.ice_cli.specs.Served.{IsServed, no_command, answers, cut_short}
@@ -53,6 +53,9 @@ check_answers call journal (answers (statement name bidder) other answer) is fau
 check_answers call journal (answers (audit file) other answer) is faultless =
     let letters : 97 ≡ 99 = ap (λ (words : List (List ℕ)). get_or (get_or words 0 []) 0 0) (sym other.1 ∙ is.1) in
     absurd (omega (arith, letters))
+check_answers call journal (answers (fair name) other answer) is faultless =
+    let lengths : 4 ≡ 5 = ap (λ (words : List (List ℕ)). length (get_or words 0 [])) (sym other.1 ∙ is.1) in
+    absurd (omega (arith, lengths))
 check_answers call journal (cut_short text status failed rose served front) is faultless = absurd (faultless.writes rose)
 
 -- ---- the status

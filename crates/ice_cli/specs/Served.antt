@@ -3,7 +3,7 @@ use Rattle.std.specs.Prelude.{◌≡◌, ℕ, List}
 use Rattle.ice_edge.specs.declared.status.Status.{Status}
 use Rattle.ice_edge.specs.declared.status.Status.TheVariants.{Words, WriteFault}
 use Rattle.ice_cli.specs.Command.{Command, check, best, regret, xor, run, gen, migrate, simulate, IsCommand, IsNoCommand, replay, statement}
-use Rattle.ice_cli.specs.Command.{audit}
+use Rattle.ice_cli.specs.Command.{audit, fair}
 use Rattle.ice_commands.specs.Call.{Call, SinkFaultRose, IsPrefix}
 use Rattle.ice_commands.specs.Output.{words_line}
 use Rattle.ice_commands.specs.CheckServed.{CheckAnswers}
@@ -17,6 +17,7 @@ use Rattle.ice_session_commands.specs.GenServed.{GenAnswers}
 use Rattle.ice_commands.specs.MigrateServed.{MigrateAnswers}
 use Rattle.ice_commands.specs.StatementServed.{StatementAnswers}
 use Rattle.ice_commands.specs.AuditServed.{AuditAnswers}
+use Rattle.ice_commands.specs.FairServed.{FairAnswers}
 
 -- the words are none of the forms; no file is fetched, so all
 -- that the shelf tells is the same, each count among it
@@ -38,6 +39,7 @@ CommandAnswers call (migrate journal) = MigrateAnswers call journal call.status
 CommandAnswers call (simulate exchange truths) = SimulateAnswers call exchange truths call.status
 CommandAnswers call (statement journal name) = StatementAnswers call journal name call.status
 CommandAnswers call (audit file) = AuditAnswers call file call.status
+CommandAnswers call (fair journal) = FairAnswers call journal call.status
 
 -- the call refuses its words, or answers the command that they are; or
 -- the sink failed, and what it took is the front of such an answer

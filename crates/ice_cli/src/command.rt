@@ -58,6 +58,10 @@ pub enum Command<'a> {
     Audit {
         file: &'a str,
     },
+    /// `fair JOURNAL`
+    Fair {
+        journal: &'a str,
+    },
 }
 
 /// The word, where there is no other.
@@ -184,6 +188,10 @@ pub fn command_in(words: &[String]) -> Option<Command<'_>>
         "audit" => {
             let file = one_word(names)?;
             Some(Command::Audit { file })
+        }
+        "fair" => {
+            let journal = one_word(names)?;
+            Some(Command::Fair { journal })
         }
         _ => None,
     }
