@@ -196,7 +196,7 @@ wrong_words() {
     done
     case ${words[0]-} in
     '') echo "there is no command" ;;
-    check | regret | migrate | xor | audit) echo "\`${words[0]}\` takes one file, and $count words stand behind it" ;;
+    check | regret | migrate | xor | audit | fair) echo "\`${words[0]}\` takes one file, and $count words stand behind it" ;;
     best) echo "\`best\` takes an exchange and prices, and $count words stand behind it" ;;
     simulate) echo "\`simulate\` takes an exchange and true values, and $count words stand behind it" ;;
     run)
@@ -273,7 +273,13 @@ describe() {
         fi
         ;;
     4) spent ;;
-    5) echo "the pricing came to a limit: no prices are offered" ;;
+    5)
+        if [ "${words[0]}" = fair ]; then
+            echo "the search for fair prices came to a limit: none are told"
+        else
+            echo "the pricing came to a limit: no prices are offered"
+        fi
+        ;;
     6) unread ;;
     7) echo "standard output failed: what was written is a front of the answer, or nothing" ;;
     8) echo "want of memory: free some, and run it again" ;;

@@ -65,6 +65,7 @@ class Words(unittest.TestCase):
         spent = "settle 0\nspent 50 65\nset 1\nend spent\n"
         self.assertEqual(self.told(spent, 4, "run", "m"), "the branches of the settings are used up: what was found is worth 50, and nothing is worth more than 65")
         self.assertEqual(self.told("limit accuracy rows 0 1\nend limit\n", 5, "run", "m"), "the pricing came to a limit: no prices are offered")
+        self.assertEqual(self.told("limit fairness den 0 1\nend limit\n", 5, "fair", "m"), "the search for fair prices came to a limit: none are told")
 
     def test_simulations(self):
         self.assertEqual(self.told(CLOSED, 0, "simulate", "m", "t"), "closed after round 1: regret 0, surplus 1/3")
@@ -153,6 +154,7 @@ class Words(unittest.TestCase):
             ("gen", "07"): "`gen` takes a number from 0 to 4294967295, with no sign and no leading zero, and not 07",
             ("replay", "j", "21"): "`replay` takes a settlement from 0 to 20, with no sign and no leading zero, and not 21",
             ("audit",): "`audit` takes one file, and 0 words stand behind it",
+            ("fair", "m", "0"): "`fair` takes one file, and 2 words stand behind it",
             ("simulate", "m"): "`simulate` takes an exchange and true values, and 1 words stand behind it",
             ("statement", "j"): "`statement` takes a journal and the name of a bidder, and 1 words stand behind it",
             ("run",): "`run` takes an exchange, and no file is named",

@@ -53,6 +53,8 @@ CALLS = {
         Call("migrate", "migrate @sale.session"),
         Call("statement", "statement @rounds.session b"),
         Call("audit", "audit @buyer.statement"),
+        Call("fair", "fair @lump-sold.session"),
+        Call("fair, at a limit", "fair @pinned.session"),
         Call("best", "best @sale.json @fifteen.prices"),
         Call("xor", "xor @sales.json"),
         Call("gen", "gen 7"),

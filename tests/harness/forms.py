@@ -38,11 +38,23 @@ DONE = {
     "migrate": "end (regret|closed|open|spent|limit)|unread [0-9]+|" + REFUSED,
     "statement": "end statement",
     "audit": rf"yes {FRACTION}",
+    "fair": "end fair",
 }
 BEST = rf"(best {NAME} {NUMBER}\nset [01]+\n)+end best\n"
 REPLAY = (
     rf"settle {NUMBER}\n(bounds {NAME}( {NUMBER})+\n)+final {NUMBER}\nregret {NUMBER}\n"
     rf"(prices( {NUMBER})+\n)?end replay\n"
+)
+
+ROWS = rf"(row {NUMBER} {NUMBER} [01]+\n)*"
+FAIR = (
+    rf"prices( {NUMBER})+\naccuracy {NUMBER} {NUMBER}\n{ROWS}distance {FRACTION}\n"
+    rf"fairness {NUMBER}\n(hold {NUMBER} {NUMBER} {NUMBER}\n)*{ROWS}end fair\n"
+)
+STAGE = r"accuracy|balance|fairness"
+FAIR_LIMIT = (
+    rf"limit ({STAGE}) (wide|pivots|rows|den) {NUMBER} {NUMBER}\n"
+    rf"(pool {NUMBER} [01]+\n)*end limit\n"
 )
 
 # The statuses that a command may end with, where its words are in order and its files are read.
@@ -52,6 +64,7 @@ STATUSES = {
     "migrate": {program.DONE, program.INPUT, program.NO},
     "statement": {program.DONE, program.INPUT, program.NO},
     "audit": {program.DONE, program.INPUT, program.NO},
+    "fair": {program.DONE, program.INPUT, program.NO, program.LIMIT},
     "best": {program.DONE, program.INPUT},
     "xor": {program.DONE, program.INPUT},
     "regret": {program.DONE, program.INPUT, program.SPENT},
@@ -81,6 +94,7 @@ WHOLE: dict[str, Callable[[str], object]] = {
     "migrate": lambda text: text.startswith("ice 2 "),
     "statement": lambda text: text.startswith("statement "),
     "audit": lambda text: text.count("\n") == 1,
+    "fair": lambda text: re.fullmatch(f"{FAIR}|{FAIR_LIMIT}", text),
     "gen": lambda text: text.count("\n") == 10,
 }
 
