@@ -68,19 +68,18 @@ pub(crate) fn follow(
     table: &mut Table,
     offers: &mut [Offer; 200],
     node: u16,
-    parent: u16,
     more: i128,
 ) -> i128
     requires tree { IsTree tree.now }
     requires few { length tree.now ≤ 200 }
     requires node { node < length tree.now }
     requires inner { 0 < node }
-    requires parent { parent ≡ parent_of tree.now node }
     requires weights { length weights.now ≡ length tree.now }
     requires fixing { length fixing.now ≡ length tree.now }
     requires followed { IsFollowed tree.now weights.now fixing.now table.old node more }
-    ensures { IsFollowed tree.now weights.now fixing.now table.new parent result }
+    ensures { IsFollowed tree.now weights.now fixing.now table.new (parent_of tree.now node) result }
 {
+    let parent = tree.parent(node);
     if !table.possible[parent as usize] {
         return 0;
     }

@@ -142,18 +142,8 @@ impl Table {
         let mut at = node;
         let mut more = weigh(tree, weights, fixing, self, node, before);
         while 0 < at && more != 0 {
-            let parent = tree.parent(at);
-            more = follow(
-                tree,
-                weights,
-                fixing,
-                self,
-                &mut scratch.offers,
-                at,
-                parent,
-                more,
-            );
-            at = parent;
+            more = follow(tree, weights, fixing, self, &mut scratch.offers, at, more);
+            at = tree.parent(at);
         }
     }
 
