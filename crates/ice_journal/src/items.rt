@@ -1,8 +1,6 @@
 //! The words and numbers of single fields, read.
-ghost use Rattle.std.specs.Prelude.{◌≡◌, ◌-◌, ◌^◌, pos, neg_ℤ, option_map};
+ghost use Rattle.std.specs.Prelude.{◌-◌, ◌^◌, pos, neg_ℤ, option_map};
 ghost use Rattle.std.specs.Fmt.{signed_decimal};
-ghost use Rattle.std.specs.List.{list_all};
-ghost use Rattle.ice_defs.specs.Name.{is_name_byte};
 ghost use Rattle.ice_defs.specs.Exchange.{IsBetween};
 ghost use Rattle.ice_journal.specs.Reading.{Finds};
 ghost use Rattle.ice_journal.specs.Ranges.{IsPlace, IsBits, IsViolationField, IsStageRecord};
@@ -10,12 +8,12 @@ ghost use Rattle.ice_journal.specs.Spelling.{bits, bit_byte, version_word, kind_
 ghost use Rattle.ice_journal.specs.Lines.{version_of, kind_of, end_of};
 ghost use Rattle.ice_defs.specs.PricingLimit.{stage_of, limit_of};
 
-use crate::line::{EndWord, Kind, LowestFraction, Version};
+use crate::line::{EndWord, Kind, Version};
 use arrayvec::ArrayVec;
 use ice_defs::{LimitKind, PricingStage};
-use ice_line::{Fields, integer, natural, number};
+use ice_line::number;
 use ice_set::NodeSet;
-use ice_terms::Name;
+use ice_terms::all_may_stand_in_name;
 
 /// A version.
 pub fn version(field: &[u8]) -> Option<Version>
@@ -104,23 +102,11 @@ pub fn limit_kind(field: &[u8]) -> Option<LimitKind>
     }
 }
 
-fn may_stand_in_place(byte: u8) -> bool
-    ensures { result ≡ is_name_byte byte }
-{
-    matches!(byte, b'0'..=b'9' | b'A'..=b'Z' | b'a'..=b'z' | b'_' | b'-' | b'.')
-}
-
-fn all_may_stand_in_place(bytes: &[u8]) -> bool
-    ensures { result ≡ list_all is_name_byte bytes.now }
-{
-    bytes.iter().all(|byte| may_stand_in_place(*byte))
-}
-
-/// A place in a file.
+/// A place in a file: 1 to 256 bytes, each of which may stand in a name.
 pub fn file_place(field: &[u8]) -> Option<ArrayVec<u8, 256>>
     ensures { Finds (option_map (λ place. place.items) result) IsPlace (λ place. place) field.now }
 {
-    if field.is_empty() || field.len() > 256 || !all_may_stand_in_place(field) {
+    if field.is_empty() || field.len() > 256 || !all_may_stand_in_name(field) {
         return None;
     }
     let mut place = ArrayVec::new();

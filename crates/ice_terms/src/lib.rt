@@ -7,6 +7,6 @@ mod prices;
 mod settings;
 
 pub use bid::Bid;
-pub use name::Name;
+pub use name::{Name, all_may_stand_in_name};
 pub use prices::Prices;
 pub use settings::Settings;

@@ -27,13 +27,16 @@ impl Model for Name {
     ghost inverse = { λ text. record { bytes = record { items = text } } };
 }
 
+/// Whether the byte may stand in a name: a letter or digit of ASCII, `_`, `-` or `.`.
 fn may_stand_in_name(byte: u8) -> bool
     ensures { result ≡ is_name_byte byte }
 {
     matches!(byte, b'0'..=b'9' | b'A'..=b'Z' | b'a'..=b'z' | b'_' | b'-' | b'.')
 }
 
-fn all_may_stand_in_name(bytes: &[u8]) -> bool
+/// Whether each of the bytes may stand in a name: a letter or digit of ASCII, `_`, `-` or `.`.
+/// There may be none of them.
+pub fn all_may_stand_in_name(bytes: &[u8]) -> bool
     ensures { result ≡ list_all is_name_byte bytes.now }
 {
     bytes.iter().all(|byte| may_stand_in_name(*byte))
