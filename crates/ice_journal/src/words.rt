@@ -6,37 +6,69 @@ ghost use Rattle.ice_journal.specs.Words.{word_text};
 /// The first word of a record.
 #[derive(Clone, Copy)]
 pub enum Word {
+    /// The head: version and kind.
     Ice,
+    /// The settings of a session.
     Settings,
+    /// A good that may be left over.
     Good,
+    /// A good of which all that is sold must be bought.
     Exact,
+    /// A bidder, with what it owns.
     Bidder,
+    /// A node of a tree, with its bounds.
     Node,
+    /// The sets of an assignment follow.
     Assign,
+    /// A settlement begins, with its number.
     Settle,
+    /// The value of the final sets.
     Final,
+    /// The value of the rival sets.
     Rival,
+    /// The value of the provisional sets, in hundredths.
     Provisional,
+    /// The value of the best sets without a bidder.
     Without,
+    /// The set of one bidder.
     Set,
+    /// A side of a log is split at a node of a bidder.
     Branch,
+    /// A side of a log ends at these multipliers.
     Leaf,
+    /// A side of a log ends at a bidder without a set in it.
     Dead,
+    /// A side of a log ends at the multipliers before, with these changes.
     Near,
+    /// The regret.
     Regret,
+    /// Prices over one denominator.
     Prices,
+    /// The first test of prices: its violation, over a denominator.
     Accuracy,
+    /// The second test of prices: its denominator.
     Balance,
+    /// A weighted set of a certificate.
     Row,
+    /// A bid, by its name and its values.
     Submit,
+    /// What the round says of a bid.
     Verdict,
+    /// The cut and the surplus of the payments.
     Threshold,
+    /// What a bidder pays, and why.
     Payment,
+    /// The branches are spent: what was found till then.
     Spent,
+    /// The stage and the limit of pricing that was reached.
     Limit,
+    /// A set of the pool of pricing.
     Pool,
+    /// The last record: how the journal ends.
     End,
+    /// A file that was read and refused, with the place of the fault.
     Refused,
+    /// A file that could not be read.
     Unread,
 }
 
