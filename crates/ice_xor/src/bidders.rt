@@ -26,16 +26,17 @@ use std::marker::Model;
 pub struct FlatBidder {
     pub(crate) name: Name,
     pub(crate) own: ArrayVec<u32, 32>,
-    pub(crate) any: bool,
+    pub(crate) form: Form,
     pub(crate) packages: Vec<Package>,
 }
 
 impl Model for FlatBidder {
     ghost use Rattle.ice_xor.specs.FlatBids as flat;
+    ghost use Rattle.ice_xor.specs.Forms.{form_any};
 
     ghost Value = { flat.FlatBidder };
 
-    ghost view = { λ b. record { name = b.name; own = b.own.items; any = b.any; packages = b.packages.items } };
+    ghost view = { λ b. record { name = b.name; own = b.own.items; any = form_any b.form; packages = b.packages.items } };
 }
 
 impl FlatBidder {
@@ -57,7 +58,7 @@ impl FlatBidder {
     pub fn takes_any(&self) -> bool
         ensures { result ≡ self.now.any }
     {
-        self.any
+        self.form.takes_any()
     }
 
     /// Its packages.
@@ -70,8 +71,10 @@ impl FlatBidder {
 
 /// How many packages a bidder may take: at most one, or any number.
 #[derive(Clone, Copy)]
-enum Form {
+pub(crate) enum Form {
+    /// At most one of them.
     Xor,
+    /// Any number of them.
     Or,
 }
 
@@ -139,7 +142,7 @@ fn take_bidder(
     let bidder = FlatBidder {
         name,
         own,
-        any: form.takes_any(),
+        form,
         packages,
     };
     let Ok(()) = bidders.push(bidder) else {

@@ -42,13 +42,12 @@ returns-clause-taken c = λ path.
     let form = c.in-Some.form in
     let own = c.in_ok-own.own.items in
     let packages = c.in_ok-packages.packages.items in
-    let pushed : c.push.new.self.items ≡ bidders ++ record { name = c.in-Ok.name; own = own; any = c.takes_any.result; packages = packages } ∷ [] = search rules in
+    let pushed : c.push.new.self.items ≡ bidders ++ record { name = c.in-Ok.name; own = own; any = form_any c.in-Some.form; packages = packages } ∷ [] = search rules in
     let due : flat_refusal bidders c.in_ok-name.name.now ≡ None = rw c.deref.ensures.value at c.in-Ok.ensures.refused in
     bidder-read names path d form c.in_ok-name.name.now own packages c.in-Some.ensures (c.in_ok-name.ensures.reading path) (c.in_ok-own.ensures.reading path)
     (ap (λ w. of_member path d w (packages_at names)) (sym c.word.ensures.word) ∙ c.in_ok-packages.ensures.reading path) bidders
     ∙ ap (λ o. unless_refused path o (bidders ++ record { name = c.in_ok-name.name.now; own = own; any = form_any form; packages = packages } ∷ [])) due
     ∙ ap (λ name. Ok (bidders ++ record { name = name; own = own; any = form_any form; packages = packages } ∷ [])) (sym c.in-Ok.ensures.made)
-    ∙ ap (λ any. Ok (bidders ++ record { name = c.in-Ok.name; own = own; any = any; packages = packages } ∷ [])) (sym c.takes_any.ensures)
     ∙ ap Ok (sym pushed)
 
 pub returns-clause-lawful : goal.returns-clause-lawful
@@ -58,7 +57,7 @@ returns-clause-lawful c =
     let goods = length c.args.exchange.now.goods in
     let bidders = c.args.bidders.now.items in
     let packages = c.in_ok-packages.packages.items in
-    let b : FlatBidder = record { name = c.in-Ok.name; own = c.in_ok-own.own.items; any = c.takes_any.result; packages = packages } in
+    let b : FlatBidder = record { name = c.in-Ok.name; own = c.in_ok-own.own.items; any = form_any c.in-Some.form; packages = packages } in
     let pushed : c.push.new.self.items ≡ bidders ++ b ∷ [] = search rules in
     let read = packages_at-lawful names (at_member [] c.word.result.now) (member_or_null c.word.result.now d) packages (c.in_ok-packages.ensures.reading []) in
     let count : length names ≡ goods = length-map c.args.exchange.now.goods (λ (good : Good). good.name) in
