@@ -10,9 +10,6 @@ mod word;
 use crate::word::{bit, with_bit};
 use std::marker::Model;
 
-/// The most nodes of a set.
-pub const MAX_NODES: u16 = 200;
-
 /// A set of the nodes of one tree, seen as one truth value per node. It takes no memory.
 #[derive(Clone, Copy, Debug)]
 pub struct NodeSet {

@@ -4,6 +4,7 @@ ghost use Rattle.ice_terms.specs.Terms.{ArePriceTerms};
 ghost use Rattle.ice_defs.specs.Prices as exchange;
 
 use arrayvec::ArrayVec;
+use ice_defs::{GREATEST_DENOMINATOR, GREATEST_NUMERATOR, MOST_GOODS};
 use std::marker::Model;
 
 /// One price per good: a numerator from 0 to 2^62, over one denominator from 1 to 2^32.
@@ -33,12 +34,15 @@ impl Prices {
         ensures some { IfSome result (λ p. ArePriceTerms p × (pos p.den ≡ den) × (p.nums ≡ nums.now)) }
         ensures none { IfNone result ((p : exchange.Prices) → ArePriceTerms p → pos p.den ≡ den → p.nums ≡ nums.now → ⊥) }
     {
-        if den < 1 || den > 4_294_967_296 || nums.is_empty() || nums.len() > 32 {
+        if den < 1 || den > GREATEST_DENOMINATOR {
+            return None;
+        }
+        if nums.is_empty() || nums.len() > usize::from(MOST_GOODS) {
             return None;
         }
         let mut terms = ArrayVec::new();
         for num in nums {
-            if *num < 0 || *num > 4_611_686_018_427_387_904 {
+            if *num < 0 || *num > GREATEST_NUMERATOR {
                 return None;
             }
             terms.push(*num as i64);

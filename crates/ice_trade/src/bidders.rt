@@ -6,6 +6,7 @@ ghost use Rattle.ice_defs.specs.Making.{node_count};
 
 use crate::names::Names;
 use crate::owned::Owned;
+use ice_defs::MOST_BIDDERS;
 use ice_terms::Name;
 use ice_tree::{Bounds, Tree};
 use std::alloc::{AllocError, Global};
@@ -41,11 +42,12 @@ impl Bidders {
     pub(crate) fn new(alloc: Global) -> Result<Bidders, AllocError>
         ensures { IfOk result (λ t. t ≡ []) }
     {
+        let most = usize::from(MOST_BIDDERS);
         Ok(Bidders {
-            names: Names::new(alloc, 40)?,
-            owned: Vec::with_capacity(alloc, 40)?,
-            trees: Vec::with_capacity(alloc, 40)?,
-            bounds: Vec::with_capacity(alloc, 40)?,
+            names: Names::new(alloc, most)?,
+            owned: Vec::with_capacity(alloc, most)?,
+            trees: Vec::with_capacity(alloc, most)?,
+            bounds: Vec::with_capacity(alloc, most)?,
             nodes: 0,
         })
     }

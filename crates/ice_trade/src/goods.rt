@@ -5,6 +5,7 @@ ghost use Rattle.std.specs.Str.{bytes_eq};
 
 use crate::names::Names;
 use arrayvec::ArrayVec;
+use ice_defs::MOST_GOODS;
 use ice_terms::Name;
 use std::alloc::{AllocError, Global};
 use std::marker::Model;
@@ -35,7 +36,7 @@ impl Goods {
         ensures { IfOk result (λ t. t ≡ []) }
     {
         Ok(Goods {
-            names: Names::new(alloc, 32)?,
+            names: Names::new(alloc, usize::from(MOST_GOODS))?,
             exact: ArrayVec::new(),
         })
     }

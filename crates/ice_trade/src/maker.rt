@@ -15,6 +15,7 @@ use crate::exchange::Exchange;
 use crate::faults::MakeFault;
 use crate::goods::Goods;
 use crate::sale::{OverSold, over_sale};
+use ice_defs::{MOST_BIDDERS, MOST_GOODS, MOST_NODES_OF_ALL};
 use ice_terms::{Name, Settings};
 use ice_tree::{Bounds, Tree};
 use std::alloc::{AllocError, Global};
@@ -136,7 +137,7 @@ impl ExchangeMaker {
         if self.goods.has(&name) {
             return Err(MakeFault::DuplicateGood);
         }
-        if self.goods() >= 32 {
+        if self.goods() >= MOST_GOODS {
             return Err(MakeFault::TooMany);
         }
         Ok(name)
@@ -193,7 +194,9 @@ impl ExchangeMaker {
         if self.bidders.has(&name) {
             return Err(MakeFault::DuplicateBidder);
         }
-        if self.bidders() >= 40 || self.bidders.nodes() + tree.nodes() > 2000 {
+        if self.bidders() >= MOST_BIDDERS
+            || self.bidders.nodes() + tree.nodes() > MOST_NODES_OF_ALL
+        {
             return Err(MakeFault::TooMany);
         }
         if let Some(OverSold { good, amount }) = over_sale(tree, own) {

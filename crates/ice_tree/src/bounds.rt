@@ -8,6 +8,7 @@ ghost use Rattle.ice_tree.specs.Bounds.{are_crossed, bounds_refusal, BoundsRefus
 
 use crate::faults::BoundsFault;
 use arrayvec::ArrayVec;
+use ice_defs::GREATEST_VALUE;
 use ice_set::NodeSet;
 use std::marker::Model;
 
@@ -34,7 +35,7 @@ impl Model for Bounds {
 pub(crate) fn is_value(value: i64) -> bool
     ensures { result ≡ is_value value }
 {
-    -1_000_000_000 <= value && value <= 1_000_000_000
+    -GREATEST_VALUE <= value && value <= GREATEST_VALUE
 }
 
 fn are_values(values: &[i64]) -> bool

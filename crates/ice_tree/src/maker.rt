@@ -10,7 +10,7 @@ use crate::faults::TreeFault;
 use crate::rows::Rows;
 use crate::tree::Tree;
 use arrayvec::ArrayVec;
-use ice_defs::NodeKind;
+use ice_defs::{MOST_NODES, NodeKind};
 use std::marker::Model;
 
 /// A tree that is being made, node by node in preorder. It takes no memory.
@@ -58,7 +58,7 @@ fn node_refusal(
 ) -> Option<TreeFault>
     ensures { option_map tree_fault_number result ≡ node_refusal goods nodes depth kind lo hi }
 {
-    if 200 <= nodes {
+    if MOST_NODES <= nodes {
         return Some(TreeFault::TooManyNodes);
     }
     if 16 < depth {
