@@ -2,7 +2,7 @@
 use Rattle.std.proofs.Common.{ℕ, suc, ◌≡◌, List, ℤ, pos, ◌≤ℤ◌, refl, subst, arith}
 use Rattle.std.specs.Prelude.{Some}
 use Rattle.std.proofs.lemmas.Int.{ints}
-use Rattle.std.proofs.lemmas.Option.{none-some}
+use Rattle.std.proofs.lemmas.Option.{none-some, same_Some}
 use Rattle.ice_defs.specs.Tree.{Tree}
 use Rattle.ice_defs.specs.Set.{Weights}
 use Rattle.ice_defs.specs.Trade.{Assignment}
@@ -16,9 +16,6 @@ use Rattle.ice_program_laws.proofs.Ends.{least_end_gives_duals, least_end_gives_
 use Rattle.ice_pricing_laws.specs.Traces.{TracesSolve}
 use Rattle.ice_pricing_laws.proofs.Sizes.{only_at-holds}
 
-same_point : (x y : List Fraction) → Some x ≡ Some y → x ≡ y
-same_point x y e = cc
-
 module _ (ts : List Tree) (ws : List Weights) (sets : Assignment) (goods : ℕ) (cap : ℤ) where
   -- the number that is made least costs 1, and each price costs 0
   are_costs : (stage : Stage) (delta : ℤ) (den : ℕ) (pool : List Member) → AreCosts (program_at ts ws sets goods cap stage delta den pool)
@@ -29,7 +26,7 @@ module _ (ts : List Tree) (ws : List Weights) (sets : Assignment) (goods : ℕ) 
   solves : (p : Program) (end : TraceEnd) (x : List Fraction) → AreCosts p → trace_end p ≡ end → point_at ts ws sets goods cap p end ≡ Some x
       → IsLeast p x × AreDuals p x (duals_at ts ws sets goods cap p end)
   solves p (least_end count d) x costs ends is =
-      subst (λ (y : List Fraction). IsLeast p y × AreDuals p y (duals_of p d)) (same_point (point_of p d) x is)
+      subst (λ (y : List Fraction). IsLeast p y × AreDuals p y (duals_of p d)) (same_Some (point_of p d) x is)
       (least_end_gives_least p count d costs ends, (least_end_gives_duals p count d costs ends).1)
   solves p (infeasible_end count d k) x costs ends is = absurd (none-some x is)
   solves p wide_end x costs ends is = absurd (none-some x is)

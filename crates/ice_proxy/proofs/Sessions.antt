@@ -21,7 +21,7 @@ use Rattle.ice_defs.specs.Session.{standings_from, standings, Going, Closed}
 use Rattle.ice_defs.specs.Right.{IsRightFrom, bounds_after_round, bounds_after_rounds, final_bounds}
 use Rattle.ice_defs.proofs.Naming.{bytes_eq-same}
 use Rattle.ice_round_laws.specs.Keeping.{HaveBounds}
-use Rattle.ice_round_laws.proofs.Keeping.{rounds_keep_bounds, opening_have_bounds}
+use Rattle.ice_round_laws.proofs.Keeping.{rounds_keep_bounds, opening_have_bounds, bounds_count}
 use Rattle.ice_round_laws.proofs.Naming.{standings_are_named}
 use Rattle.ice_rules.proofs.Exact.{accepted_alone}
 use Rattle.ice_headline_laws.proofs.Promised.{right_gives_headline}
@@ -149,12 +149,6 @@ all_sure (b ∷ bidders) (now ∷ bounds) (t ∷ truths) (s ∷ sets) count have
   all_sure bidders bounds truths sets (omega (arith, count)) have.1 (λ c h. satisfied (suc c) (omega (arith, h))) hold.1,
 )
 
-have_count : (bidders : List Bidder) (bounds : List Bounds) → HaveBounds bidders bounds → length bounds ≡ length bidders
-have_count [] [] have = refl
-have_count [] (now ∷ bounds) have = absurd have
-have_count (b ∷ bidders) [] have = absurd have
-have_count (b ∷ bidders) (now ∷ bounds) have = omega (arith, have_count bidders bounds have.1)
-
 -- ---- round after round
 
 hold_from : (ex : Exchange) (truths : List (List ℤ)) (number : ℕ) (bounds : List Bounds) (going : List Going) (c : Closed) → IsExchange ex → HaveBounds ex.bidders bounds → HoldTruths bounds truths
@@ -162,7 +156,7 @@ hold_from : (ex : Exchange) (truths : List (List ℤ)) (number : ℕ) (bounds : 
 hold_from ex truths number bounds [] c lawful have hold right proxies = (hold, hold)
 hold_from ex truths number bounds (g ∷ later) c lawful have hold (fails, is, rest) (round, proxies) =
     let count : length g.provisional.sets ≡ length ex.bidders = is.provisional.feasible.same_length ∙ length-map ex.bidders _ in
-    let named : names_from (standings ex bounds g.provisional.sets) ≡ names_of ex = standings_are_named ex bounds g.provisional.sets (have_count ex.bidders bounds have) count in
+    let named : names_from (standings ex bounds g.provisional.sets) ≡ names_of ex = standings_are_named ex bounds g.provisional.sets (bounds_count ex.bidders bounds have) count in
     let sure = all_sure ex.bidders bounds truths g.provisional.sets count have (λ b h. is.provisional.feasible.satisfied b (omega (arith, h, length-map ex.bidders (λ (bidder : Bidder). bidder.tree)))) hold in
     let next = all_hold g.prices ex.settings.improve (standings ex bounds g.provisional.sets) truths g.judged (subst (IsDistinct bytes_eq) (sym named) lawful.names) sure is.round.each round in
     let later_have = rounds_keep_bounds g.prices ex.settings.improve g.judged ex.bidders bounds g.provisional.sets count have is.round in
