@@ -1,7 +1,7 @@
 -- Where the tests of a session's records have come, and the settlements among the records.
 use Rattle.std.proofs.Common.{◌≡◌, ℕ, Bool, true, false, cond, List, [], ◌∷◌, ◌++◌, ℤ, refl, sym, ◌∙◌, ap, subst, ◌⊎◌, inl, inr}
 use Rattle.std.specs.Prelude.{Option, Some, None, option_and_then}
-use Rattle.std.proofs.lemmas.Option.{none-some}
+use Rattle.std.proofs.lemmas.Option.{none-some, same_Some}
 use Rattle.ice_journal.specs.Records.{Record, Version, version_1, version_2, session_kind}
 use Rattle.ice_journal.specs.Records as line
 use Rattle.ice_journal_laws.specs.declared.rule.Rule.{Rule}
@@ -17,14 +17,11 @@ use Rattle.ice_replay.specs.Settlements.{Settles}
 use Rattle.ice_replay.specs.Watching.{IsFine}
 use Rattle.ice_replay.proofs.Stopping.{is_stopped, IsBehind, stops, all_stay}
 
-pub some_is : {X : Type 0} (x y : X) → Some x ≡ Some y → x ≡ y
-some_is x y e = cc
-
 -- ---- in the order of the records
 
 -- a list of rows fails no stop
 rows_stop : (b : Bool) (x y : Rule) → (y ≡ rule.Closed → ⊥) → cond b (Some y) None ≡ Some x → x ≡ rule.Closed → ⊥
-rows_stop true x y other e closed = other (some_is y x e ∙ closed)
+rows_stop true x y other e closed = other (same_Some y x e ∙ closed)
 rows_stop false x y other e closed = none-some x e
 
 accuracy_closed : rule.Accuracy ≡ rule.Closed → ⊥

@@ -1,7 +1,7 @@
 -- But for want of memory, bytes have one replay of a settlement, or one reason why there is none.
 use Rattle.std.proofs.Common.{◌≡◌, ◌≢◌, ℕ, List, ◌∷◌, refl, sym, ap, subst}
 use Rattle.std.specs.Prelude.{Some, None, Result, Ok, Err}
-use Rattle.std.proofs.lemmas.Option.{none-some}
+use Rattle.std.proofs.lemmas.Option.{none-some, same_Some}
 use Rattle.ice_journal.specs.Records.{Record, session_kind}
 use Rattle.ice_journal.specs.Records as line
 use Rattle.ice_journal.specs.Journal.{LinesFault, grammar, unended, IsJournal, IsLinesFault}
@@ -33,21 +33,18 @@ is_session : (P : State → List Record → Type 0) (journal : List Record) → 
 is_session P (line.head v session_kind ∷ rest) h = tt
 is_session P other h = absurd h
 
-some_same : (f g : Failure) → Some f ≡ Some g → f ≡ g
-some_same f g e = cc
-
 -- a stop is the only test that a replayable journal may fail first
 fails_other : (journal : List Record) (failure : Failure) → IsReplayable journal → FirstFailure journal (Some failure) → failure.rule ≢ rule.Closed → ⊥
 fails_other journal failure (passes first) failed other = none-some failure (same_failure journal None (Some failure) first failed)
 fails_other journal failure (stops place first) failed other =
-    other (sym (ap (λ (f : Failure). f.rule) (some_same (record { line = place; rule = rule.Closed }) failure (same_failure journal (Some (record { line = place; rule = rule.Closed })) (Some failure) first failed))))
+    other (sym (ap (λ (f : Failure). f.rule) (same_Some (record { line = place; rule = rule.Closed }) failure (same_failure journal (Some (record { line = place; rule = rule.Closed })) (Some failure) first failed))))
 
 settles_not : (number : ℕ) (replay : Replay) (journal : List Record) → OfSession (IsReplay number replay) journal → OfSession (λ s records. ¬ Settles number s records) journal → ⊥
 settles_not number replay (line.head v session_kind ∷ rest) h none = none h.told.settles
 settles_not number replay other h none = absurd h
 
 same_test : (journal : List Record) (f g : Failure) → FirstFailure journal (Some f) → FirstFailure journal (Some g) → f ≡ g
-same_test journal f g h k = some_same f g (same_failure journal (Some f) (Some g) h k)
+same_test journal f g h k = same_Some f g (same_failure journal (Some f) (Some g) h k)
 
 of_one_journal : (number : ℕ) (journal : List Record) (one other : Result Replay ReplayEnd) → Answers number journal one → Answers number journal other → AnswerTheSame one other
 of_one_journal number journal _ _ (replays x may h) (replays y may' k) = of_session number x y journal h k

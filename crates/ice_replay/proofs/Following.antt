@@ -2,7 +2,7 @@
 use Rattle.std.proofs.Common.{◌≡◌, ℕ, suc, Bool, true, false, cond, eqb, List, [], ◌∷◌, ◌++◌, length, ℤ, refl, sym, ◌∙◌, ap, subst, append_assoc, ⊎_elim}
 use Rattle.std.specs.Prelude.{◌≢◌, Option, Some, None, option_map, option_and_then, MatchOption}
 use Rattle.std.proofs.lemmas.Bool.{true≢false, false≢true}
-use Rattle.std.proofs.lemmas.Option.{none-some}
+use Rattle.std.proofs.lemmas.Option.{none-some, same_Some}
 use Rattle.ice_defs.specs.Prices.{Prices}
 use Rattle.ice_defs.specs.Exchange.{names_of}
 use Rattle.ice_journal.specs.Records.{Record, Version, session_kind}
@@ -22,7 +22,7 @@ use Rattle.ice_replay.specs.Settlements.{OfSession, IsSession, is_session_head, 
 use Rattle.ice_replay.specs.Replays.{names_in, bounds_in, Tells}
 use Rattle.ice_replay.specs.Watching.{IsFine, prices_to_come, prices_behind, HasBegun, IsWhole, IsWatched, IsComeTo, IsStated, WatchesOn}
 use Rattle.ice_replay.proofs.Stopping.{stopped_regret, IsBehind, stops, no_prices_behind}
-use Rattle.ice_replay.proofs.Coming.{some_is, list_stops, Stood, all_passed, has_stopped, stood, fine_before, IsLast, none_settles, settled}
+use Rattle.ice_replay.proofs.Coming.{list_stops, Stood, all_passed, has_stopped, stood, fine_before, IsLast, none_settles, settled}
 
 -- ---- prices
 
@@ -100,7 +100,7 @@ module _ (number : ℕ) (s : State) (records : List Record) (p q : Progress) (r 
     where
       at_last : (o : Progress) → Stood s records o → ((t : State) (amount : ℤ) → o ≡ passing t → t.place ≡ at_regret → t.number ≡ number → r ≡ line.regret amount → ⊥) → IsLast number s records r → ⊥
       at_last o (all_passed {t = t} e) none_due last =
-          none_due last.state last.amount (ap passing (some_is t last.state (sym e ∙ last.reached))) last.place last.number_is last.is
+          none_due last.state last.amount (ap passing (same_Some t last.state (sym e ∙ last.reached))) last.place last.number_is last.is
       at_last o (has_stopped {f = f} closed stopped) none_due last = stopped_regret last.state.place (stopped last.state last.reached) last.place
 
   -- the prices that are still to come

@@ -3,7 +3,7 @@ use Rattle.std.proofs.Common.{◌≡◌, ◌<◌, ◌+◌, ℕ, suc, Bool, true,
 use Rattle.std.specs.Str.{bytes_eq}
 use Rattle.std.specs.Prelude.{if◌then◌else◌, ◌==◌, slice_index_or, Option, Some, None, option_map, option_and_then, Result, Ok, Err}
 use Rattle.std.proofs.lemmas.Bool.{false≢true}
-use Rattle.std.proofs.lemmas.Option.{none-some}
+use Rattle.std.proofs.lemmas.Option.{none-some, same_Some}
 use Rattle.ice_defs.specs.Bound.{Multipliers}
 use Rattle.ice_defs.specs.Steps.{Side, sides_after}
 use Rattle.ice_defs.specs.Rows.{Row}
@@ -19,7 +19,7 @@ use Rattle.ice_journal_laws.specs.Fields.{head_value, set_in, is_assign, settlem
 use Rattle.ice_journal_laws.specs.State.{Stated, Place, at_section, at_group, at_sets, at_log, at_regret, at_prices, at_accuracy, at_accuracy_rows, at_balance_rows, at_round, at_verdict, at_threshold, at_payment, at_spent_sets, at_spent_log, at_pool, at_end, done, State, exchange_at, settings_at, goods_at}
 use Rattle.ice_journal_laws.specs.Next.{next, next_at, go_to, to_line, bidder_count, if_true, or_stop, may_have_row, with_row, from_head, after_sets, with_set, after_log, after_step, after_regret, to_balance, settled, to_settlement, from_round, open_after, from_end, after_section, section_ended, from_section, after_all}
 use Rattle.ice_replay.specs.Settlements.{Settles}
-use Rattle.ice_replay.proofs.Coming.{some_is, head_is, rest_is}
+use Rattle.ice_replay.proofs.Coming.{head_is, rest_is}
 
 -- behind the regret of its settlement
 abbrev is_late_group : Group → Bool
@@ -229,7 +229,7 @@ past_next number s t r past e = by (goes_next s t r e) past
     by (to_next one_more) (behind_it far) = behind_it (omega (arith, one_more, far))
 
 past_all : (number : ℕ) (s t : State) (records : List Record) → IsPast number s → after_all s records ≡ Some t → IsPast number t
-past_all number s t [] past e = subst (IsPast number) (some_is s t e) past
+past_all number s t [] past e = subst (IsPast number) (same_Some s t e) past
 past_all number s t (r ∷ records) past e = by (next s r) refl (λ u f past_u g. past_all number u t records past_u g) e
   where
     by : (o : Option State) → next s r ≡ o → ((u : State) → next s r ≡ Some u → IsPast number u → after_all u records ≡ Some t → IsPast number t) → option_and_then (λ u. after_all u records) o ≡ Some t → IsPast number t
@@ -253,7 +253,7 @@ regret_passes s t r place e =
 
 -- the records behind the first of two parts
 second_part : (s t u : State) (first second : List Record) → after_all s first ≡ Some t → after_all s (first ++ second) ≡ Some u → after_all t second ≡ Some u
-second_part s t u [] second e f = subst (λ (x : State). after_all x second ≡ Some u) (some_is s t e) f
+second_part s t u [] second e f = subst (λ (x : State). after_all x second ≡ Some u) (same_Some s t e) f
 second_part s t u (r ∷ first) second e f = by (next s r) (λ x g h. second_part x t u first second g h) e f
   where
     by : (o : Option State) → ((x : State) → after_all x first ≡ Some t → after_all x (first ++ second) ≡ Some u → after_all t second ≡ Some u) → option_and_then (λ x. after_all x first) o ≡ Some t → option_and_then (λ x. after_all x (first ++ second)) o ≡ Some u
@@ -302,7 +302,7 @@ one_settlement number s records x y = by (placed x.before y.before (line.regret 
   where
     by : Placed x.before y.before (line.regret x.amount) (line.regret y.amount) x.rest y.rest → AreSame x y
     by (same before amount rest) = record {
-      state = some_is x.state y.state (sym x.reached ∙ ap (after_all s) before ∙ y.reached);
+      state = same_Some x.state y.state (sym x.reached ∙ ap (after_all s) before ∙ y.reached);
       amount = amount_is x.amount y.amount amount;
       rest = rest;
     }
