@@ -110,7 +110,7 @@ clear_name_bytes (b ∷ bs) h =
     let p = and_parts (is_name_byte b) (list_all is_name_byte bs) h in
     clear_cons b bs (name_byte b p.0) (clear_name_bytes bs p.1)
 
-clear_name : (name : List ℕ) → IsName name → IsClear name
+pub clear_name : (name : List ℕ) → IsName name → IsClear name
 clear_name name h = clear_name_bytes name (and_parts _ (list_all is_name_byte name) h).1
 
 clear_bits : (bits : List Bool) → IsClear (map bit_byte bits)

@@ -21,7 +21,7 @@ pub one_line : (text : List ℕ) → (Contains text 10 → ⊥) → IsOneLine te
 one_line [] none = tt
 one_line (b ∷ bs) none = (λ e. none (0, omega arith, e), one_line bs (λ h. none (Contains-append_right (b ∷ []) bs 10 h)))
 
-clear_line : (field : List ℕ) → IsClear field → IsOneLine field
+pub clear_line : (field : List ℕ) → IsClear field → IsOneLine field
 clear_line [] p = tt
 clear_line (b ∷ bs) p =
     let h = and_parts (ltb 32 b) (is_clear bs) p in
@@ -47,7 +47,7 @@ first_line (a ∷ more) (b ∷ bs) x y p q e =
     let heads : a ≡ b = cc in
     (λ i. heads i ∷ h.0 i, h.1)
 
-no_newline : (a b x : List ℕ) → IsOneLine a → a ≡ b ++ 10 ∷ x → ⊥
+pub no_newline : (a b x : List ℕ) → IsOneLine a → a ≡ b ++ 10 ∷ x → ⊥
 no_newline [] [] x p e = absurd cc
 no_newline [] (b ∷ bs) x p e = absurd cc
 no_newline (a ∷ more) [] x p e = p.0 (cc)

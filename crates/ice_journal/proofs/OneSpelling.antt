@@ -70,7 +70,7 @@ map_same P g one (x ∷ xs) (y ∷ ys) p q e =
     let tails : xs ≡ ys = map_same P g one xs ys p.1 q.1 more in
     cc
 
-bits_same : (bs cs : List Bool) → map bit_byte bs ≡ map bit_byte cs → bs ≡ cs
+pub bits_same : (bs cs : List Bool) → map bit_byte bs ≡ map bit_byte cs → bs ≡ cs
 bits_same [] [] e = refl
 bits_same [] (c ∷ cs) e = absurd cc
 bits_same (b ∷ bs) [] e = absurd cc

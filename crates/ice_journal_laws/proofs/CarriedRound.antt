@@ -1,14 +1,17 @@
 -- The submissions of a round with their verdicts, and the next settlement.
-use Rattle.std.proofs.Common.{◌≡◌, ◌≢◌, suc, Bool, false, cond, List, [], ◌∷◌, ◌++◌, refl, sym, ◌∙◌, ap, subst, append_assoc}
+use Rattle.std.proofs.Common.{◌≡◌, ◌≢◌, suc, Bool, false, cond, List, [], ◌∷◌, ◌++◌, length, refl, sym, ◌∙◌, ap, subst, arith, append_assoc}
 use Rattle.std.specs.Prelude.{Some, None, option_map}
 use Rattle.std.specs.List.{flat_map}
 use Rattle.std.proofs.lemmas.Bool.{false≢true, eq-eqb}
 use Rattle.std.proofs.lemmas.Option.{none-some}
 use Rattle.std.proofs.lemmas.List.{append-nil}
 use Rattle.ice_defs.specs.declared.Verdict.{Verdict}
+use Rattle.ice_defs.specs.Trade.{Assignment}
+use Rattle.ice_defs.specs.Bounds.{Bounds}
+use Rattle.ice_defs.specs.Exchange.{Bidder}
 use Rattle.ice_defs.specs.Rows.{Certificate}
 use Rattle.ice_defs.specs.Round.{Submission, Judged, IsNextVerdict}
-use Rattle.ice_defs.specs.Session.{standings}
+use Rattle.ice_defs.specs.Session.{standings, standings_from}
 use Rattle.ice_journal.specs.Records.{Record}
 use Rattle.ice_journal.specs.Records as line
 use Rattle.ice_journal_laws.specs.declared.rule.Rule.{Rule}
@@ -35,9 +38,16 @@ pub resting_open : (c : Certificate) (judged : List Judged) → resting c judged
 resting_open c [] = λ e. cc
 resting_open c (j ∷ later) = λ e. cc
 
-rests : (c : Certificate) (judged : List Judged) (j : Judged) → resting c (judged ++ j ∷ []) ≡ at_round
+pub rests : (c : Certificate) (judged : List Judged) (j : Judged) → resting c (judged ++ j ∷ []) ≡ at_round
 rests c [] j = refl
 rests c (i ∷ judged) j = refl
+
+-- a standing for each bidder
+pub standings_count : (bidders : List Bidder) (bounds : List Bounds) (sets : Assignment) → length bounds ≡ length bidders → length sets ≡ length bidders → length (standings_from bidders bounds sets) ≡ length bidders
+standings_count [] bounds sets same count = refl
+standings_count (b ∷ bidders) [] sets same count = absurd (omega (arith, same))
+standings_count (b ∷ bidders) (now ∷ bounds) [] same count = absurd (omega (arith, count))
+standings_count (b ∷ bidders) (now ∷ bounds) (s ∷ sets) same count = omega (arith, standings_count bidders bounds sets (omega (arith, same)) (omega (arith, count)))
 
 -- a submission
 submit_takes : (s : State) (c : Certificate) (judged : List Judged) (x : Submission) → BalanceHolds s c.den c.rows → TakesTo (resting_at c judged s) (line.submit x) (record s { place = at_verdict x; judged = judged })

@@ -1,6 +1,5 @@
 -- The best value without a bidder, where the log of its group passes.
-use Rattle.std.proofs.Common.{◌<◌, ℕ, Bool, List, length, arith}
-use Rattle.ice_defs.specs.declared.Mark.{Mark}
+use Rattle.std.proofs.Common.{◌<◌, ℕ, List, length, arith}
 use Rattle.ice_defs.specs.Vickrey.{IsBestWithout}
 use Rattle.ice_defs.specs.declared.Group.TheVariants.{Without}
 use Rattle.ice_defs.specs.Group.{start_of}

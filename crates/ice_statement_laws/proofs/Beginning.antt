@@ -3,7 +3,7 @@ use Rattle.std.proofs.Common.{◌≡◌, ℕ, suc, Bool, true, false, cond, eqb,
 use Rattle.std.specs.Prelude.{◌&&◌, ◌||◌, ◌==◌, not, nat_lt, is_none, is_some, Option, Some, None, option_map}
 use Rattle.std.specs.List.{AllByRecursion}
 use Rattle.std.proofs.lemmas.Bool.{eqb-true}
-use Rattle.std.proofs.lemmas.Option.{none-some}
+use Rattle.std.proofs.lemmas.Option.{none-some, same_Some}
 use Rattle.ice_defs.proofs.Naming.{same-bytes_eq}
 use Rattle.ice_defs.specs.declared.NodeKind.{NodeKind}
 use Rattle.ice_defs.specs.declared.NodeKind.TheVariants.{Choose, Buy, Sell}
@@ -31,9 +31,6 @@ use Rattle.ice_statement_laws.proofs.Walking.{lines_are}
 use Rattle.ice_statement_laws.proofs.Describing.{in_section}
 use Rattle.ice_statement_laws.proofs.Meaning.{inv_settled}
 use Rattle.ice_statement_laws.proofs.Ranging.{own_pays}
-
-some_same : {X : Type 0} (x y : X) → Some x ≡ Some y → x ≡ y
-some_same x y e = cc
 
 ok_same : (s t : Section) → (let o : Result Section SectionFault = Ok s in o) ≡ Ok t → s ≡ t
 ok_same s t e = cc
@@ -149,7 +146,7 @@ module _ (name : List ℕ) where
         lines_is = ap (λ (k : ℕ). shown (line.settle k) ∷ rest) (eqb-true number 0 e);
         taken = refl;
         whole = c;
-        later = subst (λ (x : AuditState). Audited x rest None) (sym (some_same (behind_section n s) after f)) t;
+        later = subst (λ (x : AuditState). Audited x rest None) (sym (same_Some (behind_section n s) after f)) t;
       }
       by false e f = absurd (none-some after f)
   begins n s other rest after c is t = absurd (none-some after is)
@@ -172,7 +169,7 @@ module _ (name : List ℕ) where
           → ((next : Section) → IsOwnSection name next → Audited (in_section name (suc n) next) rest None → Sectioned next rest) → Sectioned s (shown r ∷ rest)
       by false o e f g h = absurd (none-some after g)
       by true (Ok next) e f g h =
-          more s next r rest f (h next (phase_next s r next b (named_of n s r e) f) (subst (λ (x : AuditState). Audited x rest None) (sym (some_same (in_section name (suc n) next) after g)) t))
+          more s next r rest f (h next (phase_next s r next b (named_of n s r e) f) (subst (λ (x : AuditState). Audited x rest None) (sym (same_Some (in_section name (suc n) next) after g)) t))
       by true (Err order) e f g h = absurd (none-some after g)
       by true (Err count) e f g h = absurd (none rule.Exchange (ap is_refusal f))
       by true (Err no_good) e f g h = absurd (none rule.Exchange (ap is_refusal f))
@@ -227,7 +224,7 @@ module _ (lawful : SectionIsLawful) (described : SectionRecords) (taken_all : De
   passed_is_right [] all (passes e) = absurd cc
   passed_is_right (named name ∷ lines) all (goes_on {after = after} none holds is t) =
       whole_right name lines all.1
-      (inv_section name 2 no_section lines (inl (record { none = refl; draft = tt })) (subst (λ (s : AuditState). Audited s lines None) (sym (some_same (in_section name 2 no_section) after is)) t))
+      (inv_section name 2 no_section lines (inl (record { none = refl; draft = tt })) (subst (λ (s : AuditState). Audited s lines None) (sym (same_Some (in_section name 2 no_section) after is)) t))
   passed_is_right (shown r ∷ lines) all (goes_on {after = after} none holds is t) = absurd (none-some after is)
   passed_is_right (kept s ∷ lines) all (goes_on {after = after} none holds is t) = absurd (none-some after is)
   passed_is_right (offered s ∷ lines) all (goes_on {after = after} none holds is t) = absurd (none-some after is)
@@ -236,4 +233,4 @@ module _ (lawful : SectionIsLawful) (described : SectionRecords) (taken_all : De
   pub yes_is_right : YesIsRight
   yes_is_right bytes payment (lines, is, audited, paid) =
       let (y, right, same) = passed_is_right lines is.lawful audited in
-      (y, right, subst (AreLines bytes) same is, some_same payment y.closed.payment.payment (sym paid ∙ ap paid_in same ∙ own_pays y))
+      (y, right, subst (AreLines bytes) same is, same_Some payment y.closed.payment.payment (sym paid ∙ ap paid_in same ∙ own_pays y))

@@ -1,10 +1,10 @@
 -- What the audit passes is a right statement.
 use Rattle.std.proofs.Common.{◌≡◌, ℕ, zero, suc, ◌<◌, ◌≤◌, Bool, true, false, cond, eqb, int_le, List, [], ◌∷◌, ◌++◌, map, length, ℤ, pos, refl, sym, ◌∙◌, ap, subst, arith, append_assoc, inl, inr, ◌⊎◌}
-use Rattle.std.specs.Prelude.{◌||◌, Some, None, option_map, IsSomeAnd, ◌*ℤ◌, ◌<ℤ◌, ◌≤ℤ◌, ◌≢◌}
+use Rattle.std.specs.Prelude.{Some, None, option_map, IsSomeAnd, ◌*ℤ◌, ◌<ℤ◌, ◌≤ℤ◌, ◌≢◌}
 use Rattle.std.specs.List.{flat_map, list_any, AllByRecursion}
 use Rattle.std.specs.Str.{bytes_eq}
 use Rattle.std.proofs.lemmas.Bool.{eqb-true, eq-eqb, true≢false}
-use Rattle.std.proofs.lemmas.Option.{none-some}
+use Rattle.std.proofs.lemmas.Option.{none-some, same_Some}
 use Rattle.std.proofs.lemmas.List.{append-nil}
 use Rattle.std.proofs.lemmas.List.Concat.{flat_map-cons}
 use Rattle.std.proofs.lemmas.Int.{ints, by_lt_z}
@@ -28,18 +28,16 @@ use Rattle.ice_journal.specs.Records.{Record}
 use Rattle.ice_journal.specs.Records as line
 use Rattle.ice_journal_laws.specs.declared.rule.Rule.TheVariants as rule
 use Rattle.ice_journal_laws.specs.Written.{payment_record, judged_records}
+use Rattle.ice_round_laws.proofs.Entering.{taken_push}
 use Rattle.ice_journal_laws.proofs.Faultless.{covered, satisfied_without_fault, no_fault}
 use Rattle.ice_statement_laws.specs.Statement.{StatementLine, named, shown, kept, offered, ended}
 use Rattle.ice_statement_laws.specs.Audit.{Spot, at_regret, at_kept, at_offered, at_prices, at_round, at_verdict, at_threshold, at_payment, at_end, done, AuditState, AreUnlawful, Audited, passes, goes_on}
 use Rattle.ice_statement_laws.specs.Own.{OwnStep, OwnClosed, lines_from, AreOwnPrices, IsOwnFrom}
 use Rattle.ice_statement_laws.proofs.Walking.{at, behind, lines_are}
 
-some_same : {X : Type 0} (x y : X) → Some x ≡ Some y → x ≡ y
-some_same x y e = cc
-
 -- where a line leads, and what is behind it
 on : (s t : AuditState) (rest : List StatementLine) → Some t ≡ Some s → Audited s rest None → Audited t rest None
-on s t rest e later = subst (λ (x : AuditState). Audited x rest None) (sym (some_same t s e)) later
+on s t rest e later = subst (λ (x : AuditState). Audited x rest None) (sym (same_Some t s e)) later
 
 -- a set that passed
 sat_of : (bidder : Bidder) (x : NodeSet) → ¬ (length x ≢ length bidder.tree) → ((k : SatRule) → ¬ (set_fault bidder.tree x ≡ Some k)) → IsSatisfied bidder.tree x
@@ -157,18 +155,6 @@ module _ (settings : Settings) (goods : List Good) (bidder : Bidder) where
     judges : JudgesInOrder p settings.improve (standing bounds y) (list_any is_accepted past) todo
     right : IsOwnFrom settings (length goods) bidder (suc number) (bounds_after bounds (past ++ todo)) going closed
 
-  any_more : (judged : List Judged) (j : Judged) → list_any is_accepted (judged ++ j ∷ []) ≡ (list_any is_accepted judged || is_accepted j)
-  any_more [] j = by (is_accepted j)
-    where
-      by : (b : Bool) → (b || false) ≡ b
-      by true = refl
-      by false = refl
-  any_more (k ∷ judged) j = by (is_accepted k) (any_more judged j)
-    where
-      by : (b : Bool) → list_any is_accepted (judged ++ j ∷ []) ≡ (list_any is_accepted judged || is_accepted j) → (b || list_any is_accepted (judged ++ j ∷ [])) ≡ ((b || list_any is_accepted judged) || is_accepted j)
-      by true e = refl
-      by false e = e
-
   -- one pair more before the rest of a round
   with_pair : (number : ℕ) (bounds : Bounds) (y : NodeSet) (p : Prices) (past : List Judged) (s : Submission) (v : Verdict) (rest : List StatementLine) → s.name ≡ bidder.name → IsVerdict p settings.improve (standing bounds y) (list_any is_accepted past) s v
       → Rounded number bounds y p (past ++ record { submission = s; verdict = v } ∷ []) rest → Rounded number bounds y p past (shown (line.submit s) ∷ shown (line.verdict v) ∷ rest)
@@ -179,7 +165,7 @@ module _ (settings : Settings) (goods : List Good) (bidder : Bidder) where
     lines_is = ap (λ (ls : List StatementLine). shown (line.submit s) ∷ shown (line.verdict v) ∷ ls) r.lines_is
         ∙ ap (λ (rs : List Record). map shown rs ++ lines_from (suc number) r.going r.closed) (sym (flat_map-cons judged_records (record { submission = s; verdict = v }) r.todo));
     names = (name, r.names);
-    judges = (verdict, subst (λ (b : Bool). JudgesInOrder p settings.improve (standing bounds y) b r.todo) (any_more past (record { submission = s; verdict = v })) r.judges);
+    judges = (verdict, subst (λ (b : Bool). JudgesInOrder p settings.improve (standing bounds y) b r.todo) (taken_push past (record { submission = s; verdict = v })) r.judges);
     right = subst (λ (js : List Judged). IsOwnFrom settings (length goods) bidder (suc number) (bounds_after bounds js) r.going r.closed) (append_assoc past (record { submission = s; verdict = v } ∷ []) r.todo) r.right;
   }
 

@@ -28,6 +28,8 @@ use Rattle.ice_defs.specs.Right.{own_values, IsGoing, IsClosed, bounds_after_rou
 use Rattle.ice_statement_laws.specs.Statement.{Own, IsOwn}
 use Rattle.ice_statement_laws.specs.Own.{IsOwnStep, IsOwnClosed, IsOwnFrom, IsRightOwn}
 use Rattle.ice_statement_laws.specs.Parts.{step_of, part_of, IsStated}
+use Rattle.ice_trade.proofs.Weighted.{length-bounds}
+use Rattle.ice_journal_laws.proofs.CarriedRound.{standings_count}
 
 -- ---- what is at a place
 
@@ -55,12 +57,6 @@ module _ (bidder : Bidder) (b : ℕ) where
           let same : x ≡ bidder = cc in
           ap (λ (y : Bidder). Some (let z : Standing = record { name = y.name; tree = y.tree; bounds = now; set = s } in z)) same
       walk (x ∷ bidders) (now ∷ bounds) (s ∷ sets) (suc i) e f g = walk bidders bounds sets i e (omega (arith, f)) (omega (arith, g))
-
-count_standings : (bidders : List Bidder) (bounds : List Bounds) (sets : Assignment) → length bounds ≡ length bidders → length sets ≡ length bidders → length (standings_from bidders bounds sets) ≡ length bidders
-count_standings [] bounds sets f g = refl
-count_standings (x ∷ bidders) [] sets f g = absurd (omega (arith, f))
-count_standings (x ∷ bidders) (now ∷ bounds) [] f g = absurd (omega (arith, g))
-count_standings (x ∷ bidders) (now ∷ bounds) (s ∷ sets) f g = ap suc (count_standings bidders bounds sets (omega (arith, f)) (omega (arith, g)))
 
 -- the submissions of a name have it
 names_are : (name : List ℕ) (judged : List Judged) → AllByRecursion (λ j. j.submission.name ≡ name) (of_name name judged)
@@ -159,7 +155,7 @@ module _ (ex : Exchange) (lawful : IsExchange ex) (b : ℕ) (bidder : Bidder) (i
   next_count : (bounds : List Bounds) (g : Going) → length bounds ≡ length ex.bidders → IsGoing ex bounds g → length (bounds_after_round ex bounds g) ≡ length ex.bidders
   next_count bounds g same going =
       length-map (standings ex bounds g.provisional.sets) (λ (x : Standing). bounds_after x.bounds (of_name x.name g.judged))
-      ∙ count_standings ex.bidders bounds g.provisional.sets same (count_sets (exact_of ex) g.provisional.sets going.provisional.feasible)
+      ∙ standings_count ex.bidders bounds g.provisional.sets same (count_sets (exact_of ex) g.provisional.sets going.provisional.feasible)
 
   -- the last one
   own_closed : (bounds : List Bounds) (c : Closed) (p : Payment) → length bounds ≡ length ex.bidders → IsClosed ex bounds c → AllByRecursion (λ (q : Payment). Equals q.discount (cut_down c.cut q.vickrey)) c.payments
@@ -217,9 +213,6 @@ module _ (ex : Exchange) (lawful : IsExchange ex) (b : ℕ) (bidder : Bidder) (i
 
 -- ---- the part of a session
 
-opening_count : (ex : Exchange) → length (opening_bounds ex) ≡ length ex.bidders
-opening_count ex = length-map ex.bidders (λ (x : Bidder). x.bounds)
-
 pub part_right : (x : Session) (name : List ℕ) (own : Own) → IsRight x → IsStated x → (o : IsOwn x name own) → IsRightOwn (part_of x o.number own)
 part_right x name own right stated o = record {
   exchange = one_lawful x.exchange right.exchange o.number own.bidder o.bidder;
@@ -229,5 +222,5 @@ part_right x name own right stated o = record {
       (subst (λ (now : Bounds). IsOwnFrom x.exchange.settings (length x.exchange.goods) own.bidder 0 now (map (step_of o.number own.bidder.name) x.going)
       (record { regret = x.closed.settlement.regret; kept = set_of x.closed.settlement.final.sets o.number; cut = x.closed.cut; surplus = x.closed.surplus; payment = own.payment }))
       (at_map (λ (y : Bidder). y.bounds) x.exchange.bidders o.number own.bidder no_bounds o.bidder)
-      (own_from x.exchange right.exchange o.number own.bidder o.bidder 0 (opening_bounds x.exchange) x.going x.closed own.payment (opening_count x.exchange) right.settlements stated.prices stated.discounts o.payment));
+      (own_from x.exchange right.exchange o.number own.bidder o.bidder 0 (opening_bounds x.exchange) x.going x.closed own.payment (length-bounds x.exchange) right.settlements stated.prices stated.discounts o.payment));
 }

@@ -1,13 +1,10 @@
 -- Each line of a statement has one spelling, and bytes are the
 -- lines of one statement or have one least line at fault.
-use Rattle.std.proofs.Common.{◌≡◌, ℕ, ◌<◌, Bool, true, false, ltb, List, [], ◌∷◌, ◌++◌, map, length, codes, Contains, refl, sym, ap, ◌∙◌, append_assoc, arith}
+use Rattle.std.proofs.Common.{◌≡◌, ℕ, Bool, true, false, ltb, List, [], ◌∷◌, ◌++◌, map, length, codes, refl, sym, ap, ◌∙◌, append_assoc, arith}
 use Rattle.std.specs.List.{AllByRecursion, list_all}
 use Rattle.std.proofs.lemmas.Bool.{and_parts, ltb-true}
-use Rattle.std.proofs.lemmas.Bool.Decides.{nat_tests}
 use Rattle.std.proofs.lemmas.List.{append-nil}
 use Rattle.std.proofs.lemmas.List.Concat.{flat_map-cons}
-use Rattle.std.proofs.lemmas.List.Elements.{Contains-append_right}
-use Rattle.ice_defs.specs.Name.{is_name_byte}
 use Rattle.ice_defs.specs.declared.Verdict.TheVariants as verdict
 use Rattle.ice_defs.specs.Steps.{branch, leaf, dead}
 use Rattle.ice_journal.specs.Records.{Record, EndWord, assign_end, exchange_end, prices_end, regret_end, closed_end, open_end, spent_end, limit_end}
@@ -17,6 +14,9 @@ use Rattle.ice_journal.specs.Spelling.{bit_byte, bits, text_of}
 use Rattle.ice_journal.specs.Journal.{LinesFault, grammar, unended}
 use Rattle.ice_statement_laws.specs.Statement.{StatementLine, named, shown, kept, offered, ended, statement_text}
 use Rattle.ice_statement_laws.specs.Texts.{IsLine, line_text, bytes_of_lines, AreLines, IsNoLine, LinesComeTo, IsLineFault}
+use Rattle.ice_journal.proofs.Journals.{IsOneLine, one_line, clear_line, first_line, no_newline, some_line}
+use Rattle.ice_journal.proofs.Clear.{clear_name}
+use Rattle.ice_journal.proofs.OneSpelling.{bits_same}
 
 -- ---- no line of a record is another line of a statement
 
@@ -98,15 +98,6 @@ ended_apart other e f g = absurd (omega (arith, e))
 
 -- ---- one spelling
 
-bits_same : (bs cs : List Bool) → map bit_byte bs ≡ map bit_byte cs → bs ≡ cs
-bits_same [] [] e = refl
-bits_same [] (c ∷ cs) e = absurd cc
-bits_same (b ∷ bs) [] e = absurd cc
-bits_same (true ∷ bs) (true ∷ cs) e = ap (λ (xs : List Bool). true ∷ xs) (bits_same bs cs (cc))
-bits_same (false ∷ bs) (false ∷ cs) e = ap (λ (xs : List Bool). false ∷ xs) (bits_same bs cs (cc))
-bits_same (true ∷ bs) (false ∷ cs) e = absurd (let h : ◌≡◌ {A = ℕ} 49 48 = cc in omega arith)
-bits_same (false ∷ bs) (true ∷ cs) e = absurd (let h : ◌≡◌ {A = ℕ} 48 49 = cc in omega arith)
-
 module _ (one_spelling : (a b : Record) → IsRecord a → IsRecord b → text_of a ≡ text_of b → a ≡ b) where
   pub one_line_spelling : (a b : StatementLine) → IsLine a → IsLine b → statement_text a ≡ statement_text b → a ≡ b
   one_line_spelling (named n) (named m) p q e = ap named (ap (λ bs. later (later (later (later (later (later (later (later (later (later bs)))))))))) e)
@@ -137,21 +128,8 @@ module _ (one_spelling : (a b : Record) → IsRecord a → IsRecord b → text_o
 
 -- ---- lines
 
--- no newline
-abbrev pub IsOneLine : List ℕ → Type 0
-IsOneLine text = AllByRecursion (λ b. b ≡ 10 → ⊥) text
-
-name_byte : (b : ℕ) → is_name_byte b ≡ true → 32 < b
-name_byte b h = grind (arith, nat_tests)
-
-name_bytes : (name : List ℕ) → list_all is_name_byte name ≡ true → IsOneLine name
-name_bytes [] h = tt
-name_bytes (b ∷ bs) h =
-    let p = and_parts (is_name_byte b) (list_all is_name_byte bs) h in
-    (λ e. absurd (omega (arith, e, name_byte b p.0)), name_bytes bs p.1)
-
 name_line : (name : List ℕ) → IsName name → IsOneLine name
-name_line name h = name_bytes name (and_parts _ (list_all is_name_byte name) h).1
+name_line name h = clear_line name (clear_name name h)
 
 bits_line : (s : List Bool) → IsOneLine (map bit_byte s)
 bits_line [] = tt
@@ -168,31 +146,6 @@ literal [] h = tt
 literal (b ∷ bs) h =
     let p = and_parts (ltb 10 b) (list_all (λ c. ltb 10 c) bs) h in
     (λ e. absurd (omega (arith, e, ltb-true 10 b p.0)), literal bs p.1)
-
-pub one_line : (text : List ℕ) → (Contains text 10 → ⊥) → IsOneLine text
-one_line [] none = tt
-one_line (b ∷ bs) none = (λ e. none (0, omega arith, e), one_line bs (λ h. none (Contains-append_right (b ∷ []) bs 10 h)))
-
--- the first newline ends the first line
-first_line : (a b x y : List ℕ) → IsOneLine a → IsOneLine b → a ++ 10 ∷ x ≡ b ++ 10 ∷ y → (a ≡ b) × (x ≡ y)
-first_line [] [] x y p q e = (refl, cc)
-first_line [] (b ∷ bs) x y p q e = absurd (q.0 (cc))
-first_line (a ∷ more) [] x y p q e = absurd (p.0 (cc))
-first_line (a ∷ more) (b ∷ bs) x y p q e =
-    let rest : more ++ 10 ∷ x ≡ bs ++ 10 ∷ y = cc in
-    let h = first_line more bs x y p.1 q.1 rest in
-    let heads : a ≡ b = cc in
-    (λ i. heads i ∷ h.0 i, h.1)
-
-no_newline : (a b x : List ℕ) → IsOneLine a → a ≡ b ++ 10 ∷ x → ⊥
-no_newline [] [] x p e = absurd cc
-no_newline [] (b ∷ bs) x p e = absurd cc
-no_newline (a ∷ more) [] x p e = p.0 (cc)
-no_newline (a ∷ more) (b ∷ bs) x p e = no_newline more bs x p.1 (cc)
-
-some_line : (text after : List ℕ) → [] ≡ text ++ 10 ∷ after → ⊥
-some_line [] after e = absurd cc
-some_line (b ∷ bs) after e = absurd cc
 
 module _ (one_spelling : (a b : Record) → IsRecord a → IsRecord b → text_of a ≡ text_of b → a ≡ b) (record_line : (r : Record) → IsRecord r → IsOneLine (text_of r)) where
   line_is : (l : StatementLine) → IsLine l → IsOneLine (statement_text l)

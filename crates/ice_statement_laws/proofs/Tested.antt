@@ -4,7 +4,7 @@ use Rattle.std.proofs.Common.{◌≡◌, ℕ, suc, Bool, true, false, cond, eqb,
 use Rattle.std.specs.Prelude.{if◌then◌else◌, ◌==◌, Option, Some, None, option_map, IsSomeAnd, slice_index_or}
 use Rattle.std.specs.List.{flat_map, AllByRecursion}
 use Rattle.std.specs.Str.{bytes_eq}
-use Rattle.std.proofs.lemmas.Option.{none-some}
+use Rattle.std.proofs.lemmas.Option.{none-some, same_Some}
 use Rattle.ice_defs.specs.Bound.{Multipliers}
 use Rattle.ice_defs.specs.Steps.{Step, sides_after}
 use Rattle.ice_defs.specs.Prices.{Prices}
@@ -35,9 +35,6 @@ use Rattle.ice_journal_laws.proofs.Leading.{failed_passes}
 use Rattle.ice_journal_laws.proofs.Heads.{tested_leads}
 use Rattle.ice_journal_laws.proofs.Faultless.{covered}
 use Rattle.ice_statement_laws.specs.Parts.{IsStated}
-
-some_same : {X : Type 0} (x y : X) → Some x ≡ Some y → x ≡ y
-some_same x y e = cc
 
 -- ---- prices, the cut and payments stand nowhere else
 
@@ -103,7 +100,7 @@ threshold_next s (at_log g found sides m) cut surplus after e =
     absurd (none-some after (sym (ap (λ (o : Option Step). option_map (to_line (suc s.line)) (option_map (λ x. after_step s g found (sides_after sides x) (multipliers_after m x)) o)) (late_step s.version (goods_at s) m (line.threshold cut surplus) of_threshold)) ∙ e))
 threshold_next s (at_spent_log open_sides) cut surplus after e =
     absurd (none-some after (sym (ap (λ (o : Option Step). option_map (to_line (suc s.line)) (option_map (λ x. go_to (if open_after x open_sides == 0 then at_end spent_end else at_spent_log (open_after x open_sides)) s) o)) (late_step s.version (goods_at s) (all_zero (goods_at s)) (line.threshold cut surplus) of_threshold)) ∙ e))
-threshold_next s at_threshold cut surplus after e = let same : to_line (suc s.line) (go_to (at_payment 0) (record s { cut = cut; surplus = surplus })) ≡ after = some_same _ _ e in ap (λ (t : State). t.cut) (sym same)
+threshold_next s at_threshold cut surplus after e = let same : to_line (suc s.line) (go_to (at_payment 0) (record s { cut = cut; surplus = surplus })) ≡ after = same_Some _ _ e in ap (λ (t : State). t.cut) (sym same)
 threshold_next s other cut surplus after e = absurd (none-some after e)
 
 -- a payment that passes its test states the discount that the cut leaves, and the cut stays
@@ -132,7 +129,7 @@ payment_next s (at_payment b) p after e fine = record {
     vickrey_is = covered true _ _ (λ no. fine (λ line. no line.vickrey_is))
 
     by : (t : Bool) → option_map (to_line (suc s.line)) (if_true t (go_to (if suc b == bidder_count s then at_end closed_end else at_payment (suc b)) s)) ≡ Some after → after.cut ≡ s.cut
-    by true f = let same : to_line (suc s.line) (go_to (if suc b == bidder_count s then at_end closed_end else at_payment (suc b)) s) ≡ after = some_same _ _ f in ap (λ (t : State). t.cut) (sym same)
+    by true f = let same : to_line (suc s.line) (go_to (if suc b == bidder_count s then at_end closed_end else at_payment (suc b)) s) ≡ after = same_Some _ _ f in ap (λ (t : State). t.cut) (sym same)
     by false f = absurd (none-some after f)
 payment_next s other p after e fine = absurd (none-some after e)
 

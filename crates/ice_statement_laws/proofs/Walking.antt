@@ -1,6 +1,6 @@
 -- The audit passes over the settlements of a statement that is right.
-use Rattle.std.proofs.Common.{◌≡◌, ℕ, suc, ◌<◌, Bool, true, false, cond, int_le, List, [], ◌∷◌, ◌++◌, map, length, ℤ, pos, refl, sym, ◌∙◌, ap, subst, arith, append_assoc, inl, inr}
-use Rattle.std.specs.Prelude.{◌||◌, ◌⊎◌, Option, Some, None, option_map, IsSomeAnd, ◌≢◌, ◌*ℤ◌, ◌<ℤ◌, ◌≤ℤ◌}
+use Rattle.std.proofs.Common.{◌≡◌, ℕ, suc, ◌<◌, Bool, true, cond, int_le, List, [], ◌∷◌, ◌++◌, map, length, ℤ, pos, refl, sym, ◌∙◌, ap, subst, arith, append_assoc, inl, inr}
+use Rattle.std.specs.Prelude.{◌⊎◌, Option, Some, None, option_map, IsSomeAnd, ◌≢◌, ◌*ℤ◌, ◌<ℤ◌, ◌≤ℤ◌}
 use Rattle.std.specs.List.{flat_map, list_any, AllByRecursion}
 use Rattle.std.proofs.lemmas.Bool.{eq-eqb}
 use Rattle.std.proofs.lemmas.Option.{none-some}
@@ -31,6 +31,7 @@ use Rattle.ice_journal_laws.specs.Written.{payment_record, judged_records}
 use Rattle.ice_statement_laws.specs.Statement.{StatementLine, shown, kept}
 use Rattle.ice_statement_laws.specs.Audit.{Spot, at_regret, at_kept, at_offered, at_prices, at_round, at_verdict, at_threshold, at_payment, at_end, AuditState, bidder_at, audit_next, stated_set, IsUnsatisfied, AreUnlawful, HasUnlawfulPrices, IsOtherVerdict, IsOtherPayment, IsRefused, AuditFails, Audited, passes, goes_on}
 use Rattle.ice_statement_laws.specs.Own.{OwnStep, OwnClosed, step_lines, closed_lines, lines_from, AreOwnPrices, IsOwnClosed, IsOwnFrom}
+use Rattle.ice_round_laws.proofs.Entering.{taken_push}
 
 -- ---- one line that passes
 
@@ -52,18 +53,6 @@ quiet s after l is refused count fault prices verdict payment other f = f
 
 le_true : (a b : ℤ) → a ≤ℤ b → int_le a b ≡ true
 le_true a b h = grind (arith, ints, h)
-
-any_more : (judged : List Judged) (j : Judged) → list_any is_accepted (judged ++ j ∷ []) ≡ (list_any is_accepted judged || is_accepted j)
-any_more [] j = by (is_accepted j)
-  where
-    by : (b : Bool) → (b || false) ≡ b
-    by true = refl
-    by false = refl
-any_more (k ∷ judged) j = by (is_accepted k) (any_more judged j)
-  where
-    by : (b : Bool) → list_any is_accepted (judged ++ j ∷ []) ≡ (list_any is_accepted judged || is_accepted j) → (b || list_any is_accepted (judged ++ j ∷ [])) ≡ ((b || list_any is_accepted judged) || is_accepted j)
-    by true e = refl
-    by false e = e
 
 -- ---- the lines behind the number of a settlement
 
@@ -136,7 +125,7 @@ module _ (settings : Settings) (goods : List Good) (bidder : Bidder) where
       subst (λ (ls : List line.Record). Audited (at n number at_round bounds a x y p past cut) (map shown ls ++ rest) None) (sym (flat_map-cons judged_records j todo))
       (goes_on (quiet _ _ _ submit_on (λ h. h) (λ h. h) (λ k h. h) (λ h. h) (λ h. h) (λ h. h)) tt submit_on
       (goes_on (quiet _ _ _ refl (λ h. h) (λ h. h) (λ k h. h) (λ h. h) (λ h. h judges.0) (λ h. h)) judges.0 refl
-      (round_on (suc (suc n)) number bounds a x y p cut (past ++ j ∷ []) todo rest names.1 (subst (λ (b : Bool). JudgesInOrder p settings.improve (standing_of bounds y) b todo) (sym (any_more past j)) judges.1)
+      (round_on (suc (suc n)) number bounds a x y p cut (past ++ j ∷ []) todo rest names.1 (subst (λ (b : Bool). JudgesInOrder p settings.improve (standing_of bounds y) b todo) (sym (taken_push past j)) judges.1)
       (λ m. subst (λ (js : List Judged). Audited (at m number at_round bounds a x y p js cut) rest None) (sym (append_assoc past (j ∷ []) todo)) (later m)))))
     where
       submit_on : audit_next (at n number at_round bounds a x y p past cut) (shown (line.submit j.submission)) ≡ Some (at (suc n) number (at_verdict j.submission) bounds a x y p past cut)

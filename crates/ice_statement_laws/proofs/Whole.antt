@@ -18,7 +18,7 @@ use Rattle.ice_statement_laws.proofs.Parting.{part_right}
 use Rattle.ice_statement_laws.proofs.Stating.{lines_are_own}
 use Rattle.ice_statement_laws.proofs.Ranging.{own_lawful, own_pays}
 use Rattle.ice_statement_laws.proofs.Accepting.{right_parts_pass}
-use Rattle.ice_statement_laws.proofs.Spelling.{IsOneLine}
+use Rattle.ice_journal.proofs.Journals.{IsOneLine}
 use Rattle.ice_statement_laws.proofs.Answering.{answer_is_one}
 
 module _ (taken : DescribedAreTaken) (records_of : DescribedAreRecords)
