@@ -2,6 +2,7 @@
 use Rattle.std.proofs.Common.{ℕ, suc, ◌≡◌, Bool, true, false, List, [], ◌∷◌, ◌++◌, length, map, ℤ, refl, ap, sym, subst, ◌∙◌}
 use Rattle.std.specs.Prelude.{Option, Some, IfSome, option_and_then}
 use Rattle.std.specs.List.{AllByRecursion, flat_map}
+use Rattle.std.proofs.lemmas.Option.{same_Some}
 use Rattle.ice_defs.specs.declared.NodeKind.{NodeKind}
 use Rattle.ice_defs.specs.declared.NodeKind.TheVariants.{Choose, Buy, Sell}
 use Rattle.ice_defs.specs.Sum.{numbers_below}
@@ -140,13 +141,10 @@ pub quiet_submits : (s : State) (truths : List (List ℤ)) (records : List Recor
 quiet_submits s truths [] quiet = tt
 quiet_submits s truths (r ∷ rest) quiet = (quiet_record s truths r quiet.0, λ after e. quiet_submits after truths rest quiet.1)
 
-some_same : {X : Type 0} (a b : X) → Some a ≡ Some b → a ≡ b
-some_same a b e = cc
-
 pub submits_then : (s t : State) (truths : List (List ℤ)) (r : Record) (rest : List Record) → SubmitsRecord s truths r → next s r ≡ Some t → SubmitsProxies t truths rest → SubmitsProxies s truths (r ∷ rest)
-submits_then s t truths r rest is e more = (is, λ after f. subst (λ (u : State). SubmitsProxies u truths rest) (some_same t after (sym e ∙ f)) more)
+submits_then s t truths r rest is e more = (is, λ after f. subst (λ (u : State). SubmitsProxies u truths rest) (same_Some t after (sym e ∙ f)) more)
 
 pub submits_join : (s t : State) (truths : List (List ℤ)) (a b : List Record) → SubmitsProxies s truths a → after_all s a ≡ Some t → SubmitsProxies t truths b → SubmitsProxies s truths (a ++ b)
-submits_join s t truths [] b is e more = subst (λ (u : State). SubmitsProxies u truths b) (some_same t s (sym e)) more
+submits_join s t truths [] b is e more = subst (λ (u : State). SubmitsProxies u truths b) (same_Some t s (sym e)) more
 submits_join s t truths (r ∷ rest) b is e more =
     (is.0, λ after f. submits_join after t truths rest b (is.1 after f) (sym (ap (λ (o : Option State). option_and_then (λ x. after_all x rest) o) f) ∙ e) more)
