@@ -214,7 +214,11 @@ class Rounds:
         )
         rows = map(self.bidder, self.view.bidders)
         legend = key(
-            "bars: upper less lower values at each settlement, as a share of the opening",
+            tag(
+                "span",
+                "bars: upper less lower values at each settlement, as a share of the opening",
+                class_="wider",
+            ),
             f"●&nbsp;{numbers.whole(self.accepted)} accepted",
             f'<b class="bad">×</b>&nbsp;{numbers.whole(self.refused)} refused',
         )
