@@ -35,7 +35,7 @@ use Rattle.ice_audit.specs.declared.next.Next.TheVariants as next
 use Rattle.ice_audit.specs.declared.settlements.Settlements.{Settlements}
 use Rattle.ice_audit.specs.Standing.{own_tree, own_name, IsFit, IsAt, paid_of}
 use Rattle.ice_audit.specs.Taking.{FailsFirst}
-use Rattle.ice_audit.specs.Auditing.{is_named_by, section_stop, stop_of_number, InSection, GoesFurther, TakesFurther}
+use Rattle.ice_audit.specs.Auditing.{is_named_by, section_stop, stop_of_number, InSection, GoesFurther, StopsAt}
 use Rattle.ice_audit.proofs.Failing.{order_fails, exchange_fails}
 use Rattle.ice_audit.proofs.Tools.{passes_from, fails_from}
 
@@ -115,11 +115,11 @@ module _ (own : OwnSection) (r : Record) (k : IsOwnSection own.name own.section)
         fails_from s at_section (shown r) rule.Exchange st.spot
         (exchange_fails (move_to at_section s) (move_to at_section s) (shown r) (section_at s st true called (Err f) e ∙ stays) (ap is_refusal (ap (λ (x : Section). take_record x r) st.section ∙ e) ∙ is))
 
-    by_number : (o : Option ℕ) → IfSome o (λ number. take_record own.section r ≡ Err (maker number)) → TakesFurther (so_far.Section own) (shown r) (Err (stop_of_number o))
+    by_number : (o : Option ℕ) → IfSome o (λ number. take_record own.section r ≡ Err (maker number)) → StopsAt (so_far.Section own) (shown r) (stop_of_number o)
     by_number None h = tt
     by_number (Some number) h = λ s st. refused_with (maker number) s st h refl refl
 
-    pub section_stops : (f : declared.SectionFault) → IsRefusal (take_record own.section r) f → TakesFurther (so_far.Section own) (shown r) (Err (section_stop f))
+    pub section_stops : (f : declared.SectionFault) → IsRefusal (take_record own.section r) f → StopsAt (so_far.Section own) (shown r) (section_stop f)
     section_stops fault.Order h = disordered h
     section_stops fault.Count h = λ s st. refused_with count s st h refl refl
     section_stops fault.NoGood h = λ s st. refused_with no_good s st h refl refl

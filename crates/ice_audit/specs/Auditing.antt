@@ -22,6 +22,7 @@ use Rattle.ice_audit.specs.declared.auditor.Auditor.{Auditor}
 use Rattle.ice_audit.specs.declared.auditor.Auditor.TheVariants as so_far
 use Rattle.ice_audit.specs.declared.auditor.Stop.{Stop}
 use Rattle.ice_audit.specs.declared.auditor.Stop.TheVariants.{Fails, NoMemory}
+use Rattle.ice_audit.specs.declared.settlements.Settlements.{Settlements}
 use Rattle.ice_audit.specs.declared.standing.Standing.{Standing}
 use Rattle.ice_audit.specs.declared.standing.Standing.TheVariants.{Going, Failed}
 use Rattle.ice_audit.specs.Standing.{IsKept, Stands, paid_of, payment_at_end}
@@ -90,10 +91,29 @@ pub record GoesFurther (a : Auditor) (l : StatementLine) (after : Auditor) : Typ
   pub goes : (s : AuditState) → StandsFor a s → GoesTo s l after
 
 -- want of memory is free
-abbrev pub TakesFurther : Auditor → StatementLine → Result Auditor Stop → Type 0
-TakesFurther a l (Ok after) = GoesFurther a l after
-TakesFurther a l (Err (Fails rule)) = (s : AuditState) → StandsFor a s → FailsFirst s l rule
-TakesFurther a l (Err NoMemory) = Unit {0}
+abbrev pub StopsAt : Auditor → StatementLine → Stop → Type 0
+StopsAt a l (Fails rule) = (s : AuditState) → StandsFor a s → FailsFirst s l rule
+StopsAt a l NoMemory = Unit {0}
+
+abbrev pub TakesFurther : {X : Type 0} → Auditor → StatementLine → Result X Stop → Auditor → Type 0
+TakesFurther a l (Ok done) after = GoesFurther a l after
+TakesFurther a l (Err stop) after = StopsAt a l stop
+
+-- the name
+abbrev pub Begins : StatementLine → Result OwnSection Stop → Type 0
+Begins l (Ok own) = GoesFurther so_far.Name l (so_far.Section own)
+Begins l (Err stop) = StopsAt so_far.Name l stop
+
+-- the first settlement
+abbrev pub EndsSection : OwnSection → StatementLine → Result Settlements Stop → Type 0
+EndsSection own l (Ok x) = GoesFurther (so_far.Section own) l (so_far.Settlements x)
+EndsSection own l (Err stop) = StopsAt (so_far.Section own) l stop
+
+-- a record of the section, or the first settlement
+abbrev pub TakesOwn : OwnSection → StatementLine → Result (Option Settlements) Stop → OwnSection → Type 0
+TakesOwn own l (Ok None) after = GoesFurther (so_far.Section own) l (so_far.Section after)
+TakesOwn own l (Ok (Some x)) after = GoesFurther (so_far.Section own) l (so_far.Settlements x)
+TakesOwn own l (Err stop) after = StopsAt (so_far.Section own) l stop
 
 -- ---- the lines so far
 

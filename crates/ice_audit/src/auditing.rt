@@ -26,10 +26,9 @@ pub fn audit(alloc: Global, bytes: &[u8]) -> Result<AuditAnswer, AuditEnd>
         let Some(line) = read_line(text) else {
             return Err(AuditEnd::Grammar { line: number });
         };
-        let Ok(next) = standing.after(alloc, number, &line) else {
+        if standing.take(alloc, number, &line).is_err() {
             return Err(AuditEnd::NoMemory);
-        };
-        standing = next;
+        }
         number += 1;
         rest = after;
     }

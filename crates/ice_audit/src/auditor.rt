@@ -9,7 +9,7 @@ ghost use Rattle.ice_statement_laws.specs.Statement.{shown};
 ghost use Rattle.ice_statement_laws.specs.Texts.{IsLine};
 ghost use Rattle.ice_audit.specs.Lines.{line_of};
 ghost use Rattle.ice_audit.specs.Standing.{IsKept};
-ghost use Rattle.ice_audit.specs.Auditing.{is_named_by, is_first_settlement, section_stop, IsKeptBy, end_of, TakesFurther};
+ghost use Rattle.ice_audit.specs.Auditing.{is_named_by, is_first_settlement, section_stop, IsKeptBy, end_of, Begins, EndsSection, TakesOwn, TakesFurther};
 
 use crate::line::StatementLine;
 use crate::settlements::Settlements;
@@ -19,6 +19,7 @@ use ice_journal_laws::Rule;
 use ice_section::{Section, SectionFault};
 use ice_terms::Name;
 use std::alloc::{AllocError, Global};
+use std::mem;
 
 /// The name of a statement, and the section of its one bidder as far as it came.
 #[derive(Drop)]
@@ -84,43 +85,43 @@ impl OwnSection {
     }
 
     /// A record of the section.
-    fn describe(self, journal_line: &Line) -> Result<Auditor, Stop>
-        requires kept { IsOwnSection self.name self.section }
+    fn describe(&mut self, journal_line: &Line) -> Result<(), Stop>
+        requires kept { IsOwnSection self.old.name self.old.section }
         requires lawful { IsRecord (record_of journal_line.now) }
-        requires more { may_end self.section ≡ false }
-        ensures { TakesFurther (Auditor.Section self) (shown (record_of journal_line.now)) result }
+        requires more { may_end self.old.section ≡ false }
+        ensures { TakesFurther (Auditor.Section self.old) (shown (record_of journal_line.now))
+            result (Auditor.Section self.new) }
     {
         if !self.allows(journal_line) {
             return Err(Stop::Fails(Rule::Order));
         }
-        let OwnSection { name, mut section } = self;
-        match section.take(journal_line) {
-            Ok(()) => Ok(Auditor::Section(OwnSection { name, section })),
+        match self.section.take(journal_line) {
+            Ok(()) => Ok(()),
             Err(fault) => Err(section_stop(fault)),
         }
     }
 
-    /// The first settlement begins.
-    fn finish(self, alloc: Global) -> Result<Auditor, Stop>
-        requires kept { IsOwnSection self.name self.section }
-        requires complete { IsTrue (may_end self.section) }
-        ensures { TakesFurther (Auditor.Section self) (shown (records.settle 0)) result }
+    /// The first settlement begins; then the section is of no more use.
+    fn finish(&mut self, alloc: Global) -> Result<Settlements, Stop>
+        requires kept { IsOwnSection self.old.name self.old.section }
+        requires complete { IsTrue (may_end self.old.section) }
+        ensures { EndsSection self.old (shown (records.settle 0)) result }
     {
-        let OwnSection { name: _, section } = self;
+        let section = mem::replace(&mut self.section, Section::new(alloc));
         let Ok(exchange) = section.finish() else {
             return Err(Stop::NoMemory);
         };
         match Settlements::new(alloc, exchange) {
-            Ok(settlements) => Ok(Auditor::Settlements(settlements)),
+            Ok(settlements) => Ok(settlements),
             Err(AllocError) => Err(Stop::NoMemory),
         }
     }
 
     /// A record behind the section.
-    fn end(self, alloc: Global, journal_line: &Line) -> Result<Auditor, Stop>
-        requires kept { IsOwnSection self.name self.section }
-        requires complete { IsTrue (may_end self.section) }
-        ensures { TakesFurther (Auditor.Section self) (shown (record_of journal_line.now)) result }
+    fn end(&mut self, alloc: Global, journal_line: &Line) -> Result<Settlements, Stop>
+        requires kept { IsOwnSection self.old.name self.old.section }
+        requires complete { IsTrue (may_end self.old.section) }
+        ensures { EndsSection self.old (shown (record_of journal_line.now)) result }
     {
         if is_first_settlement(journal_line) {
             self.finish(alloc)
@@ -129,38 +130,44 @@ impl OwnSection {
         }
     }
 
-    /// A record in the section or behind it.
-    fn take(self, alloc: Global, journal_line: &Line) -> Result<Auditor, Stop>
-        requires kept { IsOwnSection self.name self.section }
+    /// A record in the section or behind it, where it gives the settlements; then the section is of
+    /// no more use.
+    fn take(&mut self, alloc: Global, journal_line: &Line) -> Result<Option<Settlements>, Stop>
+        requires kept { IsOwnSection self.old.name self.old.section }
         requires lawful { IsRecord (record_of journal_line.now) }
-        ensures { TakesFurther (Auditor.Section self) (shown (record_of journal_line.now)) result }
+        ensures { TakesOwn self.old (shown (record_of journal_line.now)) result self.new }
     {
         if self.section.may_end() {
-            self.end(alloc, journal_line)
+            Ok(Some(self.end(alloc, journal_line)?))
         } else {
-            self.describe(journal_line)
+            self.describe(journal_line)?;
+            Ok(None)
         }
     }
 }
 
 /// The first line.
-fn begin(alloc: Global, line: &StatementLine) -> Result<Auditor, Stop>
-    ensures { TakesFurther Auditor.Name (line_of line.now) result }
+fn begin(alloc: Global, line: &StatementLine) -> Result<OwnSection, Stop>
+    ensures { Begins (line_of line.now) result }
 {
     match line {
-        StatementLine::Named(name) => Ok(Auditor::Section(OwnSection {
+        StatementLine::Named(name) => Ok(OwnSection {
             name: name.copy(),
             section: Section::new(alloc),
-        })),
+        }),
         _ => Err(Stop::Fails(Rule::Order)),
     }
 }
 
 /// A line of the section or behind it.
-fn describe(alloc: Global, own: OwnSection, line: &StatementLine) -> Result<Auditor, Stop>
-    requires kept { IsOwnSection own.name own.section }
+fn describe(
+    own: &mut OwnSection,
+    alloc: Global,
+    line: &StatementLine,
+) -> Result<Option<Settlements>, Stop>
+    requires kept { IsOwnSection own.old.name own.old.section }
     requires lawful { IsLine (line_of line.now) }
-    ensures { TakesFurther (Auditor.Section own) (line_of line.now) result }
+    ensures { TakesOwn own.old (line_of line.now) result own.new }
 {
     match line {
         StatementLine::Shown(record) => own.take(alloc, record),
@@ -169,30 +176,38 @@ fn describe(alloc: Global, own: OwnSection, line: &StatementLine) -> Result<Audi
 }
 
 /// A line of the settlements.
-fn settle(mut settlements: Settlements, line: &StatementLine) -> Result<Auditor, Stop>
-    requires kept { IsKept settlements }
+fn settle(settlements: &mut Settlements, line: &StatementLine) -> Result<(), Stop>
+    requires kept { IsKept settlements.old }
     requires lawful { IsLine (line_of line.now) }
-    ensures { TakesFurther (Auditor.Settlements settlements) (line_of line.now) result }
+    ensures { TakesFurther (Auditor.Settlements settlements.old) (line_of line.now) result
+        (Auditor.Settlements settlements.new) }
 {
     match settlements.take(line) {
-        Ok(()) => Ok(Auditor::Settlements(settlements)),
+        Ok(()) => Ok(()),
         Err(rule) => Err(Stop::Fails(rule)),
     }
 }
 
 impl Auditor {
-    /// Takes the next line, or tells the first test that fails. Memory is wanted up to the first
-    /// settlement alone.
-    pub(crate) fn take(self, alloc: Global, line: &StatementLine) -> Result<Auditor, Stop>
-        requires kept { IsKeptBy self }
+    /// Takes the next line, or tells the first test that fails; then it is of no more use. Memory
+    /// is wanted up to the first settlement alone.
+    pub(crate) fn take(&mut self, alloc: Global, line: &StatementLine) -> Result<(), Stop>
+        requires kept { IsKeptBy self.old }
         requires lawful { IsLine (line_of line.now) }
-        ensures { TakesFurther self (line_of line.now) result }
+        ensures { TakesFurther self.old (line_of line.now) result self.new }
     {
         match self {
-            Auditor::Name => begin(alloc, line),
-            Auditor::Section(own) => describe(alloc, own, line),
-            Auditor::Settlements(settlements) => settle(settlements, line),
+            Auditor::Name => {
+                *self = Auditor::Section(begin(alloc, line)?);
+            }
+            Auditor::Section(own) => {
+                if let Some(settlements) = describe(own, alloc, line)? {
+                    *self = Auditor::Settlements(settlements);
+                }
+            }
+            Auditor::Settlements(settlements) => settle(settlements, line)?,
         }
+        Ok(())
     }
 
     /// The payment, where no line is wanted any more.

@@ -1,8 +1,9 @@
 //! The rounds of a statement: submissions of its bidder, their verdicts, and the next settlement.
-ghost use Rattle.std.specs.Prelude.{◌≡◌, ◌≢◌, ◌≤◌, ◌==◌, suc, IsTrue, false, length};
+ghost use Rattle.std.specs.Prelude.{◌≡◌, ◌≢◌, ◌≤◌, ◌==◌, suc, IsTrue, false, length, replicate};
 ghost use Rattle.std.specs.Str.{bytes_eq};
 ghost use Rattle.ice_journal.specs.Records as records;
 ghost use Rattle.ice_journal.specs.Ranges.{IsRecord};
+ghost use Rattle.ice_verdicts.specs.Judges.{IsRoundOf};
 ghost use Rattle.ice_statement_laws.specs.Statement.{shown};
 ghost use Rattle.ice_audit.specs.Standing.{own_name, IsKept};
 ghost use Rattle.ice_audit.specs.Taking.{submit_line, GoesOn, Takes};
@@ -95,6 +96,20 @@ impl Settlements {
         }
     }
 
+    /// The bounds that the round leaves are those at which the next one begins.
+    fn keep_bounds(&mut self)
+        requires { IsKept self.old }
+        ensures judge { self.new ≡ record self.old {
+          judge = record self.old.judge {
+            bounds = self.old.judge.next;
+            marks = replicate (length self.old.judge.marks) false;
+          };
+        } }
+        ensures round { IsRoundOf self.old.exchange self.new.judge }
+    {
+        self.judge.begin_next();
+    }
+
     /// The settlement that follows the round, at the bounds that it leaves.
     fn begin_next(&mut self, number: u8)
         requires next { self.old.next ≡ Next.Round }
@@ -102,7 +117,7 @@ impl Settlements {
         requires follows { IsTrue (number == suc self.old.number) }
         ensures { GoesOn self.old (shown (records.settle number)) self.new }
     {
-        self.judge.begin_next();
+        self.keep_bounds();
         self.number = number;
         self.next = Next::Regret;
     }

@@ -1,5 +1,5 @@
 //! What is known of the lines of a statement so far.
-ghost use Rattle.std.specs.Prelude.{◌≡◌, suc, List, length, IfOk};
+ghost use Rattle.std.specs.Prelude.{◌≡◌, suc, List, length, OnOk};
 ghost use Rattle.ice_statement_laws.specs.Statement as spec;
 ghost use Rattle.ice_statement_laws.specs.Texts.{IsLine};
 ghost use Rattle.ice_audit.specs.Lines.{line_of};
@@ -20,39 +20,28 @@ pub(crate) enum Standing {
     Failed { line: u64, rule: Rule },
 }
 
-/// A line behind lines that pass, which has this number.
-fn go_on(
-    auditor: Auditor,
-    alloc: Global,
-    number: u64,
-    line: &StatementLine,
-) -> Result<Standing, AllocError>
-    requires kept { IsKeptAt (Standing.Going auditor) }
-    requires lawful { IsLine (line_of line.now) }
-    ensures { IfOk result (GoesBehind number (Standing.Going auditor) (line_of line.now)) }
-{
-    match auditor.take(alloc, line) {
-        Ok(next) => Ok(Standing::Going(next)),
-        Err(Stop::Fails(rule)) => Ok(Standing::Failed { line: number, rule }),
-        Err(Stop::NoMemory) => Err(AllocError),
-    }
-}
-
 impl Standing {
-    /// What is known behind one more line, which has this number.
-    pub(crate) fn after(
-        self,
+    /// Takes one more line, which has this number.
+    pub(crate) fn take(
+        &mut self,
         alloc: Global,
         number: u64,
         line: &StatementLine,
-    ) -> Result<Standing, AllocError>
-        requires kept { IsKeptAt self }
+    ) -> Result<(), AllocError>
+        requires kept { IsKeptAt self.old }
         requires lawful { IsLine (line_of line.now) }
-        ensures { IfOk result (GoesBehind number self (line_of line.now)) }
+        ensures { OnOk result (GoesBehind number self.old (line_of line.now) self.new) }
     {
         match self {
-            Standing::Going(auditor) => go_on(auditor, alloc, number, line),
-            Standing::Failed { line, rule } => Ok(Standing::Failed { line, rule }),
+            Standing::Going(auditor) => match auditor.take(alloc, line) {
+                Ok(()) => Ok(()),
+                Err(Stop::Fails(rule)) => {
+                    *self = Standing::Failed { line: number, rule };
+                    Ok(())
+                }
+                Err(Stop::NoMemory) => Err(AllocError),
+            },
+            Standing::Failed { .. } => Ok(()),
         }
     }
 
