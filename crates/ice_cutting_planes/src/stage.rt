@@ -85,8 +85,8 @@ impl<'a> CutSearch<'a> {
         Ok(gaps)
     }
 
-    /// Adds the greatest gaps at a point as cuts, where the point doesn't meet them. Whether any was
-    /// added.
+    /// Adds the greatest gaps at a point as cuts, where the point doesn't meet them, and says
+    /// whether there was one.
     fn add_gaps(&mut self, dictionary: &mut Dictionary, point: &Point) -> Result<bool, GivenUp> {
         let gaps = self.wide_gaps(point)?;
         let mut is_added = false;
