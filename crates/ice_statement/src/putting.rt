@@ -16,20 +16,12 @@ use ice_journal::{Line, read_record};
 use ice_line::{LineWriter, split_line};
 use ice_set::NodeSet;
 
-/// Puts the line of the bidder's final set.
-fn put_kept<K: Sink>(set: &NodeSet, out: &mut K) -> Result<(), SinkFault>
-    ensures { IsPut (line_text (kept set.now)) result (K.taken out.old) (K.taken out.new) }
+/// Puts two pieces, one behind the other.
+fn put_both<K: Sink>(one: &[u8], other: &[u8], out: &mut K) -> Result<(), SinkFault>
+    ensures { IsPut (one.now ++ other.now) result (K.taken out.old) (K.taken out.new) }
 {
-    let mut writer = LineWriter::new();
-    out.put(write_kept(set, &mut writer))
-}
-
-/// Puts the line of the bidder's provisional set.
-fn put_offered<K: Sink>(set: &NodeSet, out: &mut K) -> Result<(), SinkFault>
-    ensures { IsPut (line_text (offered set.now)) result (K.taken out.old) (K.taken out.new) }
-{
-    let mut writer = LineWriter::new();
-    out.put(write_offered(set, &mut writer))
+    out.put(one)?;
+    out.put(other)
 }
 
 /// Puts the line of a record, where it is the bidder's.
@@ -46,8 +38,8 @@ fn put_regret<K: Sink>(text: &[u8], set: &NodeSet, out: &mut K) -> Result<(), Si
     ensures { IsPut (text.now ++ line_text (kept set.now)) result
         (K.taken out.old) (K.taken out.new) }
 {
-    out.put(text)?;
-    put_kept(set, out)
+    let mut writer = LineWriter::new();
+    put_both(text, write_kept(set, &mut writer), out)
 }
 
 /// Puts the bidder's provisional set, and behind it the line of the prices.
@@ -55,8 +47,8 @@ fn put_prices<K: Sink>(text: &[u8], set: &NodeSet, out: &mut K) -> Result<(), Si
     ensures { IsPut (line_text (offered set.now) ++ text.now) result
         (K.taken out.old) (K.taken out.new) }
 {
-    put_offered(set, out)?;
-    out.put(text)
+    let mut writer = LineWriter::new();
+    put_both(write_offered(set, &mut writer), text, out)
 }
 
 /// Puts what a record, which has this line, adds to a statement.
@@ -121,8 +113,7 @@ fn put_gathered<K: Sink>(bytes: &[u8], name: &[u8], out: &mut K) -> Result<(), S
 fn put_name<K: Sink>(name: &[u8], out: &mut K) -> Result<(), SinkFault>
     ensures { IsPut (name.now ++ 10 ∷ []) result (K.taken out.old) (K.taken out.new) }
 {
-    out.put(name)?;
-    out.put(b"\n")
+    put_both(name, b"\n", out)
 }
 
 /// Puts the first word.
