@@ -19,7 +19,7 @@ use Rattle.ice_commands.specs.FairServed.{IsLastEnd, IsFairFault, HasLast, SaysF
 use Rattle.ice_commands.specs.Output.{no_line, refused_line, unread_line}
 use Rattle.ice_commands.specs.Parts.{AreFetched, Answers, Serves}
 use Rattle.ice_commands.specs.Refusals.{fault_of, refusal_text, refusal_status, Refuses}
-use Rattle.ice_commands.specs.Unwritten.{IsUnwrittenOf}
+use Rattle.ice_commands.specs.Unwritten.{unwritten_text, unwritten_status, IsUnwrittenOf, IsUnwritten}
 use Rattle.ice_commands.proofs.Parts.{told_in_call}
 use Rattle.ice_commands.proofs.Refusing.{fault_anyway}
 
@@ -57,11 +57,11 @@ module _ (before after : Told) (file : List ℕ) where
   )
 
   -- it fails a test
-  pub failure_answers : (failure : Failure) → (bytes : List ℕ) × AreFailing failure bytes × AreFetched before file journal_limit bytes → Answers (λ call. FairAnswers call file) before after (no_line failure) No
+  failure_answers : (failure : Failure) → (bytes : List ℕ) × AreFailing failure bytes × AreFetched before file journal_limit bytes → Answers (λ call. FairAnswers call file) before after (no_line failure) No
   failure_answers failure (bytes, fails, told) call part text =
       (failure, (bytes, fails, told_in_call call before after file journal_limit (λ other. other ≡ bytes) part told), text)
 
-  pub refusal_answers : (refusal : Refusal) → Refuses 1 file journal_limit IsFairFault before after refusal → Answers (λ call. FairAnswers call file) before after (refusal_text refusal) (refusal_status refusal)
+  refusal_answers : (refusal : Refusal) → Refuses 1 file journal_limit IsFairFault before after refusal → Answers (λ call. FairAnswers call file) before after (refusal_text refusal) (refusal_status refusal)
   refusal_answers (File number fault) refuses call part text =
       let h = refuses call part in
       (fault_of fault, h.1, text ∙ ap (λ n. refused_line n (fault_of fault)) h.0)
@@ -69,3 +69,7 @@ module _ (before after : Told) (file : List ℕ) where
       let h = refuses call part in
       (h.1, text ∙ ap unread_line h.0)
   refusal_answers NoMemory refuses call part text = text
+
+  pub unwritten_answers : (unwritten : Unwritten) → IsUnwritten AreFailing IsFairFault file before after unwritten → Answers (λ call. FairAnswers call file) before after (unwritten_text unwritten) (unwritten_status unwritten)
+  unwritten_answers (Fails line rule) is = failure_answers (record { line = line; rule = rule }) is
+  unwritten_answers (Refused refusal) is = refusal_answers refusal is

@@ -9,7 +9,13 @@ use Rattle.ice_commands.specs.declared.unwritten.Unwritten.{Unwritten}
 use Rattle.ice_commands.specs.declared.unwritten.Unwritten.TheVariants.{Fails, Refused}
 use Rattle.ice_commands.specs.Call.{journal_limit}
 use Rattle.ice_commands.specs.Parts.{AreFetched}
-use Rattle.ice_commands.specs.Refusals.{refusal_status, IsFaultOf, Refuses}
+use Rattle.ice_commands.specs.Output.{no_line}
+use Rattle.ice_commands.specs.Refusals.{refusal_text, refusal_status, IsFaultOf, Refuses}
+
+-- the line that says why
+abbrev pub unwritten_text : Unwritten → List ℕ
+unwritten_text (Fails line rule) = no_line (record { line = line; rule = rule })
+unwritten_text (Refused refusal) = refusal_text refusal
 
 -- the status that goes with it
 abbrev pub unwritten_status : Unwritten → Status

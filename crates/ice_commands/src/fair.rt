@@ -7,13 +7,11 @@ ghost use Rattle.ice_commands.specs.Keeping.{KeepsTold};
 ghost use Rattle.ice_commands.specs.Parts.{AreFetched, Serves};
 ghost use Rattle.ice_commands.specs.Unwritten.{unwritten_status, IsUnwrittenOf, IsUnwritten};
 
-use crate::answer::say_answer;
 use crate::check::JOURNAL_LIMIT;
 use crate::fair_prices::say_fair;
 use crate::files::fetch;
 use crate::refusal::{FileFault, Refusal};
 use crate::unwritten::Unwritten;
-use ice_check::Answer;
 use ice_edge::{Shelf, Sink, Status};
 use ice_fair::Last;
 use ice_last::LastEnd;
@@ -71,7 +69,6 @@ pub fn fair<H: Shelf, K: Sink>(alloc: Global, journal: &str, shelf: &mut H, out:
 {
     match last_of(alloc, journal, shelf) {
         Ok(last) => say_fair(alloc, &last, out),
-        Err(Unwritten::Fails { line, rule }) => say_answer(&Answer::No { line, rule }, out),
-        Err(Unwritten::Refused(refusal)) => refusal.say(out),
+        Err(unwritten) => unwritten.say(out),
     }
 }
