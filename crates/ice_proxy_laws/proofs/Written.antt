@@ -4,14 +4,13 @@ use Rattle.std.specs.Prelude.{Some, slice_get}
 use Rattle.std.specs.List.{flat_map}
 use Rattle.std.proofs.lemmas.List.{length-map}
 use Rattle.ice_defs.specs.declared.Group.TheVariants.{Final, Provisional}
-use Rattle.ice_defs.specs.Trade.{Assignment}
 use Rattle.ice_defs.specs.Bounds.{Bounds}
 use Rattle.ice_defs.specs.Prices.{Prices}
 use Rattle.ice_defs.specs.Rows.{Certificate}
 use Rattle.ice_defs.specs.Round.{Submission, Judged, Standing, next_bounds}
 use Rattle.ice_defs.specs.declared.Verdict.{Verdict}
-use Rattle.ice_defs.specs.Exchange.{Bidder, Exchange, exact_of, opening_bounds}
-use Rattle.ice_defs.specs.Session.{Going, Closed, closes, standings, standings_from}
+use Rattle.ice_defs.specs.Exchange.{Exchange, exact_of, opening_bounds}
+use Rattle.ice_defs.specs.Session.{Going, Closed, closes, standings}
 use Rattle.ice_defs.specs.Right.{bounds_after_round, bounds_after_rounds}
 use Rattle.ice_journal.specs.Records.{Record, Version, session_kind}
 use Rattle.ice_journal.specs.Records as line
@@ -29,7 +28,7 @@ use Rattle.ice_journal_laws.proofs.CarriedGroup.{group_carries}
 use Rattle.ice_journal_laws.proofs.CarriedSection.{section_carries, first_settle_takes}
 use Rattle.ice_journal_laws.proofs.CarriedSettlement.{with_settlement}
 use Rattle.ice_journal_laws.proofs.CarriedRegret.{some_trees}
-use Rattle.ice_journal_laws.proofs.CarriedRound.{resting, resting_at, settle_takes}
+use Rattle.ice_journal_laws.proofs.CarriedRound.{resting_at, rests, standings_count, settle_takes}
 use Rattle.ice_journal_laws.proofs.CarriedGoing.{settling, regret_stated, with_going, prices_carry, balance_carries, going_carries}
 use Rattle.ice_proxy.specs.Proposals.{IsProxyBid}
 use Rattle.ice_proxy.specs.Sessions.{IsProxyRound, IsProxyFrom}
@@ -66,17 +65,6 @@ round_count p improve [] truths (j ∷ judged) round = absurd round
 round_count p improve (b ∷ bidders) [] judged round = absurd round
 round_count p improve (b ∷ bidders) (t ∷ truths) [] round = absurd round
 round_count p improve (b ∷ bidders) (t ∷ truths) (j ∷ judged) round = omega (arith, round_count p improve bidders truths judged round.1)
-
--- as many bidders stand in the round as the exchange has, where there are bounds and sets of each
-standings_count : (bidders : List Bidder) (bounds : List Bounds) (sets : Assignment) → length bounds ≡ length bidders → length sets ≡ length bidders → length (standings_from bidders bounds sets) ≡ length bidders
-standings_count [] bounds sets same count = refl
-standings_count (b ∷ bidders) [] sets same count = absurd (omega (arith, same))
-standings_count (b ∷ bidders) (now ∷ bounds) [] same count = absurd (omega (arith, count))
-standings_count (b ∷ bidders) (now ∷ bounds) (s ∷ sets) same count = omega (arith, standings_count bidders bounds sets (omega (arith, same)) (omega (arith, count)))
-
-rests : (c : Certificate) (judged : List Judged) (j : Judged) → resting c (judged ++ j ∷ []) ≡ at_round
-rests c [] j = refl
-rests c (i ∷ judged) j = refl
 
 submit_next : (s : State) (c : Certificate) (judged : List Judged) (x : Submission) (n : ℕ)
     → next (to_line n (resting_at c judged s)) (line.submit x) ≡ Some (to_line (suc n) (record s { place = at_verdict x; judged = judged }))
