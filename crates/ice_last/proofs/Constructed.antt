@@ -1,21 +1,18 @@
 -- What a last settlement is made of.
-use Rattle.std.proofs.Common.{◌≡◌, List, [], ◌∷◌, length, arith, ◌∙◌}
+use Rattle.std.proofs.Common.{List, [], ◌∷◌, arith, ◌∙◌}
 use Rattle.std.specs.List.{AllByRecursion}
-use Rattle.std.proofs.lemmas.List.{length-map}
 use Rattle.ice_defs.specs.Bounds.{Bounds}
 use Rattle.ice_defs.specs.Conditions.{AreBoundsOf}
-use Rattle.ice_defs.specs.Exchange.{Bidder, Exchange, trees_of}
+use Rattle.ice_defs.specs.Exchange.{Exchange, trees_of}
 use Rattle.ice_defs.specs.Fraction.{Fraction}
+use Rattle.ice_trade.proofs.Weighted.{length-trees}
 use Rattle.ice_journal.specs.Ranges.{IsFractionField}
 use Rattle.ice_pricing.specs.Bounding as priced
 use Rattle.ice_fair.specs.Lasts.{IsShortPayment}
 
-pub trees_count : (ex : Exchange) → length (trees_of ex) ≡ length ex.bidders
-trees_count ex = length-map ex.bidders (λ (b : Bidder). b.tree)
-
 -- bounds of an exchange's trees are those of its bidders
 pub bidders_bounds : (ex : Exchange) (bounds : List Bounds) → AreBoundsOf (trees_of ex) bounds → priced.AreBoundsOf ex bounds
-bidders_bounds ex bounds h = record { count = h.same_length ∙ trees_count ex; each = λ b l. h.each b (omega (arith, l, h.same_length)) }
+bidders_bounds ex bounds h = record { count = h.same_length ∙ length-trees ex; each = λ b l. h.each b (omega (arith, l, h.same_length)) }
 
 short : (f : Fraction) → IsFractionField f → IsShortPayment f
 short f h = record { low = h.num.0; high = h.num.1 }

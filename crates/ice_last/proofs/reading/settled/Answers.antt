@@ -1,7 +1,8 @@
 use Rattle.std.proofs.Common.{List, sym, ◌∙◌, subst}
 use Rattle.ice_defs.specs.Bounds.{Bounds}
 use Rattle.ice_pricing.specs.Bounding as priced
-use Rattle.ice_last.proofs.Constructed.{trees_count, bidders_bounds, all_short}
+use Rattle.ice_trade.proofs.Weighted.{length-trees}
+use Rattle.ice_last.proofs.Constructed.{bidders_bounds, all_short}
 use Rattle.ice_last.proofs.reading.settled.Goals as goal
 
 pub new-requires-clause-bounds : goal.new-requires-clause-bounds
@@ -10,7 +11,7 @@ new-requires-clause-bounds c =
     subst (λ (bounds : List Bounds). priced.AreBoundsOf x.exchange bounds) (sym c.deref.ensures.value) (bidders_bounds x.exchange x.bounds.items c.requires.bounds)
 
 pub new-requires-clause-count : goal.new-requires-clause-count
-new-requires-clause-count c = c.requires.count ∙ trees_count c.args.session.exchange
+new-requires-clause-count c = c.requires.count ∙ length-trees c.args.session.exchange
 
 pub new-requires-clause-short : goal.new-requires-clause-short
 new-requires-clause-short c = all_short c.args.payments.items c.requires.fields
