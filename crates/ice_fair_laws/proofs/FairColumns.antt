@@ -1,8 +1,7 @@
 -- What duals of the fairness program say, over a common denominator.
-use Rattle.std.proofs.Common.{ℕ, zero, suc, ◌+◌, ◌*◌, ◌<◌, ◌≡◌, ◌≢◌, ◌⊎◌, cond, eqb, List, [], ◌∷◌, ◌++◌, length, map, slice_index_or, ℤ, pos, neg_ℤ, ◌+ℤ◌, ◌-ℤ◌, ◌*ℤ◌, ◌≤ℤ◌, refl, arith, ap, sym, subst, ◌∙◌, inl, inr}
+use Rattle.std.proofs.Common.{ℕ, zero, suc, ◌+◌, ◌*◌, ◌<◌, ◌≡◌, List, [], ◌∷◌, ◌++◌, length, map, slice_index_or, ℤ, pos, neg_ℤ, ◌+ℤ◌, ◌-ℤ◌, ◌*ℤ◌, ◌≤ℤ◌, refl, arith, ap, subst, ◌∙◌}
 use Rattle.std.specs.List.{flat_map}
 use Rattle.std.proofs.lemmas.Int.{ints}
-use Rattle.std.proofs.lemmas.Bool.{cases_eq}
 use Rattle.std.proofs.lemmas.Grind.{flat_map-append}
 use Rattle.std.proofs.lemmas.List.{get_or-map, get_or_append_left, get_or-append-add, length-map, length-append, map-append}
 use Rattle.std.proofs.Math.IntN.{zero-*ℤ}
@@ -10,7 +9,7 @@ use Rattle.ice_defs.specs.Sum.{sum_below, numbers_below}
 use Rattle.ice_defs.specs.Fraction.{Fraction, whole, IsFraction, AtMost, fraction_at}
 use Rattle.ice_defs.specs.Program.{Constraint, dot, leasts, AreDuals}
 use Rattle.ice_defs.specs.PricingRun.{Member, only_at, worth_above, units_above}
-use Rattle.ice_defs.proofs.Sums.{sum_below-same, sum_below-single, sum_below-zero, at_same, at_other}
+use Rattle.ice_defs.proofs.Sums.{sum_below-same, sum_below-zero, at_same, at_other}
 use Rattle.ice_defs.proofs.Products.{sum_below-times}
 use Rattle.ice_defs.proofs.Integers.{neg_times}
 use Rattle.ice_defs.proofs.Multiples.{one_time}
@@ -18,8 +17,9 @@ use Rattle.ice_pricing_laws.specs.Pools.{no_member, member_at}
 use Rattle.ice_pricing_laws.proofs.Lists.{all-at, get_or-map_push, get_or-map_end, get_or-only_at, length-only_at, length-map_below, get_or-map_below}
 use Rattle.ice_pricing_laws.proofs.Dens.{IsOver, AreOver}
 use Rattle.ice_pricing_laws.proofs.Dots.{coefficient, dot_num, dot-over, least-over, over-most}
-use Rattle.ice_pricing_laws.proofs.Programs.{above, minus-*ℤ}
+use Rattle.ice_pricing_laws.proofs.Programs.{above}
 use Rattle.ice_pricing_laws.proofs.Duals.{pool_sum, sum_below-split}
+use Rattle.ice_pricing_laws.proofs.Columns.{caps-column, caps-last}
 use Rattle.ice_fair_laws.specs.Fair.{PaidTrade, own_units}
 use Rattle.ice_fair_laws.specs.FairRun.{payment_num, set_units, over_row, under_row, bidder_rows, cap_row, member_row, fairness_program}
 
@@ -69,27 +69,6 @@ dot-pairs g over under a (suc n) =
     let zeroth : a (2 * n + 0) ≡ a (2 * n) = (let e : 2 * n + 0 ≡ 2 * n = omega arith in ap a e) in
     let first = ap (λ z. g (over n) *ℤ z) zeroth in
     omega (arith, ints, whole_sum, dot-pairs g over under a n, first)
-
--- ---- the caps' columns
-
-minus_at : (g i : ℕ) (c : ℤ) (a : ℕ → ℤ) → (g ≡ i → c ≡ neg_ℤ (pos 1)) → (g ≢ i → c ≡ pos 0) → c *ℤ a i ≡ cond (eqb g i) (neg_ℤ (a g)) (pos 0)
-minus_at g i c a same other = by (cases_eq g i)
-  where
-    by : (g ≡ i) ⊎ (g ≢ i) → c *ℤ a i ≡ cond (eqb g i) (neg_ℤ (a g)) (pos 0)
-    by (inl e) = ap (λ z. z *ℤ a i) (same e) ∙ minus-*ℤ (a i) ∙ ap (λ k. neg_ℤ (a k)) (sym e) ∙ sym (at_same g i (neg_ℤ (a g)) e)
-    by (inr ne) = ap (λ z. z *ℤ a i) (other ne) ∙ zero-*ℤ (a i) ∙ sym (at_other g i (neg_ℤ (a g)) ne)
-
-caps-column : (goods g : ℕ) (a : ℕ → ℤ) → g < goods → sum_below (λ i. coefficient (only_at (suc goods) i (neg_ℤ (pos 1))) g *ℤ a i) goods ≡ neg_ℤ (a g)
-caps-column goods g a h =
-    sum_below-same _ (λ i. cond (eqb g i) (neg_ℤ (a g)) (pos 0)) goods
-    (λ i l. let e = get_or-only_at (suc goods) i g (neg_ℤ (pos 1)) (omega (arith, h)) in
-    minus_at g i (coefficient (only_at (suc goods) i (neg_ℤ (pos 1))) g) a (λ same. e ∙ at_same i g (neg_ℤ (pos 1)) (sym same)) (λ ne. e ∙ at_other i g (neg_ℤ (pos 1)) (λ same. ne (sym same))))
-    ∙ sum_below-single g goods (neg_ℤ (a g)) h
-
-caps-last : (goods : ℕ) (a : ℕ → ℤ) → sum_below (λ i. coefficient (only_at (suc goods) i (neg_ℤ (pos 1))) goods *ℤ a i) goods ≡ pos 0
-caps-last goods a =
-    sum_below-zero _ goods
-    (λ i l. ap (λ z. z *ℤ a i) (get_or-only_at (suc goods) i goods (neg_ℤ (pos 1)) (omega arith) ∙ at_other i goods (neg_ℤ (pos 1)) (λ e. absurd (omega (arith, e, l)))) ∙ zero-*ℤ (a i))
 
 -- ---- the program
 

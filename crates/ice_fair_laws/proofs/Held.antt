@@ -13,9 +13,9 @@ use Rattle.ice_defs.proofs.Products.{sum_below-times, times-le, times_neg, times
 use Rattle.ice_defs.proofs.Multiples.{times_keep, times_less}
 use Rattle.ice_frac.proofs.Ring.{is_diff, diff_same, diff_pos, diffs}
 use Rattle.ice_pricing_laws.proofs.Dens.{IsOver, AreOver}
-use Rattle.ice_pricing_laws.proofs.Dots.{times-over, over-le}
+use Rattle.ice_pricing_laws.proofs.Dots.{plus-over, times-over, over-le}
 use Rattle.ice_fair_laws.specs.Fair.{PaidTrade, FairCertificate, own_units, set_cost, gap, Covers, held, total_held, held_units, held_below}
-use Rattle.ice_fair_laws.proofs.Overs.{own_over, plus_over, less_over, negated_over}
+use Rattle.ice_fair_laws.proofs.Overs.{own_over, less_over, negated_over}
 
 -- ---- sums
 
@@ -49,7 +49,7 @@ module _ (t : PaidTrade) (c : FairCertificate) where
   pub held-over : (n : ℕ) (a : ℕ → ℤ) → 0 < n → length t.payments ≡ count → AreOver n a t.payments → (k : ℕ) → k ≤ count → IsOver n (sum_below (λ b. held c b *ℤ a b) k) (held_below t c k)
   held-over n a hn same are zero h = record { proper = omega arith; equal = omega (arith, ints) }
   held-over n a hn same are (suc k) h =
-      plus_over n (sum_below (λ b. held c b *ℤ a b) k) (held c k *ℤ a k) (held_below t c k) (times (whole (held c k)) (fraction_at t.payments k)) hn
+      plus-over n (sum_below (λ b. held c b *ℤ a b) k) (held c k *ℤ a k) (held_below t c k) (times (whole (held c k)) (fraction_at t.payments k)) hn
       (held-over n a hn same are k (omega (arith, h)))
       (times-over n (held c k) (a k) (fraction_at t.payments k) (are k (omega (arith, same, h))))
 

@@ -16,13 +16,13 @@ use Rattle.ice_defs.proofs.Lists.{all-append}
 use Rattle.ice_frac.proofs.Fractions.{Equals-trans}
 use Rattle.ice_frac.proofs.Lowest.{Equals-lowest, positive-lowest}
 use Rattle.ice_frac.proofs.Ring.{scale_le}
-use Rattle.ice_pricing_laws.specs.Weights.{AreWeights, lowest_of, weights_of_duals}
+use Rattle.ice_pricing_laws.specs.Weights.{AreWeights, lowest_of, weights_of_duals, nums_over}
 use Rattle.ice_pricing_laws.proofs.Lists.{all-map, all-each, all-at, all-below, length-map_below, length-only_at}
 use Rattle.ice_pricing_laws.proofs.Dens.{common_den-pos, dvd-lcm_left, dvd-lcm_right, num_over-is}
 use Rattle.ice_pricing_laws.proofs.Lowered.{abs-is, num-low, multiple-low}
 use Rattle.ice_fair_laws.specs.Fair.{PaidTrade, own_units}
 use Rattle.ice_fair_laws.specs.FairRun.{set_units, over_row, under_row, bidder_rows, cap_row, member_row, ViolatesFair}
-use Rattle.ice_fair_laws.specs.Run.{nums_over, LoweredTogether, FirstMayFollowFair, FairIsShaped}
+use Rattle.ice_fair_laws.specs.Run.{LoweredTogether, FirstMayFollowFair, FairIsShaped}
 use Rattle.ice_fair_laws.proofs.Points.{all-pairs}
 use Rattle.ice_fair_laws.proofs.FairColumns.{rows-count, more}
 

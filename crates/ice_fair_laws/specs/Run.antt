@@ -1,5 +1,5 @@
 -- Laws of the fairness stage, as statements.
-use Rattle.std.specs.Prelude.{ℕ, ◌+◌, ◌*◌, ◌<◌, ◌≤◌, ◌≡◌, ◌^◌, List, ◌++◌, length, map, take, drop, slice_index_or, ℤ, pos, unsigned_abs}
+use Rattle.std.specs.Prelude.{ℕ, ◌+◌, ◌*◌, ◌<◌, ◌≤◌, ◌≡◌, ◌^◌, List, ◌++◌, length, map, take, drop, slice_index_or, ℤ, pos}
 use Rattle.std.specs.Prelude.{◌≤ℤ◌, Some}
 use Rattle.std.specs.List.{AllByRecursion}
 use Rattle.std.specs.Int.{◌∣◌}
@@ -7,9 +7,9 @@ use Rattle.ice_defs.specs.Sum.{numbers_below}
 use Rattle.ice_defs.specs.Prices.{Prices, ArePrices}
 use Rattle.ice_defs.specs.Fraction.{Fraction, Equals, fraction_at}
 use Rattle.ice_defs.specs.Program.{IsPoint, IsLeast, AreDuals, IsInfeasible, AreNonNegative}
-use Rattle.ice_defs.specs.PricingRun.{Member, solution_prices, common_den, num_over, IsBestSet}
+use Rattle.ice_defs.specs.PricingRun.{Member, solution_prices, common_den, IsBestSet}
 use Rattle.ice_pricing_laws.specs.Laws.{AreMembers}
-use Rattle.ice_pricing_laws.specs.Weights.{AreWeights, rows_with, weights_of_duals}
+use Rattle.ice_pricing_laws.specs.Weights.{AreWeights, rows_with, weights_of_duals, nums_over}
 use Rattle.ice_pricing_laws.specs.Scans.{AreBest}
 use Rattle.ice_fair_laws.specs.Fair.{PaidTrade, FairCertificate, IsDistance, HasViolationOf, AreAccurate, AreFair, PassesFairness}
 use Rattle.ice_fair_laws.specs.Laws.{IsPaidTrade, violation_of}
@@ -91,9 +91,6 @@ DualsPassFairness =
     → PassesFairness t (fair_certificate t den ks pool ns) (violation_of (prices_at t x) v) (fraction_at x t.goods)
 
 -- ---- weights in lowest terms
-
-abbrev pub nums_over : ℕ → List Fraction → List ℕ
-nums_over d ws = map (λ w. unsigned_abs (num_over d w)) ws
 
 -- two lists of duals, each times a factor, in lowest
 -- terms and over the least common denominator of all

@@ -10,10 +10,10 @@ use Rattle.ice_defs.specs.Program.{AreNonNegative}
 use Rattle.ice_defs.specs.PricingRun.{Member, common_den, num_over}
 use Rattle.ice_defs.specs.Rows.{Row}
 use Rattle.ice_defs.proofs.Lists.{all-append}
-use Rattle.ice_pricing_laws.specs.Weights.{lowest_of, weights_of_duals, rows_with}
+use Rattle.ice_pricing_laws.specs.Weights.{lowest_of, weights_of_duals, nums_over, rows_with}
 use Rattle.ice_pricing_laws.proofs.Lists.{all-at, all-map, all-below, length-map_below}
 use Rattle.ice_pricing_laws.proofs.Lowered.{num-low, multiple-low}
-use Rattle.ice_turns.specs.Large.{IsLarge, AreLarge, nums_over}
+use Rattle.ice_turns.specs.Large.{IsLarge, AreLarge}
 use Rattle.ice_turns.proofs.LargeWeights.{any-large, weighed-proper, nums-fit, rows-few, rows-fit}
 use Rattle.ice_fair_laws.specs.Fair.{FairCertificate}
 use Rattle.ice_pricing.specs.Provisional.{ProvisionalTrade}

@@ -9,10 +9,9 @@ use Rattle.ice_defs.specs.Prices.{Prices}
 use Rattle.ice_defs.specs.Program.{AreNonNegative, IsLeast, AreDuals}
 use Rattle.ice_defs.specs.PricingRun.{Member, common_den, num_over}
 use Rattle.ice_defs.specs.Rows.{HasCommonDivisor}
-use Rattle.ice_pricing_laws.specs.Weights.{AreWeights, weights_of_duals}
+use Rattle.ice_pricing_laws.specs.Weights.{AreWeights, weights_of_duals, nums_over}
 use Rattle.ice_pricing.specs.Provisional.{ProvisionalTrade, IsProvisional}
 use Rattle.ice_pricing.specs.Priced.{HasViolation}
-use Rattle.ice_turns.specs.Large.{nums_over}
 use Rattle.ice_turns.proofs.Points.{low-drop, low-front}
 use Rattle.ice_fair_laws.specs.Fair.{PaidTrade, FairCertificate, AreFair, IsDistance, PassesFairness}
 use Rattle.ice_fair_laws.specs.FairRun.{fairness_program, fair_solution, fair_duals, fair_weights, HasNoneForFair}

@@ -4,9 +4,8 @@ use Rattle.std.specs.List.{AllByRecursion}
 use Rattle.ice_defs.specs.Sum.{numbers_below}
 use Rattle.ice_defs.specs.Fraction.{Fraction}
 use Rattle.ice_defs.specs.PricingRun.{Member, common_den, num_over}
-use Rattle.ice_pricing_laws.specs.Weights.{rows_with, weights_of_duals}
+use Rattle.ice_pricing_laws.specs.Weights.{rows_with, weights_of_duals, nums_over}
 use Rattle.ice_pricing.specs.Provisional.{ProvisionalTrade}
-use Rattle.ice_turns.specs.Large.{nums_over}
 use Rattle.ice_fair_laws.specs.Fair.{FairCertificate}
 use Rattle.ice_fair_stage.specs.Stages.{FairStage}
 

@@ -4,9 +4,8 @@ use Rattle.std.specs.List.{AllByRecursion}
 use Rattle.ice_defs.specs.Fraction.{Fraction}
 use Rattle.ice_defs.specs.PricingRun.{Member, common_den, num_over}
 use Rattle.ice_defs.specs.Rows.{Row, Certificate}
-use Rattle.ice_pricing_laws.specs.Weights.{rows_with}
+use Rattle.ice_pricing_laws.specs.Weights.{rows_with, nums_over}
 use Rattle.ice_price.specs.Certified.{IsCertificate}
-use Rattle.ice_turns.specs.Large.{nums_over}
 use Rattle.ice_turns.proofs.LargeWeights.{nums-fit, rows-few, rows-fit}
 
 pub certificate-made : (pool : List Member) (ws : List Fraction) (den : ℕ) (rows : List Row) → den ≡ common_den ws → rows ≡ rows_with pool (nums_over den ws) → 0 < den → den ≤ 2 ^ 32

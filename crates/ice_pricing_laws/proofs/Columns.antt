@@ -31,14 +31,14 @@ minus_at g i c a same other = by (cases_eq g i)
     by (inl e) = ap (λ z. z *ℤ a i) (same e) ∙ minus-*ℤ (a i) ∙ ap (λ k. neg_ℤ (a k)) (sym e) ∙ sym (at_same g i (neg_ℤ (a g)) e)
     by (inr ne) = ap (λ z. z *ℤ a i) (other ne) ∙ zero-*ℤ (a i) ∙ sym (at_other g i (neg_ℤ (a g)) ne)
 
-caps-column : (goods g : ℕ) (a : ℕ → ℤ) → g < goods → sum_below (λ i. coefficient (only_at (suc goods) i (neg_ℤ (pos 1))) g *ℤ a i) goods ≡ neg_ℤ (a g)
+pub caps-column : (goods g : ℕ) (a : ℕ → ℤ) → g < goods → sum_below (λ i. coefficient (only_at (suc goods) i (neg_ℤ (pos 1))) g *ℤ a i) goods ≡ neg_ℤ (a g)
 caps-column goods g a h =
     sum_below-same _ (λ i. cond (eqb g i) (neg_ℤ (a g)) (pos 0)) goods
     (λ i l. let e = get_or-only_at (suc goods) i g (neg_ℤ (pos 1)) (omega (arith, h)) in
     minus_at g i (coefficient (only_at (suc goods) i (neg_ℤ (pos 1))) g) a (λ same. e ∙ at_same i g (neg_ℤ (pos 1)) (sym same)) (λ ne. e ∙ at_other i g (neg_ℤ (pos 1)) (λ same. ne (sym same))))
     ∙ sum_below-single g goods (neg_ℤ (a g)) h
 
-caps-last : (goods : ℕ) (a : ℕ → ℤ) → sum_below (λ i. coefficient (only_at (suc goods) i (neg_ℤ (pos 1))) goods *ℤ a i) goods ≡ pos 0
+pub caps-last : (goods : ℕ) (a : ℕ → ℤ) → sum_below (λ i. coefficient (only_at (suc goods) i (neg_ℤ (pos 1))) goods *ℤ a i) goods ≡ pos 0
 caps-last goods a =
     sum_below-zero _ goods
     (λ i l. ap (λ z. z *ℤ a i) (get_or-only_at (suc goods) i goods (neg_ℤ (pos 1)) (omega arith) ∙ at_other i goods (neg_ℤ (pos 1)) (λ e. absurd (omega (arith, e, l)))) ∙ zero-*ℤ (a i))

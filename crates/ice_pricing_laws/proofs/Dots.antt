@@ -29,7 +29,7 @@ times-over d c n f is = record {
       ∙ ap (λ k. (c *ℤ n) *ℤ pos k) (let e : f.den ≡ 1 * f.den = omega arith in e);
 }
 
-plus-over : (d : ℕ) (m n : ℤ) (f g : Fraction) → 0 < d → IsOver d m f → IsOver d n g → IsOver d (m +ℤ n) (plus f g)
+pub plus-over : (d : ℕ) (m n : ℤ) (f g : Fraction) → 0 < d → IsOver d m f → IsOver d n g → IsOver d (m +ℤ n) (plus f g)
 plus-over d m n f g h is other = record {
   proper = mul-pos is.proper other.proper;
   equal =

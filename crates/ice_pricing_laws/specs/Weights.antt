@@ -62,16 +62,19 @@ AccuracyMoves = (ts : List Tree) (ws : List Weights) (sets : Assignment) (goods 
     → 0 < p.den → Equals (record { num = v; den = p.den }) (record { num = w; den = q.den })
     → PassesAccuracy ts ws sets goods cap p v c → PassesAccuracy ts ws sets goods cap q w c
 
--- the multiples of fractions in lowest terms, and their
--- numerators over the least common denominator
+-- the multiples of fractions in lowest terms, and their numerators
+-- over a denominator, and over the least common one
 abbrev pub lowest_of : Fraction → Fraction
 lowest_of f = lowest f.num f.den
 
 abbrev pub weights_of_duals : ℕ → List Fraction → List Fraction
 weights_of_duals factor fs = map (λ y. lowest_of (times (whole (pos factor)) y)) fs
 
+abbrev pub nums_over : ℕ → List Fraction → List ℕ
+nums_over den ws = map (λ w. unsigned_abs (num_over den w)) ws
+
 abbrev pub nums_of : List Fraction → List ℕ
-nums_of weights = map (λ w. unsigned_abs (num_over (common_den weights) w)) weights
+nums_of weights = nums_over (common_den weights) weights
 
 -- they are weights, and no numerator is below 0
 abbrev pub LoweredAreWeights : Type 0

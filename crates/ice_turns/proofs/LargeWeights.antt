@@ -14,11 +14,11 @@ use Rattle.ice_defs.specs.PricingRun.{Member, common_den, num_over}
 use Rattle.ice_defs.specs.Rows.{Row}
 use Rattle.ice_frac.proofs.Lowest.{positive-lowest}
 use Rattle.ice_frac.proofs.Ring.{scale_le}
-use Rattle.ice_pricing_laws.specs.Weights.{lowest_of, weights_of_duals, rows_with}
+use Rattle.ice_pricing_laws.specs.Weights.{lowest_of, weights_of_duals, nums_over, rows_with}
 use Rattle.ice_pricing_laws.proofs.Dens.{common_den-pos}
 use Rattle.ice_pricing_laws.proofs.Lists.{all-each}
 use Rattle.ice_pricing_laws.proofs.Lowered.{abs-is}
-use Rattle.ice_turns.specs.Large.{IsLarge, AreFitting, AreLarge, nums_over}
+use Rattle.ice_turns.specs.Large.{IsLarge, AreFitting, AreLarge}
 use Rattle.ice_turns.proofs.Multiples.{lcm-left, lcm-right}
 
 -- each denominator is at most the least common one

@@ -1,5 +1,5 @@
 -- Weights that are too large for a certificate, and those that aren't.
-use Rattle.std.specs.Prelude.{ℕ, ◌<◌, ◌≤◌, ◌≡◌, ◌⊎◌, List, map, pos, ◌≤ℤ◌, ◌<ℤ◌, Any, unsigned_abs}
+use Rattle.std.specs.Prelude.{ℕ, ◌<◌, ◌≤◌, ◌≡◌, ◌⊎◌, List, pos, ◌≤ℤ◌, ◌<ℤ◌, Any}
 use Rattle.ice_defs.specs.Fraction.{Fraction, IsFraction}
 use Rattle.ice_defs.specs.PricingRun.{common_den, num_over}
 use Rattle.ice_defs.specs.declared.LimitKind.TheVariants.{Den}
@@ -19,10 +19,6 @@ pub record AreFitting (most : ℕ) (w : Fraction) : Type 0 where
 -- over their least common denominator, it or a numerator is above the limit
 abbrev pub AreLarge : ℕ → List Fraction → Type 0
 AreLarge most ws = (most < common_den ws) ⊎ Any (λ w. pos most <ℤ num_over (common_den ws) w) ws
-
--- the numerators over a denominator
-abbrev pub nums_over : ℕ → List Fraction → List ℕ
-nums_over den ws = map (λ w. unsigned_abs (num_over den w)) ws
 
 -- a stop with this cause at the limit of denominators; want of memory has none
 abbrev pub IsStoppedBy : Type 0 → Stop → Type 0

@@ -4,8 +4,8 @@ ghost use Rattle.std.specs.List.{AllByRecursion};
 ghost use Rattle.ice_defs.specs.Fraction.{IsFraction, AtMost, whole, times};
 ghost use Rattle.ice_defs.specs.Program.{AreNonNegative};
 ghost use Rattle.ice_defs.specs.PricingRun.{num_over};
-ghost use Rattle.ice_pricing_laws.specs.Weights.{lowest_of, weights_of_duals, rows_with};
-ghost use Rattle.ice_turns.specs.Large.{IsLarge, IsStoppedBy, AreFitting, nums_over};
+ghost use Rattle.ice_pricing_laws.specs.Weights.{lowest_of, weights_of_duals, nums_over, rows_with};
+ghost use Rattle.ice_turns.specs.Large.{IsLarge, IsStoppedBy, AreFitting};
 
 use crate::ends::Stop;
 use crate::fractions::num_over;

@@ -1,7 +1,7 @@
 use Rattle.std.proofs.Common.{◌≡◌, ◌*◌, ◌∙◌, ◌^◌, ap, sym, subst, pos, ◌≤ℤ◌, take, drop, arith}
 use Rattle.std.specs.List.{AllByRecursion}
 use Rattle.ice_defs.specs.PricingRun.{num_over}
-use Rattle.ice_turns.specs.Large.{nums_over}
+use Rattle.ice_pricing_laws.specs.Weights.{nums_over}
 use Rattle.ice_turns.proofs.LargeWeights.{fitting-proper}
 use Rattle.ice_fair_laws.specs.Fair.{FairCertificate}
 use Rattle.ice_fair_stage.proofs.Certifying.{certificate-made, made-with}

@@ -3,9 +3,9 @@ use Rattle.std.specs.Prelude.{Any}
 use Rattle.std.specs.List.{AllByRecursion}
 use Rattle.ice_defs.specs.Fraction.{Fraction, IsFraction}
 use Rattle.ice_defs.specs.PricingRun.{common_den, num_over}
-use Rattle.ice_pricing_laws.specs.Weights.{weights_of_duals, rows_with}
+use Rattle.ice_pricing_laws.specs.Weights.{weights_of_duals, nums_over, rows_with}
 use Rattle.ice_pricing_laws.proofs.Lowered.{lowered_are_weights}
-use Rattle.ice_turns.specs.Large.{IsLarge, IsStoppedBy, nums_over}
+use Rattle.ice_turns.specs.Large.{IsLarge, IsStoppedBy}
 use Rattle.ice_turns.proofs.LargeWeights.{any-large, weighed-proper}
 use Rattle.ice_turns.proofs.Stops.{if_err-map, stopped-map}
 use Rattle.ice_price.proofs.Certifying.{certificate-made}

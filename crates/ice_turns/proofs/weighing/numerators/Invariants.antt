@@ -1,7 +1,7 @@
 use Rattle.std.proofs.Common.{◌≡◌, take, pos, ◌≤ℤ◌}
 use Rattle.std.specs.List.{AllByRecursion}
 use Rattle.ice_defs.specs.PricingRun.{num_over}
-use Rattle.ice_turns.specs.Large.{nums_over}
+use Rattle.ice_pricing_laws.specs.Weights.{nums_over}
 use Rattle.ice_turns.proofs.weighing.numerators.Given as goal
 
 abbrev pub invariant-loop-weight : goal.invariant-loop-weight
