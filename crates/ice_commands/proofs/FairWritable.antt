@@ -2,7 +2,7 @@
 use Rattle.std.proofs.Common.{subst, ◌≤◌, ◌^◌, List, [], ◌∷◌, arith}
 use Rattle.std.specs.List.{AllByRecursion}
 use Rattle.ice_defs.specs.Tree.{Tree}
-use Rattle.ice_defs.specs.Rows.{Row, Certificate}
+use Rattle.ice_defs.specs.Rows.{Certificate}
 use Rattle.ice_defs.specs.Pricing.{IsChoice}
 use Rattle.ice_defs.specs.PricingRun.{Member}
 use Rattle.ice_defs.specs.Lawful.{IsExchange}
@@ -11,6 +11,7 @@ use Rattle.ice_price.specs.declared.ends.PriceLimit.{PriceLimit}
 use Rattle.ice_fair.specs.Lasts.{LastTrade, IsLast, trade_of}
 use Rattle.ice_fair.specs.Found.{IsFairFound}
 use Rattle.ice_fair.specs.Ends.{IsFairEnd}
+use Rattle.ice_fair.proofs.Weights.{wider}
 use Rattle.ice_fair.specs.declared.answer.Fair.{Fair}
 use Rattle.ice_fair_stage.specs.declared.ends.FairLimit.{FairLimit}
 use Rattle.ice_fair.specs.declared.ends.FairEnd.TheVariants.{Price, Limit}
@@ -21,10 +22,6 @@ use Rattle.ice_session_laws.proofs.Violations.{violation_may_be_written, bits_of
 use Rattle.ice_session_laws.proofs.Limits.{limit_may_be_written}
 use Rattle.ice_commands.specs.FairParts.{HasItsTrees}
 
-weights_fit : (rows : List Row) → AllByRecursion (λ row. row.weight ≤ 2 ^ 24) rows → AllByRecursion (λ row. row.weight ≤ 2 ^ 32) rows
-weights_fit [] fit = tt
-weights_fit (row ∷ rows) (one, others) = (omega (arith, one), weights_fit rows others)
-
 module _ (last : LastTrade) (lawful : IsExchange last.exchange) (same : HasItsTrees last) (is : IsLast last) where
   pub fair_may_be_written : (f : Fair) → f.prices.den ≤ 2 ^ 32 → IsFairFound last f → IsWritableFair f
   fair_may_be_written f few found =
@@ -32,7 +29,7 @@ module _ (last : LastTrade) (lawful : IsExchange last.exchange) (same : HasItsTr
       let limited = found.cert_limited in
       let rows : Certificate = record { den = f.cert.den; rows = f.cert.rows } in
       let rows_limited : IsLimited rows =
-      record { positive = limited.positive; den_fits = omega (arith, limited.den_fits); few = limited.few; weights_fit = weights_fit f.cert.rows limited.weights_fit } in
+      record { positive = limited.positive; den_fits = omega (arith, limited.den_fits); few = limited.few; weights_fit = wider f.cert.rows limited.weights_fit } in
       record {
         violation = violation_may_be_written t is.trade f.prices f.delta f.accuracy few found.passes.violates found.passes.accurate;
         accuracy = certificate_may_be_written last.exchange lawful t same f.accuracy found.passes.accurate.rows found.accuracy_limited;

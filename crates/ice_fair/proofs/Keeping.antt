@@ -28,7 +28,7 @@ use Rattle.ice_fair.specs.Lasts.{LastTrade, IsLast, IsShortPayment, nums_of, tra
 use Rattle.ice_defs.specs.Bounds.{Bounds}
 use Rattle.ice_fair.specs.Kept.{IsKept}
 use Rattle.ice_fair.specs.Trades.{num_at, AreNumbers}
-use Rattle.ice_fair.proofs.Signed.{product-within}
+use Rattle.ice_turns.proofs.Signed.{product-within}
 
 -- a short payment over a denominator from 1 to 1,000
 pub num_over-sized : (f : Fraction) (cut : ℕ) → IsShortPayment f → cut ≤ 1000 → IsSizedWithin (10 ^ 21) (num_over cut f)

@@ -16,7 +16,8 @@ total-most : (rows : List Row) → AllByRecursion (λ row. row.weight ≤ 2 ^ 24
 total-most [] fits = omega arith
 total-most (row ∷ rows) (fit, fits) = omega (arith, sum_by-cons (λ (r : Row). r.weight) row rows, total-most rows fits, fit)
 
-wider : (rows : List Row) → AllByRecursion (λ row. row.weight ≤ 2 ^ 24) rows → AllByRecursion (λ row. row.weight ≤ 2 ^ 32) rows
+-- weights within the limit of fair certificates are within that of prices
+pub wider : (rows : List Row) → AllByRecursion (λ row. row.weight ≤ 2 ^ 24) rows → AllByRecursion (λ row. row.weight ≤ 2 ^ 32) rows
 wider [] fits = tt
 wider (row ∷ rows) (fit, fits) = (omega (arith, fit), wider rows fits)
 

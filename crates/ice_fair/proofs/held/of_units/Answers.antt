@@ -2,7 +2,7 @@ use Rattle.std.proofs.Common.{◌≡◌, ◌∙◌, ◌*◌, ◌^◌, ap, ◌*�
 use mir.Syntax.{w128}
 use Rattle.std.proofs.lemmas.Int.{ints}
 use Rattle.ice_row_laws.specs.Sizes.{IsSizedWithin}
-use Rattle.ice_fair.proofs.Signed.{product-within}
+use Rattle.ice_turns.proofs.Signed.{product-within}
 use Rattle.ice_fair.proofs.held.of_units.Goals as goal
 
 pub returns-clause-value : goal.returns-clause-value
