@@ -26,14 +26,14 @@ module _ (last : LastTrade) (lawful : IsExchange last.exchange) (same : HasItsTr
   pub fair_may_be_written : (f : Fair) → f.prices.den ≤ 2 ^ 32 → IsFairFound last f → IsWritableFair f
   fair_may_be_written f few found =
       let t = trade_of last.paid in
-      let limited = found.cert_limited in
-      let rows : Certificate = record { den = f.cert.den; rows = f.cert.rows } in
+      let limited = found.certificate_limited in
+      let rows : Certificate = record { den = f.certificate.den; rows = f.certificate.rows } in
       let rows_limited : IsLimited rows =
-      record { positive = limited.positive; den_fits = omega (arith, limited.den_fits); few = limited.few; weights_fit = wider f.cert.rows limited.weights_fit } in
+      record { positive = limited.positive; den_fits = omega (arith, limited.den_fits); few = limited.few; weights_fit = wider f.certificate.rows limited.weights_fit } in
       record {
         violation = violation_may_be_written t is.trade f.prices f.delta f.accuracy few found.passes.violates found.passes.accurate;
         accuracy = certificate_may_be_written last.exchange lawful t same f.accuracy found.passes.accurate.rows found.accuracy_limited;
-        cert = record {
+        certificate = record {
           few = omega (arith, limited.low_count, is.trade.bidders.1);
           count = omega (arith, limited.low_count, limited.high_count);
           rows = (certificate_may_be_written last.exchange lawful t same rows found.passes.fairness.rows rows_limited).rows;

@@ -119,5 +119,5 @@ module _ (l : LastTrade) (is : IsLast l) (t : ProvisionalTrade) (trades : t ≡ 
         fair = fair;
         goods = within.same_length;
         accuracy_limited = subst IsLimited (sym copied) priced.accuracy_limited;
-        cert_limited = subst (λ (z : ProvisionalTrade). IsFairLimited (length z.trees) end.certificate) trades ended.limited;
+        certificate_limited = subst (λ (z : ProvisionalTrade). IsFairLimited (length z.trees) end.certificate) trades ended.limited;
       }

@@ -15,7 +15,7 @@ pub struct Fair {
     /// The greatest size of a bidder's payment less what its set costs.
     pub distance: Frac,
     /// What shows that no prices of this violation have a smaller distance.
-    pub cert: FairCertificate,
+    pub certificate: FairCertificate,
 }
 
 // By hand, so that each exit that drops one has one call to prove, and not all its parts.
@@ -26,7 +26,7 @@ impl Drop for Fair {
             delta: _,
             accuracy: _,
             distance: _,
-            cert: _,
+            certificate: _,
         } = self;
     }
 }

@@ -47,14 +47,16 @@ pub(crate) fn are_nearest(
     prices: &Prices,
     violation: i128,
     distance: &Frac,
-    cert: &FairCertificate,
+    certificate: &FairCertificate,
 ) -> bool
     requires goods { length prices.now.nums ≡ last.now.paid.goods }
     requires violation { pos 0 ≤ℤ violation }
     requires violation_high { violation ≤ℤ pos (2 ^ 100) }
-    requires certificate { IsFairLimited (length last.now.paid.trees) cert.now }
-    ensures yes { IsTrue result → PassesNearness last.now.paid prices.now violation distance.now cert.now }
-    ensures no { PassesNearness last.now.paid prices.now violation distance.now cert.now → IsTrue result }
+    requires certificate { IsFairLimited (length last.now.paid.trees) certificate.now }
+    ensures yes { IsTrue result → PassesNearness last.now.paid prices.now violation
+        distance.now certificate.now }
+    ensures no { PassesNearness last.now.paid prices.now violation distance.now certificate.now
+        → IsTrue result }
 {
     let _positive = prices.den();
     let _proper = distance.den();
@@ -72,7 +74,13 @@ pub(crate) fn are_nearest(
         violation,
         gap,
     };
-    passes(&paid, &priced, &cert.certificate, &cert.low, &cert.high)
+    passes(
+        &paid,
+        &priced,
+        &certificate.certificate,
+        &certificate.low,
+        &certificate.high,
+    )
 }
 
 /// Whether prices pass all tests of fair prices: they are within the cap and in lowest common
@@ -86,7 +94,7 @@ pub(crate) fn are_nearest(
 pub fn check_fair(last: &Last, fair: &Fair, scratch: &mut Scratch) -> bool
     requires goods { length fair.now.prices.nums ≡ last.now.paid.goods }
     requires accuracy { IsLimited fair.now.accuracy }
-    requires certificate { IsFairLimited (length last.now.paid.trees) fair.now.cert }
+    requires certificate { IsFairLimited (length last.now.paid.trees) fair.now.certificate }
     ensures yes { IsTrue result → PassesAll last.now.paid fair.now }
     ensures no { PassesAll last.now.paid fair.now → IsTrue result }
     ensures fair { IsTrue result → AreFair last.now.paid fair.now.prices }
@@ -95,5 +103,11 @@ pub fn check_fair(last: &Last, fair: &Fair, scratch: &mut Scratch) -> bool
     if !are_accurate(&trade, &fair.prices, fair.delta, &fair.accuracy, scratch) {
         return false;
     }
-    are_nearest(last, &fair.prices, fair.delta, &fair.distance, &fair.cert)
+    are_nearest(
+        last,
+        &fair.prices,
+        fair.delta,
+        &fair.distance,
+        &fair.certificate,
+    )
 }

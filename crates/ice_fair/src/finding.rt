@@ -26,7 +26,7 @@ struct Candidate {
     prices: Prices,
     delta: i128,
     distance: Frac,
-    cert: FairCertificate,
+    certificate: FairCertificate,
 }
 
 /// What cutting planes find from a pricing, if anything. Nothing is promised of it.
@@ -64,7 +64,7 @@ fn with_distance(last: &Last, nearest: Nearest) -> Option<Candidate>
         prices,
         delta,
         distance,
-        cert: FairCertificate {
+        certificate: FairCertificate {
             certificate,
             low,
             high,
@@ -80,14 +80,20 @@ impl Candidate {
         ensures { IsTrue result → IsFoundWith last.now accuracy.now self.now }
     {
         let trade = last.trade();
-        if !is_fair_limited(&self.cert, trade.bidders()) {
+        if !is_fair_limited(&self.certificate, trade.bidders()) {
             return false;
         }
         let mut scratch = Scratch::new();
         if !are_accurate(&trade, &self.prices, self.delta, accuracy, &mut scratch) {
             return false;
         }
-        are_nearest(last, &self.prices, self.delta, &self.distance, &self.cert)
+        are_nearest(
+            last,
+            &self.prices,
+            self.delta,
+            &self.distance,
+            &self.certificate,
+        )
     }
 
     /// Fair prices with this certificate of accuracy.
@@ -99,7 +105,7 @@ impl Candidate {
             delta: self.delta,
             accuracy,
             distance: self.distance,
-            cert: self.cert,
+            certificate: self.certificate,
         }
     }
 }
@@ -146,7 +152,7 @@ fn fair_of(end: FairStageEnd, accuracy: Certificate) -> Fair
         delta: end.violation,
         accuracy,
         distance: end.distance,
-        cert: end.certificate,
+        certificate: end.certificate,
     }
 }
 

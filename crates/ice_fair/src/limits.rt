@@ -37,17 +37,19 @@ fn have_small_weights(rows: &[CertificateRow]) -> bool
 
 /// Whether the denominator is from 1 to 2^24, there are two numbers for each of so many bidders and
 /// at most 200 rows, and no number or weight is above 2^24.
-pub(crate) fn is_fair_limited(cert: &FairCertificate, bidders: u8) -> bool
-    ensures yes { IsTrue result → IsFairLimited bidders cert.now }
-    ensures no { IsFairLimited bidders cert.now → IsTrue result }
+pub(crate) fn is_fair_limited(certificate: &FairCertificate, bidders: u8) -> bool
+    ensures yes { IsTrue result → IsFairLimited bidders certificate.now }
+    ensures no { IsFairLimited bidders certificate.now → IsTrue result }
 {
-    let den = cert.certificate.den;
-    if den == 0 || den > LARGEST || cert.certificate.rows.len() > 200 {
+    let den = certificate.certificate.den;
+    if den == 0 || den > LARGEST || certificate.certificate.rows.len() > 200 {
         return false;
     }
     let bidders = usize::from(bidders);
-    if cert.low.len() != bidders || cert.high.len() != bidders {
+    if certificate.low.len() != bidders || certificate.high.len() != bidders {
         return false;
     }
-    are_small(&cert.low) && are_small(&cert.high) && have_small_weights(&cert.certificate.rows)
+    are_small(&certificate.low)
+        && are_small(&certificate.high)
+        && have_small_weights(&certificate.certificate.rows)
 }

@@ -50,7 +50,7 @@ last_line = codes "end fair" ++ 10 ∷ []
 
 -- the prices with what shows their violation, their distance with what shows it, and an end
 abbrev pub fair_lines : Fair → List ℕ
-fair_lines f = bytes_of (accuracy_records f) ++ distance_line f.distance ++ certificate_lines f.cert ++ last_line
+fair_lines f = bytes_of (accuracy_records f) ++ distance_line f.distance ++ certificate_lines f.certificate ++ last_line
 
 -- spelled as the records of a limit are, but that no journal has this stage
 abbrev pub limit_line : FairLimit → List ℕ

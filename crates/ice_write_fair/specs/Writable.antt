@@ -16,7 +16,7 @@ pub record IsWritableFairCertificate (c : FairCertificate) : Type 0 where
 pub record IsWritableFair (f : Fair) : Type 0 where
   pub violation : IsViolationField f.delta
   pub accuracy : IsWritableCertificate f.accuracy
-  pub cert : IsWritableFairCertificate f.cert
+  pub certificate : IsWritableFairCertificate f.certificate
 
 abbrev pub IsWritableFairLimit : FairLimit → Type 0
 IsWritableFairLimit l = AllByRecursion IsWritableMember l.pool.items

@@ -25,6 +25,6 @@ pub fn put_fair<K: Sink>(fair: &Fair, out: &mut K) -> Result<(), SinkFault>
 {
     put_accuracy(fair, out)?;
     put_distance(&fair.distance, out)?;
-    put_certificate(&fair.cert, out)?;
+    put_certificate(&fair.certificate, out)?;
     put_end(out)
 }

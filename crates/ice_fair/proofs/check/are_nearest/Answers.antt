@@ -14,11 +14,11 @@ returns-then-not-is_over_both-clause-no c =
 pub returns-clause-yes : goal.returns-clause-yes
 returns-clause-yes c =
     let positive : 0 < c.args.prices.now.den = omega (arith, c.den-positive.ensures.limits.den.0) in
-    let certs : numbers_of c.cert.inside.certificate c.deref.result.now c.deref-2.result.now ≡ c.args.cert.now =
-    ap (λ (z : List ℕ). numbers_of c.cert.inside.certificate z c.deref-2.result.now) c.deref.ensures.value
-    ∙ ap (λ (z : List ℕ). numbers_of c.cert.inside.certificate c.cert.inside.low.items z) c.deref-2.ensures.value ∙ c.cert.view_is in
+    let certs : numbers_of c.certificate.inside.certificate c.deref.result.now c.deref-2.result.now ≡ c.args.certificate.now =
+    ap (λ (z : List ℕ). numbers_of c.certificate.inside.certificate z c.deref-2.result.now) c.deref.ensures.value
+    ∙ ap (λ (z : List ℕ). numbers_of c.certificate.inside.certificate c.certificate.inside.low.items z) c.deref-2.ensures.value ∙ c.certificate.view_is in
     λ h. near-yes c.args.last.now c.trade.result c.cut.result c.nums.result.now c.args.prices.now c.greatest_gap-gap.result c.args.distance.now c.trade.ensures.value c.cut.ensures.value c.trade.ensures.lawful.paid c.nums.ensures.over positive c.den-proper.ensures.lowest.positive
-    c.greatest_gap-gap.ensures.greatest c.args.cert.now _ c.args.violation _ _ _ (c.if-not-is_over_both.ensures.yes refl) (c.passes.ensures.yes h) c.requires.certificate certs
+    c.greatest_gap-gap.ensures.greatest c.args.certificate.now _ c.args.violation _ _ _ (c.if-not-is_over_both.ensures.yes refl) (c.passes.ensures.yes h) c.requires.certificate certs
     (omega (arith, ints, c.requires.violation, c.requires.violation_high))
     (omega (arith, ints, c.greatest_gap-gap.ensures.low, c.greatest_gap-gap.ensures.high))
     (omega (arith, ints, c.greatest_gap-gap.ensures.low, c.greatest_gap-gap.ensures.high))
@@ -26,12 +26,12 @@ returns-clause-yes c =
 pub returns-clause-no : goal.returns-clause-no
 returns-clause-no c =
     let positive : 0 < c.args.prices.now.den = omega (arith, c.den-positive.ensures.limits.den.0) in
-    let certs : numbers_of c.cert.inside.certificate c.deref.result.now c.deref-2.result.now ≡ c.args.cert.now =
-    ap (λ (z : List ℕ). numbers_of c.cert.inside.certificate z c.deref-2.result.now) c.deref.ensures.value
-    ∙ ap (λ (z : List ℕ). numbers_of c.cert.inside.certificate c.cert.inside.low.items z) c.deref-2.ensures.value ∙ c.cert.view_is in
+    let certs : numbers_of c.certificate.inside.certificate c.deref.result.now c.deref-2.result.now ≡ c.args.certificate.now =
+    ap (λ (z : List ℕ). numbers_of c.certificate.inside.certificate z c.deref-2.result.now) c.deref.ensures.value
+    ∙ ap (λ (z : List ℕ). numbers_of c.certificate.inside.certificate c.certificate.inside.low.items z) c.deref-2.ensures.value ∙ c.certificate.view_is in
     λ near. c.passes.ensures.no
     (near-tested c.args.last.now c.trade.result c.cut.result c.nums.result.now c.args.prices.now c.greatest_gap-gap.result c.args.distance.now c.trade.ensures.value c.cut.ensures.value c.trade.ensures.lawful.paid c.nums.ensures.over positive c.den-proper.ensures.lowest.positive
-    c.greatest_gap-gap.ensures.greatest c.args.cert.now _ c.args.violation _ _ _ (c.if-not-is_over_both.ensures.yes refl) near certs
+    c.greatest_gap-gap.ensures.greatest c.args.certificate.now _ c.args.violation _ _ _ (c.if-not-is_over_both.ensures.yes refl) near certs
     (omega (arith, ints, c.requires.violation, c.requires.violation_high))
     (omega (arith, ints, c.greatest_gap-gap.ensures.low, c.greatest_gap-gap.ensures.high))
     (omega (arith, ints, c.greatest_gap-gap.ensures.low, c.greatest_gap-gap.ensures.high)))

@@ -14,10 +14,10 @@ returns-clause-yes c =
     (c.if-not-are_accurate.ensures.yes refl) in
     let priced : PassesPriceTests (trade_of c.args.last.now.paid) c.args.fair.now.prices c.args.fair.now.delta c.args.fair.now.accuracy =
     subst (λ (z : ℤ). PassesPriceTests (trade_of c.args.last.now.paid) c.args.fair.now.prices z c.args.fair.now.accuracy) read there in
-    λ h. let near : PassesNearness c.args.last.now.paid c.args.fair.now.prices c.args.fair.now.delta c.args.fair.now.distance c.args.fair.now.cert =
-    subst (λ (z : ℤ). PassesNearness c.args.last.now.paid c.args.fair.now.prices z c.args.fair.now.distance c.args.fair.now.cert) read (c.are_nearest.ensures.yes h) in
-    both-pass c.args.last.now.paid c.args.fair.now.prices c.args.fair.now.delta c.args.fair.now.accuracy c.args.fair.now.distance c.args.fair.now.cert priced near
+    λ h. let near : PassesNearness c.args.last.now.paid c.args.fair.now.prices c.args.fair.now.delta c.args.fair.now.distance c.args.fair.now.certificate =
+    subst (λ (z : ℤ). PassesNearness c.args.last.now.paid c.args.fair.now.prices z c.args.fair.now.distance c.args.fair.now.certificate) read (c.are_nearest.ensures.yes h) in
+    both-pass c.args.last.now.paid c.args.fair.now.prices c.args.fair.now.delta c.args.fair.now.accuracy c.args.fair.now.distance c.args.fair.now.certificate priced near
 
 pub returns-clause-fair : goal.returns-clause-fair
 returns-clause-fair c = λ h.
-    passing-fair c.args.last.now.paid c.args.fair.now.prices c.args.fair.now.delta c.args.fair.now.accuracy c.args.fair.now.distance c.args.fair.now.cert c.trade-trade.ensures.lawful.paid (returns-clause-yes c h)
+    passing-fair c.args.last.now.paid c.args.fair.now.prices c.args.fair.now.delta c.args.fair.now.accuracy c.args.fair.now.distance c.args.fair.now.certificate c.trade-trade.ensures.lawful.paid (returns-clause-yes c h)

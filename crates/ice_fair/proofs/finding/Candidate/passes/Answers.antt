@@ -14,13 +14,13 @@ returns c =
     (c.if-not-are_accurate.ensures.yes refl) in
     let priced : PassesPriceTests (trade_of c.args.last.now.paid) c.args.self.now.prices c.args.self.now.delta c.args.accuracy.now =
     subst (λ (z : ℤ). PassesPriceTests (trade_of c.args.last.now.paid) c.args.self.now.prices z c.args.accuracy.now) read there in
-    λ h. let near : PassesNearness c.args.last.now.paid c.args.self.now.prices c.args.self.now.delta c.args.self.now.distance c.args.self.now.cert =
-    subst (λ (z : ℤ). PassesNearness c.args.last.now.paid c.args.self.now.prices z c.args.self.now.distance c.args.self.now.cert) read (c.are_nearest.ensures.yes h) in
-    let all = both-pass c.args.last.now.paid c.args.self.now.prices c.args.self.now.delta c.args.accuracy.now c.args.self.now.distance c.args.self.now.cert priced near in
+    λ h. let near : PassesNearness c.args.last.now.paid c.args.self.now.prices c.args.self.now.delta c.args.self.now.distance c.args.self.now.certificate =
+    subst (λ (z : ℤ). PassesNearness c.args.last.now.paid c.args.self.now.prices z c.args.self.now.distance c.args.self.now.certificate) read (c.are_nearest.ensures.yes h) in
+    let all = both-pass c.args.last.now.paid c.args.self.now.prices c.args.self.now.delta c.args.accuracy.now c.args.self.now.distance c.args.self.now.certificate priced near in
     record {
       passes = all;
-      fair = passing-fair c.args.last.now.paid c.args.self.now.prices c.args.self.now.delta c.args.accuracy.now c.args.self.now.distance c.args.self.now.cert c.trade-trade.ensures.lawful.paid all;
+      fair = passing-fair c.args.last.now.paid c.args.self.now.prices c.args.self.now.delta c.args.accuracy.now c.args.self.now.distance c.args.self.now.certificate c.trade-trade.ensures.lawful.paid all;
       goods = c.requires.goods;
       accuracy_limited = c.requires.accuracy;
-      cert_limited = search rules;
+      certificate_limited = search rules;
     }
