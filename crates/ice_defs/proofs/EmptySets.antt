@@ -1,9 +1,8 @@
 -- The empty sets: satisfied, without units and value, and so a feasible assignment.
-use Rattle.std.proofs.Common.{ℕ, zero, suc, ◌<◌, ◌≡◌, Bool, true, false, cond, List, [], length, map, get_or, replicate, ℤ, pos, refl, arith, ap, sym, ◌∙◌, subst}
+use Rattle.std.proofs.Common.{ℕ, zero, suc, ◌<◌, ◌≡◌, Bool, true, false, cond, List, [], length, get_or, replicate, ℤ, pos, refl, arith, ap, sym, ◌∙◌, subst}
 use Rattle.std.proofs.lemmas.Int.{ints}
 use Rattle.std.proofs.lemmas.Bool.{both_ways}
 use Rattle.std.proofs.lemmas.List.{length-replicate, length-map, get_or-map}
-use Rattle.ice_defs.specs.Sum.{sum_below}
 use Rattle.ice_defs.specs.Tree.{Tree, kind_of}
 use Rattle.ice_defs.specs.Set.{NodeSet, has, IsSatisfied, Weights, weight_of, value, leaf_units, units}
 use Rattle.ice_defs.specs.Trade.{tree_of, set_of, weights_of, is_exact, IsCovered, total_value, IsFeasible}

@@ -12,7 +12,7 @@ use Rattle.ice_defs.specs.Rows.{weighted_sum, worth_above}
 use Rattle.ice_defs.specs.Fraction.{Fraction, IsFraction, Equals, whole, plus, less, times, fraction_at}
 use Rattle.ice_defs.specs.Program.{dot, leasts, cost}
 use Rattle.ice_defs.specs.PricingRun.{Member}
-use Rattle.ice_defs.proofs.Sums.{sum_below-same}
+use Rattle.ice_defs.proofs.Sums.{sum_below-same, sum_below-less}
 use Rattle.ice_defs.proofs.Products.{sum_below-times, times-le, times_add}
 use Rattle.ice_defs.proofs.Integers.{neg_times}
 use Rattle.ice_defs.proofs.Multiples.{times_keep, times_cancel, one_time}
@@ -34,7 +34,7 @@ use Rattle.ice_fair_laws.specs.FairRun.{payment_num, fairness_program}
 use Rattle.ice_fair_laws.specs.Run.{prices_at, fair_certificate, DualsPassFairness}
 use Rattle.ice_fair_laws.proofs.Linear.{rest_of, rest-le, held-le}
 use Rattle.ice_fair_laws.proofs.Overs.{over}
-use Rattle.ice_fair_laws.proofs.Held.{both-sum, held-over, held-most, sum_below-less}
+use Rattle.ice_fair_laws.proofs.Held.{both-sum, held-over, held-most}
 use Rattle.ice_fair_laws.proofs.Nearest.{asked-le}
 use Rattle.ice_fair_laws.proofs.Wholes.{paid-over}
 use Rattle.ice_fair_laws.proofs.Points.{fair-cost-over}

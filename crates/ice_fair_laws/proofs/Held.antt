@@ -8,7 +8,7 @@ use Rattle.std.proofs.Math.IntN.{*ℤ_comm}
 use Rattle.ice_defs.specs.Sum.{sum_below}
 use Rattle.ice_defs.specs.Fraction.{Fraction, whole, times, negated, fraction_at}
 use Rattle.ice_defs.specs.Prices.{Prices, price_of, cost_of}
-use Rattle.ice_defs.proofs.Sums.{sum_below-same, sum_below-le, sum_below-add, sum_below-swap, sum_below-front}
+use Rattle.ice_defs.proofs.Sums.{sum_below-same, sum_below-le, sum_below-add, sum_below-less, sum_below-swap, sum_below-front}
 use Rattle.ice_defs.proofs.Products.{sum_below-times, times-le, times_neg, times_add}
 use Rattle.ice_defs.proofs.Multiples.{times_keep, times_less}
 use Rattle.ice_frac.proofs.Ring.{is_diff, diff_same, diff_pos, diffs}
@@ -18,10 +18,6 @@ use Rattle.ice_fair_laws.specs.Fair.{PaidTrade, FairCertificate, own_units, set_
 use Rattle.ice_fair_laws.proofs.Overs.{own_over, less_over, negated_over}
 
 -- ---- sums
-
-pub sum_below-less : (f g : ℕ → ℤ) (n : ℕ) → sum_below (λ k. f k -ℤ g k) n ≡ sum_below f n -ℤ sum_below g n
-sum_below-less f g zero = omega (arith, ints)
-sum_below-less f g (suc n) = omega (arith, ints, sum_below-less f g n)
 
 -- a list's numbers one by one
 pub numbers-sum : (ns : List ℕ) → sum_below (λ b. pos (slice_index_or ns b 0)) (length ns) ≡ pos (sum_by (λ n. n) ns)

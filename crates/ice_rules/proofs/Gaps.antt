@@ -1,5 +1,5 @@
 -- By how much one set's net exceeds another's, at all profiles.
-use Rattle.std.proofs.Common.{ℕ, zero, suc, ◌<◌, ◌≡◌, Bool, true, false, cond, length, ℤ, pos, ◌-ℤ◌, ◌*ℤ◌, ◌≤ℤ◌, refl, arith, ap, ◌∙◌}
+use Rattle.std.proofs.Common.{ℕ, ◌<◌, ◌≡◌, Bool, true, false, cond, length, ℤ, pos, ◌-ℤ◌, ◌*ℤ◌, ◌≤ℤ◌, refl, arith, ap, ◌∙◌}
 use Rattle.std.proofs.lemmas.Int.{ints}
 use Rattle.std.proofs.Math.IntN.{*ℤ-zero}
 use Rattle.ice_defs.specs.Sum.{sum_below}
@@ -8,14 +8,10 @@ use Rattle.ice_defs.specs.Set.{NodeSet, has, Weights, weight_of, value, units}
 use Rattle.ice_defs.specs.Bounds.{Bounds, IsInside}
 use Rattle.ice_defs.specs.Prices.{Prices, cost_of}
 use Rattle.ice_defs.specs.Rules.{net_at}
-use Rattle.ice_defs.proofs.Sums.{sum_below-le}
+use Rattle.ice_defs.proofs.Sums.{sum_below-le, sum_below-less}
 use Rattle.ice_defs.proofs.Products.{times-le, sum_below-times}
 use Rattle.ice_rules.specs.Profiles.{AreAgainst, AreInFavour}
 use Rattle.ice_defs.proofs.Multiples.{times_less, one_time, times_swap}
-
-pub sum_below-less : (f g : ℕ → ℤ) (n : ℕ) → sum_below (λ k. f k -ℤ g k) n ≡ sum_below f n -ℤ sum_below g n
-sum_below-less f g zero = omega (arith, ints)
-sum_below-less f g (suc n) = omega (arith, ints, sum_below-less f g n)
 
 -- upper values on what only the first set has, and lower ones on what only the second has
 pub record Favours (bounds : Bounds) (a s : NodeSet) (w : Weights) : Type 0 where
