@@ -8,6 +8,7 @@ use Rattle.ice_defs.specs.declared.NodeKind.{NodeKind}
 use Rattle.ice_defs.specs.declared.NodeKind.TheVariants.{Choose, Buy, Sell}
 use Rattle.ice_defs.specs.Tree.{Tree, kind_of}
 use Rattle.ice_defs.specs.Set.{NodeSet, has, leaf_units}
+use Rattle.ice_defs.proofs.Choices.{cond-same}
 use Rattle.ice_bound.specs.declared.direction.Direction.{Direction}
 use Rattle.ice_bound.specs.declared.leaves.Leaves.{Leaves}
 use Rattle.ice_bound.specs.Kept.{NodeStands, Stands}
@@ -34,10 +35,6 @@ others_stand t s g direction a b without stands k h = by (cases_lt k a)
     by (inr l) = node_without (kind_of t k) g (has s k) direction (without k l h)
 
 -- and have no units
-none_inside : (b : Bool) → cond b (pos 0) (pos 0) ≡ pos 0
-none_inside true = refl
-none_inside false = refl
-
 abbrev units_at : Tree → NodeSet → ℕ → ℕ → ℤ
 units_at t s g n = cond (has s n) (leaf_units (kind_of t n) g) (pos 0)
 
@@ -48,7 +45,7 @@ none_more t s g a b le before other = by (cases_lt b a)
     by : (b < a) ⊎ (a ≤ b) → sum_below (units_at t s g) (suc b) ≡ sum_below (units_at t s g) a
     by (inl l) = let e : suc b ≡ a = omega (arith, l, le) in ap (sum_below (units_at t s g)) e
     by (inr l) =
-        let here : units_at t s g b ≡ pos 0 = ap (λ u. cond (has s b) u (pos 0)) (leaf_units-other (kind_of t b) g (other l)) ∙ none_inside (has s b) in
+        let here : units_at t s g b ≡ pos 0 = ap (λ u. cond (has s b) u (pos 0)) (leaf_units-other (kind_of t b) g (other l)) ∙ cond-same (has s b) (pos 0) in
         omega (arith, ints, before l, here)
 
 pub others_no_units : (t : Tree) (s : NodeSet) (g a b : ℕ) → a ≤ b → IsWithout t g a b → sum_below (units_at t s g) b ≡ sum_below (units_at t s g) a

@@ -27,3 +27,8 @@ passes_not false n e = refl
 pub some_refused : {X : Type 0} (b : Bool) (x : X) (other : Option X) → cond b (Some x) other ≡ None → (b ≡ false) × (other ≡ None)
 some_refused true x other e = absurd cc
 some_refused false x other e = (refl, e)
+
+-- the same either way
+pub cond-same : {X : Type 0} (b : Bool) (x : X) → cond b x x ≡ x
+cond-same true x = refl
+cond-same false x = refl

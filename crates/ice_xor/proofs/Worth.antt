@@ -10,6 +10,7 @@ use Rattle.ice_defs.specs.Tree.{kind_of}
 use Rattle.ice_defs.specs.Set.{NodeSet, has, children_inside, IsWithin, IsSatisfied, value, units}
 use Rattle.ice_defs.specs.Trade.{is_exact, IsCovered}
 use Rattle.ice_defs.specs.Market.{Trade, Serves, IsWorth}
+use Rattle.ice_defs.proofs.Choices.{cond-same}
 use Rattle.ice_xor.specs.FlatBids.{Package, FlatBidder, ServesFlat, IsFlatWorth, flat_tree, packages_nodes, taken_units, spread, spread_over, KeepsWorth}
 use Rattle.ice_xor.proofs.Paired.{inside, inside-counted, children-counted, value_more, units_more}
 use Rattle.ice_xor.proofs.PackageNodes.{spread_set, length-spread_set, value-spread, units-spread}
@@ -28,16 +29,12 @@ inside-le [] = omega arith
 inside-le (true ∷ s) = omega (arith, inside-le s)
 inside-le (false ∷ s) = omega (arith, inside-le s)
 
-no_value : (r : Bool) → cond r (pos 0) (pos 0) ≡ pos 0
-no_value true = refl
-no_value false = refl
-
 -- the value and the units of a set that takes packages whole
 value_of : (b : FlatBidder) (r : Bool) (chosen : NodeSet) (v : List ℤ) → length chosen ≡ length b.packages → length v ≡ length b.packages → value (r ∷ spread_set b.packages chosen) (spread b v) ≡ value chosen v
-value_of b r chosen v e l = omega (arith, ints, value_more r (spread_set b.packages chosen) (pos 0) (spread_over b.packages v), no_value r, value-spread b.packages chosen v e l)
+value_of b r chosen v e l = omega (arith, ints, value_more r (spread_set b.packages chosen) (pos 0) (spread_over b.packages v), cond-same r (pos 0), value-spread b.packages chosen v e l)
 
 units_of : (b : FlatBidder) (r : Bool) (chosen : NodeSet) (g : ℕ) → length chosen ≡ length b.packages → units (flat_tree b) (r ∷ spread_set b.packages chosen) g ≡ taken_units b.packages chosen g
-units_of b r chosen g e = omega (arith, ints, units_more (root b) (packages_nodes 1 b.packages) r (spread_set b.packages chosen) g, no_value r, units-spread 1 b.packages chosen g e)
+units_of b r chosen g e = omega (arith, ints, units_more (root b) (packages_nodes 1 b.packages) r (spread_set b.packages chosen) g, cond-same r (pos 0), units-spread 1 b.packages chosen g e)
 
 children_of_root : (b : FlatBidder) (r : Bool) (chosen : NodeSet) → length chosen ≡ length b.packages → children_inside (flat_tree b) (r ∷ spread_set b.packages chosen) 0 ≡ inside chosen
 children_of_root b r chosen e =
