@@ -1,6 +1,6 @@
 -- Low bounds: no tree refuses them, and they are bounds of the same bidders.
-use Rattle.std.proofs.Common.{ℕ, zero, suc, ◌+◌, ◌<◌, ◌≡◌, true, false, ◌||◌, None, List, [], ◌∷◌, ◌++◌, length, take, ℤ, pos, neg_ℤ, ◌≤ℤ◌, refl, arith, ap, sym, subst, ◌∙◌}
-use Rattle.std.specs.Prelude.{int_lt, ◌==◌}
+use Rattle.std.proofs.Common.{ℕ, zero, suc, ◌+◌, ◌<◌, ◌≡◌, true, false, None, List, [], ◌∷◌, ◌++◌, length, take, ℤ, pos, neg_ℤ, ◌≤ℤ◌, refl, arith, ap, sym, subst, ◌∙◌}
+use Rattle.std.specs.Prelude.{◌==◌}
 use Rattle.std.specs.List.{list_all}
 use Rattle.std.proofs.lemmas.Int.{ints}
 use Rattle.std.proofs.lemmas.Bool.{and_from, eq-eqb}
@@ -12,6 +12,7 @@ use Rattle.ice_defs.specs.Trade.{tree_of}
 use Rattle.ice_defs.specs.Lawful.{AreBounds}
 use Rattle.ice_defs.specs.Making.{is_value}
 use Rattle.ice_tree.specs.Bounds.{bounds_refusal, are_crossed}
+use Rattle.ice_tree.proofs.Bounding.{are_crossed-same}
 use Rattle.ice_pricing.specs.Bounding.{AreBoundsOf}
 use Rattle.ice_fair_laws.specs.Fair.{low_bounds}
 
@@ -26,12 +27,6 @@ lowered-are nodes b are = record {
   ordered = λ n h. omega (arith, ints);
   high = λ n h. let less = are.ordered n h in let most = are.high n h in omega (arith, ints, less, most);
 }
-
-uncrossed : (zs : List ℤ) → are_crossed zs zs ≡ false
-uncrossed [] = refl
-uncrossed (z ∷ zs) =
-    let here : int_lt z z ≡ false = grind (arith, ints) in
-    ap (λ b. b || are_crossed zs zs) here ∙ uncrossed zs
 
 value_is : (z : ℤ) → neg_ℤ (pos 1000000000) ≤ℤ z → z ≤ℤ pos 1000000000 → is_value z ≡ true
 value_is z low high = grind (arith, ints)
@@ -48,7 +43,7 @@ lowered-unrefused nodes b are =
     let low = lowered-are nodes b are in
     let counted : (length b.lo == nodes) ≡ true = eq-eqb (length b.lo) nodes are.lo_count in
     let valued : list_all is_value b.lo ≡ true = all_values b.lo (λ n h. low.low n (omega (arith, are.lo_count, h))) (λ n h. low.high n (omega (arith, are.lo_count, h))) in
-    let ordered : are_crossed b.lo b.lo ≡ false = uncrossed b.lo in
+    let ordered : are_crossed b.lo b.lo ≡ false = are_crossed-same b.lo in
     rw (counted, valued, ordered) refl
 
 -- the list value by value

@@ -1,13 +1,14 @@
 -- The true values of a tree are bounds.
-use Rattle.std.proofs.Common.{ℕ, ◌≡◌, true, false, ◌&&◌, ◌||◌, not, eqb, List, [], ◌∷◌, map, length, ℤ, pos, neg_ℤ, ◌≤ℤ◌, Option, None, refl, arith, ap, ◌∙◌}
-use Rattle.std.specs.Prelude.{int_lt, Result, Ok, Err, IsOk}
+use Rattle.std.proofs.Common.{ℕ, ◌≡◌, true, false, ◌&&◌, not, eqb, List, [], ◌∷◌, map, length, ℤ, pos, neg_ℤ, ◌≤ℤ◌, Option, None, refl, arith, ap, ◌∙◌}
+use Rattle.std.specs.Prelude.{Result, Ok, Err, IsOk}
 use Rattle.std.specs.List.{AllByRecursion, list_all}
 use Rattle.std.proofs.lemmas.Int.{ints}
 use Rattle.std.proofs.lemmas.Bool.Decides.{nat_tests}
 use Rattle.std.proofs.lemmas.List.{length-map}
 use Rattle.ice_defs.specs.Making.{is_value}
 use Rattle.ice_tree.specs.declared.faults.BoundsFault.{BoundsFault}
-use Rattle.ice_tree.specs.Bounds.{BoundsRefusedBy, bounds_refusal, are_crossed}
+use Rattle.ice_tree.specs.Bounds.{BoundsRefusedBy, bounds_refusal}
+use Rattle.ice_tree.proofs.Bounding.{are_crossed-same}
 use Rattle.ice_gen.specs.declared.valued.Valued.{Valued}
 use Rattle.ice_gen.specs.Generated.{truth_of_values}
 use Rattle.ice_gen.specs.Growing.{IsModest}
@@ -20,12 +21,6 @@ IsOk-from_none (Err fault) due refused none = absurd cc
 
 is_value-modest : (z : ℤ) → neg_ℤ (pos 1000) ≤ℤ z → z ≤ℤ pos 1000 → is_value z ≡ true
 is_value-modest z low high = grind (arith, ints)
-
-are_crossed-same : (zs : List ℤ) → are_crossed zs zs ≡ false
-are_crossed-same [] = refl
-are_crossed-same (z ∷ zs) =
-    let here : int_lt z z ≡ false = grind (arith, ints) in
-    ap (λ b. b || are_crossed zs zs) here ∙ are_crossed-same zs
 
 are_values : (vs : List Valued) → AllByRecursion IsModest vs → list_all is_value (map (λ v. v.truth) vs) ≡ true
 are_values [] all = refl

@@ -1,5 +1,5 @@
 -- Bounds that pass the tests.
-use Rattle.std.proofs.Common.{ℕ, zero, suc, ◌<◌, ◌≡◌, Bool, true, false, ◌||◌, List, [], ◌∷◌, length, ℤ, pos, neg_ℤ, ◌≤ℤ◌, refl, arith}
+use Rattle.std.proofs.Common.{ℕ, zero, suc, ◌<◌, ◌≡◌, Bool, true, false, ◌||◌, List, [], ◌∷◌, length, ℤ, pos, neg_ℤ, ◌≤ℤ◌, refl, arith, ap, ◌∙◌}
 use Rattle.std.specs.Prelude.{int_le, int_lt}
 use Rattle.std.specs.List.{list_all}
 use Rattle.std.proofs.lemmas.Bool.{and_parts}
@@ -33,6 +33,13 @@ each_ordered [] his same e n h = absurd (omega arith)
 each_ordered (lo ∷ los) [] same e n h = absurd (omega arith)
 each_ordered (lo ∷ los) (hi ∷ his) same e zero h = uncrossed lo hi (or_parts (int_lt hi lo) (are_crossed los his) e).0
 each_ordered (lo ∷ los) (hi ∷ his) same e (suc n) h = each_ordered los his (omega arith) (or_parts (int_lt hi lo) (are_crossed los his) e).1 n (omega arith)
+
+-- values don't cross themselves
+pub are_crossed-same : (zs : List ℤ) → are_crossed zs zs ≡ false
+are_crossed-same [] = refl
+are_crossed-same (z ∷ zs) =
+    let here : int_lt z z ≡ false = grind (arith, ints) in
+    ap (λ b. b || are_crossed zs zs) here ∙ are_crossed-same zs
 
 pub AreBounds-from_tests : (los his : List ℤ) → length his ≡ length los → list_all is_value los ≡ true → list_all is_value his ≡ true → are_crossed los his ≡ false
     → AreBounds (length los) record { lo = los; hi = his }
