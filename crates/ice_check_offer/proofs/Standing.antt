@@ -1,13 +1,13 @@
 -- What an offer knows of a state that it stands for.
 use Rattle.std.proofs.Common.{◌≡◌, ℕ, List, length, ℤ, sym, ◌∙◌, ap, subst}
-use Rattle.std.proofs.lemmas.List.{length-map}
 use Rattle.ice_defs.specs.Bounds.{Bounds}
 use Rattle.ice_defs.specs.Trade.{Assignment}
 use Rattle.ice_defs.specs.Prices.{Prices}
 use Rattle.ice_defs.specs.Pricing.{IsViolation}
 use Rattle.ice_defs.specs.Rows.{Row, PassesAccuracy, PassesBalance}
 use Rattle.ice_defs.specs.Weighing.{weighted_weights}
-use Rattle.ice_defs.specs.Exchange.{Good, Exchange, trees_of, exact_of}
+use Rattle.ice_defs.specs.Exchange.{Exchange, trees_of, exact_of}
+use Rattle.ice_trade.proofs.Weighted.{length-exact}
 use Rattle.ice_journal.specs.Records.{Record}
 use Rattle.ice_journal_laws.specs.State as tests
 use Rattle.ice_journal_laws.specs.State.{State, exchange_at, trees_at, goods_at}
@@ -46,15 +46,12 @@ AreBalanced den rows t =
 abbrev Violates : ℤ → Terms → Type 0
 Violates x t = IsViolation (trees_of t.exchange) (weighted_weights t.exchange.settings.weight t.bounds) t.offered t.prices x
 
-pub goods_of : (ex : Exchange) → length (exact_of ex) ≡ length ex.goods
-goods_of ex = length-map ex.goods (λ (good : Good). good.exact)
-
 module _ (ex : Exchange) (o : Offer) (s : State) (st : IsOfferOf ex o s) where
   pub at_now : (now : Place) → o.place ≡ now → IsAt ex o now s
   at_now now e = subst (λ (p : Place). IsAt ex o p s) e st.at
 
   pub goods_are : goods_at s ≡ length ex.goods
-  goods_are = ap (λ (x : Exchange). length (exact_of x)) st.exchange ∙ goods_of ex
+  goods_are = ap (λ (x : Exchange). length (exact_of x)) st.exchange ∙ length-exact ex
 
   pub trees_are : trees_at s ≡ trees_of ex
   trees_are = ap trees_of st.exchange
@@ -89,13 +86,13 @@ module _ (ex : Exchange) (o : Offer) (s : State) (st : IsOfferOf ex o s) where
       Balanced goods = PassesBalance (trees_of ex) (weighted_weights ex.settings.weight o.judge.bounds) o.judge.sets goods o.judge.prices o.violation (record { den = den; rows = rows })
 
       pub accuracy_holds : PassesAccuracy (trees_of ex) (weighted_weights ex.settings.weight o.judge.bounds) o.judge.sets (length ex.goods) ex.settings.cap o.judge.prices o.violation (record { den = den; rows = rows }) → AccuracyHolds s den rows
-      accuracy_holds h = subst (AreAccurate den rows) (sym same_terms) (subst Accurate (sym (goods_of ex)) h)
+      accuracy_holds h = subst (AreAccurate den rows) (sym same_terms) (subst Accurate (sym (length-exact ex)) h)
 
       pub holds_accuracy : AccuracyHolds s den rows → PassesAccuracy (trees_of ex) (weighted_weights ex.settings.weight o.judge.bounds) o.judge.sets (length ex.goods) ex.settings.cap o.judge.prices o.violation (record { den = den; rows = rows })
-      holds_accuracy h = subst Accurate (goods_of ex) (subst (AreAccurate den rows) same_terms h)
+      holds_accuracy h = subst Accurate (length-exact ex) (subst (AreAccurate den rows) same_terms h)
 
       pub balance_holds : PassesBalance (trees_of ex) (weighted_weights ex.settings.weight o.judge.bounds) o.judge.sets (length ex.goods) o.judge.prices o.violation (record { den = den; rows = rows }) → BalanceHolds s den rows
-      balance_holds h = subst (AreBalanced den rows) (sym same_terms) (subst Balanced (sym (goods_of ex)) h)
+      balance_holds h = subst (AreBalanced den rows) (sym same_terms) (subst Balanced (sym (length-exact ex)) h)
 
       pub holds_balance : BalanceHolds s den rows → PassesBalance (trees_of ex) (weighted_weights ex.settings.weight o.judge.bounds) o.judge.sets (length ex.goods) o.judge.prices o.violation (record { den = den; rows = rows })
-      holds_balance h = subst Balanced (goods_of ex) (subst (AreBalanced den rows) same_terms h)
+      holds_balance h = subst Balanced (length-exact ex) (subst (AreBalanced den rows) same_terms h)

@@ -18,7 +18,7 @@ use Rattle.ice_defs.specs.Trade.{Assignment}
 use Rattle.ice_defs.specs.Lawful.{IsExchange}
 use Rattle.ice_defs.specs.Weighing.{weighted_weights}
 use Rattle.ice_tree.specs.Alike.{HasWeightPerNode}
-use Rattle.ice_trade.proofs.Weighted.{length-trees}
+use Rattle.ice_trade.proofs.Weighted.{length-trees, length-exact}
 use Rattle.ice_row_laws.specs.Laws.{AreSatisfied}
 use Rattle.ice_pricing.specs.Bounding.{AreBoundsOf}
 use Rattle.ice_pricing.proofs.Weighing.{tree-limited}
@@ -69,10 +69,6 @@ module _ (l : LastTrade) (is : IsLast l) where
         each = λ b h. subst (λ z. Equals (fraction_at t.payments b) (record { num = z; den = l.cut })) (sym (num-is b h)) (paid.each b h);
       }
 
--- as many marks of goods as goods
-pub exact-count : (ex : Exchange) → length (exact_of ex) ≡ length ex.goods
-exact-count ex = length-map ex.goods (λ good. good.exact)
-
 -- of a last settlement as it is kept
 module _ (l m : LastTrade) (bounds : List Bounds) (nums : List ℤ) (is : IsKept l bounds nums) (same : l ≡ m) where
   pub kept-last : IsLast m
@@ -91,7 +87,7 @@ provisional-of ex ws sets lawful count satisfied nodes modest =
     let trees : length (trees_of ex) ≡ length ex.bidders = length-trees ex in
     record {
       bidders = (omega (arith, trees, lawful.bidders_count.0), omega (arith, trees, lawful.bidders_count.1));
-      goods_count = (omega (arith, exact-count ex, lawful.goods_count.0), omega (arith, exact-count ex, lawful.goods_count.1));
+      goods_count = (omega (arith, length-exact ex, lawful.goods_count.0), omega (arith, length-exact ex, lawful.goods_count.1));
       cap_low = (let low = lawful.settings.cap.0 in omega (arith, ints, low));
       cap_high = lawful.settings.cap.1;
       count = count ∙ sym trees;

@@ -1,11 +1,12 @@
--- The bounds of an exchange's bidders, and weights of 0 for them.
+-- The bounds of an exchange's bidders, and weights of 0 for them; how
+-- many goods and bidders its lists have.
 use Rattle.std.proofs.Common.{◌≡◌, ◌∙◌, ap, sym, ℕ, suc, zero, ◌<◌, List, [], ◌∷◌, length, map, replicate, pos, arith}
 use Rattle.std.proofs.lemmas.List.{get_or-map, length-map, length-replicate}
 use Rattle.std.specs.List.{AllByRecursion}
 use Rattle.ice_defs.specs.Tree.{Tree}
 use Rattle.ice_defs.specs.Trade.{tree_of}
 use Rattle.ice_defs.specs.Bounds.{bounds_of}
-use Rattle.ice_defs.specs.Exchange.{Bidder, Exchange, trees_of, names_of, opening_bounds}
+use Rattle.ice_defs.specs.Exchange.{Good, Bidder, Exchange, trees_of, exact_of, names_of, opening_bounds}
 use Rattle.ice_defs.specs.Lawful.{AreBounds, IsBidder, IsExchange}
 use Rattle.ice_tree.specs.Alike.{AreAlike}
 
@@ -20,6 +21,9 @@ bidder_bounds ex b is h = tree_bounds (length ex.goods) ex.bidders b is.bidders 
 
 pub length-trees : (ex : Exchange) → length (trees_of ex) ≡ length ex.bidders
 length-trees ex = length-map ex.bidders (λ (x : Bidder). x.tree)
+
+pub length-exact : (ex : Exchange) → length (exact_of ex) ≡ length ex.goods
+length-exact ex = length-map ex.goods (λ (x : Good). x.exact)
 
 pub length-bounds : (ex : Exchange) → length (opening_bounds ex) ≡ length ex.bidders
 length-bounds ex = length-map ex.bidders (λ (x : Bidder). x.bounds)
