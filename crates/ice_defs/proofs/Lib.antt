@@ -24,6 +24,8 @@ pub mod EmptySets
 pub mod Starts
 -- lower and perturbed weights
 pub mod Weights
+-- lists of values
+pub mod Values
 -- worked examples of the definitions
 mod Worked
 mod WorkedBound

@@ -1,16 +1,16 @@
 -- Low bounds: no tree refuses them, and they are bounds of the same bidders.
-use Rattle.std.proofs.Common.{ℕ, zero, suc, ◌+◌, ◌<◌, ◌≡◌, true, false, None, List, [], ◌∷◌, ◌++◌, length, take, ℤ, pos, neg_ℤ, ◌≤ℤ◌, refl, arith, ap, sym, subst, ◌∙◌}
+use Rattle.std.proofs.Common.{ℕ, ◌+◌, ◌<◌, ◌≡◌, true, false, None, List, [], ◌∷◌, ◌++◌, length, take, refl, arith, ap, sym, subst, ◌∙◌}
 use Rattle.std.specs.Prelude.{◌==◌}
 use Rattle.std.specs.List.{list_all}
 use Rattle.std.proofs.lemmas.Int.{ints}
-use Rattle.std.proofs.lemmas.Bool.{and_from, eq-eqb}
+use Rattle.std.proofs.lemmas.Bool.{eq-eqb}
 use Rattle.std.proofs.lemmas.List.{length-map, get_or-map, take_more}
-use Rattle.ice_defs.specs.Set.{weight_of}
 use Rattle.ice_defs.specs.Bounds.{Bounds, bounds_of, no_bounds}
 use Rattle.ice_defs.specs.Exchange.{Exchange, trees_of}
 use Rattle.ice_defs.specs.Trade.{tree_of}
 use Rattle.ice_defs.specs.Lawful.{AreBounds}
 use Rattle.ice_defs.specs.Making.{is_value}
+use Rattle.ice_defs.proofs.Values.{all_values}
 use Rattle.ice_tree.specs.Bounds.{bounds_refusal, are_crossed}
 use Rattle.ice_tree.proofs.Bounding.{are_crossed-same}
 use Rattle.ice_pricing.specs.Bounding.{AreBoundsOf}
@@ -28,15 +28,6 @@ lowered-are nodes b are = record {
   high = λ n h. let less = are.ordered n h in let most = are.high n h in omega (arith, ints, less, most);
 }
 
-value_is : (z : ℤ) → neg_ℤ (pos 1000000000) ≤ℤ z → z ≤ℤ pos 1000000000 → is_value z ≡ true
-value_is z low high = grind (arith, ints)
-
-all_values : (zs : List ℤ) → ((n : ℕ) → n < length zs → neg_ℤ (pos 1000000000) ≤ℤ weight_of zs n) → ((n : ℕ) → n < length zs → weight_of zs n ≤ℤ pos 1000000000) → list_all is_value zs ≡ true
-all_values [] low high = refl
-all_values (z ∷ zs) low high =
-    and_from (is_value z) (list_all is_value zs) (value_is z (low zero (omega arith)) (high zero (omega arith)))
-    (all_values zs (λ n h. low (suc n) (omega (arith, h))) (λ n h. high (suc n) (omega (arith, h))))
-
 -- no tree refuses them
 pub lowered-unrefused : (nodes : ℕ) (b : Bounds) → AreBounds nodes b → bounds_refusal nodes b.lo b.lo ≡ None
 lowered-unrefused nodes b are =
@@ -46,12 +37,7 @@ lowered-unrefused nodes b are =
     let ordered : are_crossed b.lo b.lo ≡ false = are_crossed-same b.lo in
     rw (counted, valued, ordered) refl
 
--- the list value by value
-pub one_value_more : (xs done : List ℤ) (n : ℕ) (x : ℤ) → n < length xs → done ≡ take n xs → x ≡ weight_of xs n → done ++ x ∷ [] ≡ take (n + 1) xs
-one_value_more xs done n x there so_far is =
-    ap (λ (ds : List ℤ). ds ++ x ∷ []) so_far ∙ ap (λ (z : ℤ). take n xs ++ z ∷ []) is ∙ sym (take_more xs n (pos 0) there)
-
--- and bidder by bidder
+-- the list bidder by bidder
 pub one_bidder_more : (bs done : List Bounds) (n : ℕ) (b : Bounds) → n < length bs → done ≡ take n (low_bounds bs) → b ≡ lowered (bounds_of bs n) → done ++ b ∷ [] ≡ take (n + 1) (low_bounds bs)
 one_bidder_more bs done n b there so_far is =
     let there_too : n < length (low_bounds bs) = omega (arith, there, length-map bs lowered) in

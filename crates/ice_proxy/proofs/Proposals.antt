@@ -1,11 +1,9 @@
 -- A proposal holds the truth and lies inside the old bounds.
-use Rattle.std.proofs.Common.{ℕ, zero, suc, ◌+◌, ◌^◌, ◌/◌, ◌<◌, ◌≤◌, ◌≡◌, true, None, List, [], ◌∷◌, ◌++◌, length, take, ℤ, pos, negsuc, neg_ℤ, ◌+ℤ◌, ◌-ℤ◌, ◌≤ℤ◌, ◌<ℤ◌, refl, sym, ap, arith, ◌∙◌, ◌⊎◌, inl, inr}
-use Rattle.std.proofs.lemmas.List.{take_more}
+use Rattle.std.proofs.Common.{ℕ, zero, suc, ◌+◌, ◌^◌, ◌/◌, ◌<◌, ◌≤◌, ◌≡◌, true, None, List, [], ◌∷◌, length, ℤ, pos, negsuc, ◌+ℤ◌, ◌-ℤ◌, ◌≤ℤ◌, ◌<ℤ◌, refl, sym, ap, arith, ◌∙◌, ◌⊎◌, inl, inr}
 use Rattle.std.proofs.lemmas.Int.{ints}
 use Rattle.std.proofs.Math.Nat.{div-le_self, div-eq_of_lt, div-one}
 use Rattle.std.proofs.Math.Pow.{pow_mono}
 use Rattle.std.specs.List.{list_all}
-use Rattle.std.proofs.lemmas.Bool.{and_from}
 use Rattle.ice_defs.specs.Making.{is_value}
 use Rattle.ice_tree.specs.Bounds.{bounds_refusal}
 use Rattle.ice_rules.proofs.Unrefused.{unrefused}
@@ -14,6 +12,7 @@ use Rattle.ice_defs.specs.Bounds.{Bounds, IsInside}
 use Rattle.ice_defs.specs.Judging.{IsNarrowed}
 use Rattle.ice_defs.specs.Lawful.{AreBounds}
 use Rattle.ice_defs.proofs.Multiples.{one_time}
+use Rattle.ice_defs.proofs.Values.{all_values}
 use Rattle.ice_proxy.specs.Proposals.{halved, proposed_lo, proposed_hi, proposal}
 use Rattle.ice_proxy.specs.Laws.{ProposalIsAround, FirstProposalIsOld, LateProposalIsTruth}
 
@@ -201,22 +200,7 @@ late_proposal_is_truth nodes old truth a are inside late =
         let w = width n (omega (arith, are.hi_count, l)) in
         omega (arith, ints, weight_of-proposed_hi a old.hi truth n hi_count l, halved_none a (weight_of old.hi n -ℤ weight_of truth n) w.2 w.3 late)
 
--- ---- lists that are made value by value
-
-pub one_value_more : (xs done : List ℤ) (n : ℕ) (x : ℤ) → n < length xs → done ≡ take n xs → x ≡ weight_of xs n → done ++ x ∷ [] ≡ take (n + 1) xs
-one_value_more xs done n x there so_far is =
-    ap (λ (ds : List ℤ). ds ++ x ∷ []) so_far ∙ ap (λ (z : ℤ). take n xs ++ z ∷ []) is ∙ sym (take_more xs n (pos 0) there)
-
 -- ---- no tree refuses them
-
-value_is : (z : ℤ) → neg_ℤ (pos 1000000000) ≤ℤ z → z ≤ℤ pos 1000000000 → is_value z ≡ true
-value_is z low high = grind (arith, ints)
-
-all_values : (zs : List ℤ) → ((n : ℕ) → n < length zs → neg_ℤ (pos 1000000000) ≤ℤ weight_of zs n) → ((n : ℕ) → n < length zs → weight_of zs n ≤ℤ pos 1000000000) → list_all is_value zs ≡ true
-all_values [] low high = refl
-all_values (z ∷ zs) low high =
-    and_from (is_value z) (list_all is_value zs) (value_is z (low zero (omega arith)) (high zero (omega arith)))
-    (all_values zs (λ n h. low (suc n) (omega (arith, h))) (λ n h. high (suc n) (omega (arith, h))))
 
 pub lower_are_values : (nodes : ℕ) (b : Bounds) → AreBounds nodes b → list_all is_value b.lo ≡ true
 lower_are_values nodes b are =

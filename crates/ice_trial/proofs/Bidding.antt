@@ -1,27 +1,15 @@
 -- The bids of true values.
-use Rattle.std.proofs.Common.{◌≡◌, ◌<◌, ◌≤◌, ◌+◌, ◌∙◌, ℕ, zero, suc, true, List, [], ◌∷◌, ◌++◌, length, take, get_or, ℤ, pos, neg_ℤ, ◌≤ℤ◌, refl, sym, ap, arith}
-use Rattle.std.specs.List.{list_all}
-use Rattle.std.proofs.lemmas.Bool.{and_from}
+use Rattle.std.proofs.Common.{◌≡◌, ◌<◌, ◌≤◌, ◌+◌, ◌∙◌, ℕ, zero, suc, true, List, [], ◌∷◌, ◌++◌, length, take, get_or, refl, sym, ap, arith}
 use Rattle.std.proofs.lemmas.Int.{ints}
 use Rattle.std.proofs.lemmas.List.{take_more}
-use Rattle.ice_defs.specs.Set.{weight_of}
 use Rattle.ice_defs.specs.Bounds.{Bounds, bounds_of}
-use Rattle.ice_defs.specs.Making.{is_value}
 use Rattle.ice_defs.specs.Round.{Submission}
 use Rattle.ice_defs.specs.Lawful.{AreBounds}
+use Rattle.ice_defs.proofs.Values.{all_values}
 use Rattle.ice_terms.specs.Bids.{AreValues}
 use Rattle.ice_trial.specs.Truths.{truth_bids}
 
 -- ---- values
-
-value_is : (z : ℤ) → neg_ℤ (pos 1000000000) ≤ℤ z → z ≤ℤ pos 1000000000 → is_value z ≡ true
-value_is z low high = grind (arith, ints)
-
-all_values : (zs : List ℤ) → ((n : ℕ) → n < length zs → neg_ℤ (pos 1000000000) ≤ℤ weight_of zs n) → ((n : ℕ) → n < length zs → weight_of zs n ≤ℤ pos 1000000000) → list_all is_value zs ≡ true
-all_values [] low high = refl
-all_values (z ∷ zs) low high =
-    and_from (is_value z) (list_all is_value zs) (value_is z (low zero (omega arith)) (high zero (omega arith)))
-    (all_values zs (λ n h. low (suc n) (omega (arith, h))) (λ n h. high (suc n) (omega (arith, h))))
 
 -- lower values of at most 200 nodes
 pub lower_are_values : (bounds : Bounds) → AreBounds (length bounds.lo) bounds → length bounds.lo ≤ 200 → AreValues bounds.lo

@@ -2,7 +2,7 @@ use Rattle.std.proofs.Common.{◌≡◌, ◌∙◌, ◌<◌, length, arith, to_z
 use mir.Syntax.{w64}
 use Rattle.std.proofs.lemmas.Int.{ints}
 use Rattle.std.proofs.lemmas.List.{take_all}
-use Rattle.ice_fair.proofs.Lows.{one_value_more}
+use Rattle.ice_defs.proofs.Values.{one_value_more}
 use Rattle.ice_fair.proofs.low.low_values.Goals as goal
 
 pub loop-node-preserved : goal.loop-node-preserved

@@ -5,7 +5,8 @@ use Rattle.std.proofs.lemmas.List.{take_all}
 use Rattle.ice_defs.specs.Set.{weight_of}
 use Rattle.ice_defs.proofs.Multiples.{one_time}
 use Rattle.ice_proxy.specs.Proposals.{halved, proposed_hi}
-use Rattle.ice_proxy.proofs.Proposals.{length-proposed_hi, weight_of-proposed_hi, one_value_more}
+use Rattle.ice_defs.proofs.Values.{one_value_more}
+use Rattle.ice_proxy.proofs.Proposals.{length-proposed_hi, weight_of-proposed_hi}
 use Rattle.ice_proxy.proofs.proposal.upper_values.Goals as goal
 
 pub loop-node-preserved : goal.loop-node-preserved
