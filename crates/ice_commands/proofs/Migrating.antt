@@ -22,7 +22,7 @@ use Rattle.ice_commands.specs.MigrateParts.{TellsUnfit, AreFailing}
 use Rattle.ice_commands.specs.Output.{no_line, refused_line, unread_line}
 use Rattle.ice_commands.specs.Parts.{AreFetched, Answers, Serves}
 use Rattle.ice_commands.specs.Refusals.{fault_of, refusal_text, refusal_status, Refuses}
-use Rattle.ice_commands.specs.Unwritten.{IsUnwrittenOf}
+use Rattle.ice_commands.specs.Unwritten.{unwritten_text, unwritten_status, IsUnwrittenOf, IsUnwritten}
 use Rattle.ice_commands.proofs.Parts.{told_in_call}
 use Rattle.ice_commands.proofs.Refusing.{fault_anyway}
 use Rattle.ice_commands.proofs.Writing.{put_said}
@@ -47,12 +47,12 @@ journal_serves before after file bytes put result old new told (journal, is, put
 )
 
 -- it fails a test
-pub failure_answers : (before after : Told) (file : List ℕ) (failure : Failure) → (bytes : List ℕ) × AreFailing failure bytes × AreFetched before file journal_limit bytes
+failure_answers : (before after : Told) (file : List ℕ) (failure : Failure) → (bytes : List ℕ) × AreFailing failure bytes × AreFetched before file journal_limit bytes
     → Answers (λ call. MigrateAnswers call file) before after (no_line failure) No
 failure_answers before after file failure (bytes, fails, told) call part text =
     (failure, (bytes, fails, told_in_call call before after file journal_limit (λ other. other ≡ bytes) part told), text)
 
-pub refusal_answers : (before after : Told) (file : List ℕ) (refusal : Refusal) → Refuses 1 file journal_limit IsMigrateFault before after refusal
+refusal_answers : (before after : Told) (file : List ℕ) (refusal : Refusal) → Refuses 1 file journal_limit IsMigrateFault before after refusal
     → Answers (λ call. MigrateAnswers call file) before after (refusal_text refusal) (refusal_status refusal)
 refusal_answers before after file (File number fault) refuses call part text =
     let h = refuses call part in
@@ -61,3 +61,8 @@ refusal_answers before after file (Unread number) refuses call part text =
     let h = refuses call part in
     (h.1, text ∙ ap unread_line h.0)
 refusal_answers before after file NoMemory refuses call part text = text
+
+pub unwritten_answers : (before after : Told) (file : List ℕ) (unwritten : Unwritten) → IsUnwritten AreFailing IsMigrateFault file before after unwritten
+    → Answers (λ call. MigrateAnswers call file) before after (unwritten_text unwritten) (unwritten_status unwritten)
+unwritten_answers before after file (Fails line rule) is = failure_answers before after file (record { line = line; rule = rule }) is
+unwritten_answers before after file (Refused refusal) is = refusal_answers before after file refusal is

@@ -24,7 +24,7 @@ use Rattle.ice_commands.specs.Parts.{AreFetched, Answers, Serves}
 use Rattle.ice_commands.specs.Refusals.{fault_of, refusal_text, refusal_status, Refuses}
 use Rattle.ice_commands.specs.StatementParts.{TellsEnd, AreFailing}
 use Rattle.ice_commands.specs.StatementServed.{IsStatementEnd, IsStatementFault, StatementAnswers}
-use Rattle.ice_commands.specs.Unwritten.{IsUnwrittenOf}
+use Rattle.ice_commands.specs.Unwritten.{unwritten_text, unwritten_status, IsUnwrittenOf, IsUnwritten}
 use Rattle.ice_commands.proofs.Parts.{told_in_call}
 use Rattle.ice_commands.proofs.Refusing.{fault_anyway}
 use Rattle.ice_commands.proofs.Writing.{put_said}
@@ -54,12 +54,12 @@ statement_serves before after file name bytes put result old new told (journal, 
     )
 
 -- it fails a test
-pub failure_answers : (before after : Told) (file name : List ℕ) (failure : Failure) → (bytes : List ℕ) × AreFailing failure bytes × AreFetched before file journal_limit bytes
+failure_answers : (before after : Told) (file name : List ℕ) (failure : Failure) → (bytes : List ℕ) × AreFailing failure bytes × AreFetched before file journal_limit bytes
     → Answers (λ call. StatementAnswers call file name) before after (no_line failure) No
 failure_answers before after file name failure (bytes, fails, told) call part text =
     (failure, (bytes, fails, told_in_call call before after file journal_limit (λ other. other ≡ bytes) part told), text)
 
-pub refusal_answers : (before after : Told) (file name : List ℕ) (refusal : Refusal) → Refuses 1 file journal_limit (IsStatementFault name) before after refusal
+refusal_answers : (before after : Told) (file name : List ℕ) (refusal : Refusal) → Refuses 1 file journal_limit (IsStatementFault name) before after refusal
     → Answers (λ call. StatementAnswers call file name) before after (refusal_text refusal) (refusal_status refusal)
 refusal_answers before after file name (File number fault) refuses call part text =
     let h = refuses call part in
@@ -68,3 +68,8 @@ refusal_answers before after file name (Unread number) refuses call part text =
     let h = refuses call part in
     (h.1, text ∙ ap unread_line h.0)
 refusal_answers before after file name NoMemory refuses call part text = text
+
+pub unwritten_answers : (before after : Told) (file name : List ℕ) (unwritten : Unwritten) → IsUnwritten AreFailing (IsStatementFault name) file before after unwritten
+    → Answers (λ call. StatementAnswers call file name) before after (unwritten_text unwritten) (unwritten_status unwritten)
+unwritten_answers before after file name (Fails line rule) is = failure_answers before after file name (record { line = line; rule = rule }) is
+unwritten_answers before after file name (Refused refusal) is = refusal_answers before after file name refusal is

@@ -8,13 +8,11 @@ ghost use Rattle.ice_commands.specs.MigrateParts.{TellsUnfit, AreFailing};
 ghost use Rattle.ice_commands.specs.Keeping.{KeepsTold};
 ghost use Rattle.ice_commands.specs.Parts.{AreFetched, Serves};
 
-use crate::answer::say_answer;
 use crate::check::JOURNAL_LIMIT;
 use crate::files::fetch;
 use crate::refusal::{FileFault, Refusal};
 use crate::say::ended;
 use crate::unwritten::Unwritten;
-use ice_check::Answer;
 use ice_edge::{Shelf, Sink, Status};
 use ice_migrate::{Unfit, judge, put_packed};
 use std::alloc::Global;
@@ -76,7 +74,6 @@ pub fn migrate<H: Shelf, K: Sink>(
 {
     match journal_of(alloc, journal, shelf) {
         Ok(bytes) => ended(put_packed(&bytes, out), Status::Done),
-        Err(Unwritten::Fails { line, rule }) => say_answer(&Answer::No { line, rule }, out),
-        Err(Unwritten::Refused(refusal)) => refusal.say(out),
+        Err(unwritten) => unwritten.say(out),
     }
 }

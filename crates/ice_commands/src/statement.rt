@@ -8,13 +8,11 @@ ghost use Rattle.ice_commands.specs.Unwritten.{unwritten_status, IsUnwrittenOf, 
 ghost use Rattle.ice_commands.specs.StatementServed.{IsStatementFault, StatementAnswers};
 ghost use Rattle.ice_commands.specs.StatementParts.{TellsEnd, AreFailing};
 
-use crate::answer::say_answer;
 use crate::check::JOURNAL_LIMIT;
 use crate::files::fetch;
 use crate::refusal::{FileFault, Refusal};
 use crate::say::ended;
 use crate::unwritten::Unwritten;
-use ice_check::Answer;
 use ice_edge::{Shelf, Sink, Status};
 use ice_statement::{StatementEnd, judge, put_statement};
 use std::alloc::Global;
@@ -86,7 +84,6 @@ pub fn statement<H: Shelf, K: Sink>(
 {
     match journal_of(alloc, journal, name, shelf) {
         Ok(bytes) => ended(put_statement(&bytes, name.as_bytes(), out), Status::Done),
-        Err(Unwritten::Fails { line, rule }) => say_answer(&Answer::No { line, rule }, out),
-        Err(Unwritten::Refused(refusal)) => refusal.say(out),
+        Err(unwritten) => unwritten.say(out),
     }
 }
