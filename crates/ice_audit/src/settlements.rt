@@ -76,6 +76,7 @@ fn are_lawful_in(exchange: &Exchange, prices: &Prices) -> bool
 impl Settlements {
     /// The first settlement begins.
     pub(crate) fn new(alloc: Global, exchange: Exchange) -> Result<Settlements, AllocError>
+        // On success
         ensures exchange { IfOk result (λ x. x.exchange ≡ exchange) }
         ensures round { IfOk result (λ x. IsRoundOf exchange x.judge) }
         ensures bounds { IfOk result (λ x. x.judge.bounds ≡ opening_bounds exchange) }

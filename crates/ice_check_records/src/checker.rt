@@ -56,11 +56,14 @@ impl Checker {
     pub fn feed(&mut self, line: &Line) -> Result<(), AllocError>
         requires lawful { IsRecord (record_of line.now) }
         requires few { self.old.line < 2 ^ 63 }
+        // On success
         ensures after { OnOk result ((p : Progress) → HasCome self.old p
             → ComesTo p (record_of line.now) self.new) }
         ensures line { OnOk result (self.new.line ≡ suc self.old.line) }
+        // Out of memory
         ensures stopped { OnErr result (HasCome self.new out_of_memory) }
         ensures still { OnErr result (self.new.line ≡ self.old.line) }
+        // Where no memory is wanted
         ensures ready { (p : Progress) → HasCome self.old p → IsTrue (is_ready p) → IsOk result }
         ensures once { IsTrue (is_ready_checker self.old) → IsOk result }
         ensures stays { OnOk result (IsTrue (is_ready_checker self.old)

@@ -151,12 +151,15 @@ impl LogWalk {
         requires few { length trees.now ≤ 40 }
         requires opened { 0 < length self.old.walk.sides }
         requires goods { CountsGoods (length self.old.before) (step_of step) }
+        // Where it passes
         ensures passes { OnOk result (PassesThere trees.now target self.old (step_of step)) }
         ensures sides { OnOk result
             (self.new.walk.sides ≡ sides_after self.old.walk.sides (step_of step)) }
         ensures before { OnOk result
             (self.new.before ≡ multipliers_after self.old.before (step_of step)) }
+        // Where it fails
         ensures fault { IfErr result (FailsThere trees.now target self.old (step_of step)) }
+        // Either way
         ensures same { HasSameWalk self.old self.new }
         ensures goods { length self.new.before ≡ length self.old.before }
     {
@@ -190,6 +193,7 @@ impl LogWalk {
             (GoesOn trees.now target (version_of version) self.old (record_of line.now) self.new) }
         ensures fails { IfErr result
             (BreaksOff trees.now target (version_of version) self.old (record_of line.now)) }
+        // Either way
         ensures walk { IsWalkOf trees.now self.old.desk.room self.new }
         ensures weights { self.new.weights ≡ self.old.weights }
     {
@@ -216,6 +220,7 @@ impl LogWalk {
             (GoesOn trees.now target (version_of version) self.old (record_of line.now) self.new) }
         ensures fails { IfErr result
             (BreaksOff trees.now target (version_of version) self.old (record_of line.now)) }
+        // Either way
         ensures walk { IsWalkOf trees.now self.old.desk.room self.new }
         ensures weights { self.new.weights ≡ self.old.weights }
     {
