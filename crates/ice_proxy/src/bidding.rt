@@ -1,17 +1,13 @@
 //! The least attempt that is accepted.
-ghost use Rattle.std.specs.Prelude.{◌≡◌, ◌≤◌, ◌↔◌, length, IsTrue, List, ℕ, MatchOption};
-ghost use Rattle.std.specs.List.{list_all};
+ghost use Rattle.std.specs.Prelude.{◌≡◌, ◌≤◌, length, List, ℕ, MatchOption};
 ghost use Rattle.ice_defs.specs.Set.{IsSatisfied};
 ghost use Rattle.ice_defs.specs.Bounds.{IsInside};
-ghost use Rattle.ice_defs.specs.Making.{is_value};
-ghost use Rattle.ice_defs.specs.Judging.{IsJudged};
-ghost use Rattle.ice_rules.specs.Verdicts.{values};
 ghost use Rattle.ice_proxy.specs.Proposals.{proposal, IsAcceptable, IsProxyAttempt};
 ghost use Rattle.ice_proxy.specs.Bidders.{bidder_at};
 ghost use Rattle.ice_proxy.specs.Laws.{IsAround};
 
 use crate::proposal::{lower_values, propose, upper_values};
-use ice_rules::{Scratch, Standing, Verdict, judge};
+use ice_rules::{Scratch, Standing, judge};
 use ice_tree::Bounds;
 
 /// The bid of a proxy.
@@ -21,24 +17,6 @@ pub struct ProxyBid {
     pub attempt: u8,
     /// Its bounds.
     pub bounds: Bounds,
-}
-
-/// Whether new values are accepted.
-fn is_accepted(at: &Standing, lo: &[i64], hi: &[i64], improve: i64, scratch: &mut Scratch) -> bool
-    requires satisfied { IsSatisfied at.now.tree.now at.now.set.now }
-    requires old { length at.now.bounds.now.lo ≡ length at.now.tree.now }
-    requires lo_nodes { length lo.now ≡ length at.now.tree.now }
-    requires hi_nodes { length hi.now ≡ length at.now.tree.now }
-    requires lo_values { IsTrue (list_all is_value lo.now) }
-    requires hi_values { IsTrue (list_all is_value hi.now) }
-    ensures { IsTrue result
-        ↔ IsJudged at.now.tree.now at.now.prices.now improve at.now.set.now at.now.bounds.now
-        (values lo.now hi.now) Verdict.Accepted }
-{
-    match judge(at, lo, hi, improve, scratch) {
-        Verdict::Accepted => true,
-        _ => false,
-    }
 }
 
 /// The bounds of an attempt, where they are accepted.
@@ -62,11 +40,7 @@ fn try_attempt(
     let _nodes = at.bounds.len();
     let lo = lower_values(at.bounds, truth, attempt);
     let hi = upper_values(at.bounds, truth, attempt);
-    if is_accepted(at, &lo, &hi, improve, scratch) {
-        Some(propose(at.tree, at.bounds, truth, attempt))
-    } else {
-        None
-    }
+    judge(at, &lo, &hi, improve, scratch).ok()
 }
 
 /// The bid of a proxy that knows the true values: the least attempt, from 0 to 31, whose bounds are

@@ -1,11 +1,13 @@
 //! The verdict on new bounds.
-ghost use Rattle.std.specs.Prelude.{◌≡◌, ◌<◌, ◌≤◌, length, IsTrue, MatchOption, ℕ, ◌<ℤ◌, ◌⊎◌};
+ghost use Rattle.std.specs.Prelude.{◌≡◌, ◌<◌, ◌≤◌, false, length, IfErr, IfOk, IsTrue, MatchOption, ℕ, ◌<ℤ◌, ◌⊎◌};
 ghost use Rattle.std.specs.List.{list_all};
 ghost use Rattle.ice_defs.specs.Set.{IsSatisfied, weight_of};
 ghost use Rattle.ice_defs.specs.Bounds.{IsInside};
+ghost use Rattle.ice_defs.specs.Lawful.{AreBounds};
 ghost use Rattle.ice_defs.specs.Making.{is_value};
 ghost use Rattle.ice_defs.specs.Judging.{IsLeastNode, IsCrossedAt, IsLoosenedAt};
-ghost use Rattle.ice_rules.specs.Verdicts.{values, IsVerdict};
+ghost use Rattle.ice_defs.specs.Round.{is_acceptance};
+ghost use Rattle.ice_rules.specs.Verdicts.{values, IsVerdict, verdict_of};
 
 use crate::rules::{improvement, mrpar};
 use crate::standing::Standing;
@@ -55,28 +57,31 @@ fn first_loosened(old: &Bounds, lo: &[i64], hi: &[i64]) -> Option<u16>
     None
 }
 
-/// The first verdict that holds.
+/// The new bounds, or the first verdict that refuses them.
 fn first_that_holds(
     at: &Standing,
     lo: &[i64],
     hi: &[i64],
     improve: i64,
     scratch: &mut Scratch,
-) -> Verdict
+) -> Result<Bounds, Verdict>
     requires satisfied { IsSatisfied at.now.tree.now at.now.set.now }
     requires old { length at.now.bounds.now.lo ≡ length at.now.tree.now }
     requires lo_nodes { length lo.now ≡ length at.now.tree.now }
     requires hi_nodes { length hi.now ≡ length at.now.tree.now }
     requires lo_values { IsTrue (list_all is_value lo.now) }
     requires hi_values { IsTrue (list_all is_value hi.now) }
-    ensures { IsVerdict at.now improve lo.now hi.now result }
+    ensures judged { IsVerdict at.now improve lo.now hi.now (verdict_of result) }
+    ensures accepted { IfOk result (λ new. new ≡ values lo.now hi.now) }
+    ensures bounds { IfOk result (AreBounds (length at.now.tree.now)) }
+    ensures refused { IfErr result (λ refused. is_acceptance refused ≡ false) }
 {
     let _nodes = at.tree.nodes();
     if let Some(node) = first_crossed(lo, hi) {
-        return Verdict::Crossed { node };
+        return Err(Verdict::Crossed { node });
     }
     if let Some(node) = first_loosened(at.bounds, lo, hi) {
-        return Verdict::Loosened { node };
+        return Err(Verdict::Loosened { node });
     }
     let Ok(new) = at.tree.set_bounds(lo, hi) else {
         unreachable!()
@@ -88,31 +93,41 @@ fn first_that_holds(
         prices: at.prices,
     };
     if !mrpar(&then, scratch) {
-        return Verdict::Mrpar;
+        return Err(Verdict::Mrpar);
     }
     if !improvement(at, &new, improve, scratch) {
-        return Verdict::Improve;
+        return Err(Verdict::Improve);
     }
-    Verdict::Accepted
+    let _nodes = new.len();
+    Ok(new)
 }
 
-/// The verdict on new lower and upper values of a bidder, of which there is one for each node,
-/// inside the value limits: the first of these that holds. `Crossed` at the least node whose lower
+/// The bounds that new lower and upper values of a bidder make, where they are accepted, or the
+/// verdict that refuses them. There is one value of each kind for each node, inside the value
+/// limits. The verdict is the first of these that holds: `Crossed` at the least node whose lower
 /// value is above its upper one, `Loosened` at the least node whose values reach beyond the old
-/// bounds, `Mrpar` where the first rule fails at the new bounds, `Improve` where the second one
-/// does, and else `Accepted`. A bid that states its true values exactly, inside the old bounds, is
-/// accepted.
+/// bounds, `Mrpar` where the first rule fails at the new bounds, and `Improve` where the second one
+/// does. A bid that states its true values exactly, inside the old bounds, is accepted.
 ///
 /// The provisional set is satisfied. Takes no memory.
-pub fn judge(at: &Standing, lo: &[i64], hi: &[i64], improve: i64, scratch: &mut Scratch) -> Verdict
+pub fn judge(
+    at: &Standing,
+    lo: &[i64],
+    hi: &[i64],
+    improve: i64,
+    scratch: &mut Scratch,
+) -> Result<Bounds, Verdict>
     requires satisfied { IsSatisfied at.now.tree.now at.now.set.now }
     requires old { length at.now.bounds.now.lo ≡ length at.now.tree.now }
     requires lo_nodes { length lo.now ≡ length at.now.tree.now }
     requires hi_nodes { length hi.now ≡ length at.now.tree.now }
     requires lo_values { IsTrue (list_all is_value lo.now) }
     requires hi_values { IsTrue (list_all is_value hi.now) }
-    ensures judged { IsVerdict at.now improve lo.now hi.now result }
-    ensures exact { hi.now ≡ lo.now → IsInside 1 at.now.bounds.now lo.now → result
+    ensures judged { IsVerdict at.now improve lo.now hi.now (verdict_of result) }
+    ensures accepted { IfOk result (λ new. new ≡ values lo.now hi.now) }
+    ensures bounds { IfOk result (AreBounds (length at.now.tree.now)) }
+    ensures refused { IfErr result (λ refused. is_acceptance refused ≡ false) }
+    ensures exact { hi.now ≡ lo.now → IsInside 1 at.now.bounds.now lo.now → verdict_of result
         ≡ Verdict.Accepted }
 {
     first_that_holds(at, lo, hi, improve, scratch)

@@ -1,20 +1,15 @@
--- Verdicts by whether the bidder is marked and whether the
--- values count its nodes; and accepted values are bounds.
+-- Verdicts by whether the bidder is marked and whether the values count its nodes.
 use Rattle.std.proofs.Common.{◌≡◌, Bool, true, false, length, ℤ, refl, sym, ◌∙◌, subst}
-use Rattle.std.specs.Prelude.{IsTrue, ◌==◌, None}
-use Rattle.std.specs.List.{list_all}
+use Rattle.std.specs.Prelude.{◌==◌}
 use Rattle.std.proofs.lemmas.Bool.{false≢true, and_parts, eqb-true}
 use Rattle.ice_defs.specs.declared.Verdict.{Verdict}
-use Rattle.ice_defs.specs.declared.Verdict.TheVariants.{Accepted, WrongCount}
+use Rattle.ice_defs.specs.declared.Verdict.TheVariants.{WrongCount}
 use Rattle.ice_defs.specs.Tree.{Tree}
 use Rattle.ice_defs.specs.Set.{NodeSet}
 use Rattle.ice_defs.specs.Bounds.{Bounds}
 use Rattle.ice_defs.specs.Prices.{Prices}
-use Rattle.ice_defs.specs.Making.{is_value}
 use Rattle.ice_defs.specs.Judging.{IsJudged}
 use Rattle.ice_defs.specs.Round.{Submission, Standing, stated_bounds, has_tree_length, IsVerdict}
-use Rattle.ice_tree.specs.Bounds.{bounds_refusal}
-use Rattle.ice_rules.proofs.Unrefused.{unrefused}
 
 pub count_lengths : (t : Tree) (s : Submission) → has_tree_length t s ≡ true → (length s.lo ≡ length t) × (length s.hi ≡ length t)
 count_lengths t s h =
@@ -29,20 +24,6 @@ module _ (p : Prices) (improve : ℤ) (bidder : Standing) (s : Submission) where
   pub is_judged : (verdict : Verdict) (marked : Bool) → marked ≡ false → has_tree_length bidder.tree s ≡ true → IsJudged bidder.tree p improve bidder.set bidder.bounds (stated_bounds s) verdict → IsVerdict p improve bidder marked s verdict
   is_judged verdict true h counted judged = absurd (false≢true (sym h))
   is_judged verdict false h counted judged = (λ _. judged, λ other. absurd (false≢true (sym other ∙ counted)))
-
-  module _ (lo_values : IsTrue (list_all is_value s.lo)) (hi_values : IsTrue (list_all is_value s.hi)) where
-    fits_where : (counts : Bool) → has_tree_length bidder.tree s ≡ counts → IsVerdict p improve bidder false s Accepted → bounds_refusal (length bidder.tree) s.lo s.hi ≡ None
-    fits_where true h gives =
-        let lengths = count_lengths bidder.tree s h in
-        let judged : IsJudged bidder.tree p improve bidder.set bidder.bounds (stated_bounds s) Accepted = gives.0 h in
-        unrefused (length bidder.tree) s.lo s.hi lengths.0 lengths.1 lo_values hi_values judged.0.uncrossed
-    fits_where false h gives =
-        let other : Accepted ≡ WrongCount = gives.1 h in
-        absurd cc
-
-    pub accepted_fits : (marked : Bool) → IsVerdict p improve bidder marked s Accepted → bounds_refusal (length bidder.tree) s.lo s.hi ≡ None
-    accepted_fits true repeated = absurd cc
-    accepted_fits false gives = fits_where (has_tree_length bidder.tree s) refl gives
 
 -- judged by what is known to be the same
 pub judged_at : (t u : Tree) (p q : Prices) (i j : ℤ) (s x : NodeSet) (old before new : Bounds) (verdict : Verdict)

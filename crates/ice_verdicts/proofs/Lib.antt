@@ -1,6 +1,6 @@
 -- the rounds to which judged submissions lead
 pub mod Leading
--- verdicts by marks and counts, and that accepted values are bounds
+-- verdicts by marks and counts
 pub mod Accepting
 -- what a submission makes of a round
 pub mod Submitting

@@ -1,13 +1,14 @@
 //! The verdict on a submission, and what it changes.
-ghost use Rattle.std.specs.Prelude.{◌≡◌, ◌<◌, ◌∷◌, ◌++◌, [], ℕ, List, if◌then◌else◌, IsTrue, Some, None, length};
+ghost use Rattle.std.specs.Prelude.{◌≡◌, ◌<◌, ◌∷◌, ◌++◌, [], false, ℕ, IfErr, IfOk, List, if◌then◌else◌, IsTrue, Some, length};
 ghost use Rattle.std.specs.List.{list_all};
 ghost use Rattle.ice_defs.specs.Making.{is_value};
 ghost use Rattle.ice_defs.specs.Trade.{tree_of, set_of};
 ghost use Rattle.ice_defs.specs.Bounds.{bounds_of};
 ghost use Rattle.ice_defs.specs.Exchange.{trees_of};
 ghost use Rattle.ice_defs.specs.Judging.{IsJudged};
+ghost use Rattle.ice_defs.specs.Lawful.{AreBounds};
 ghost use Rattle.ice_defs.specs.Round.{Judged, IsNextVerdict, stated_bounds, is_acceptance, has_tree_length};
-ghost use Rattle.ice_tree.specs.Bounds.{bounds_refusal};
+ghost use Rattle.ice_rules.specs.Verdicts.{values, verdict_of};
 ghost use Rattle.ice_verdicts.specs.Judges.{IsRoundOf, bidders_in, submission_of, with_taken, IsVerdictOf, IsVerdictIn, round_after, IsAfter};
 
 use crate::judge::Judge;
@@ -40,19 +41,29 @@ fn count_nodes(tree: &Tree, lo: &[i64], hi: &[i64]) -> bool
 }
 
 impl Judge {
-    /// The verdict on new values of a bidder, of which there is one for each node.
-    fn judge_values(&self, exchange: &Exchange, bidder: u8, lo: &[i64], hi: &[i64]) -> Verdict
+    /// The bounds that new values of a bidder make, of which there is one for each node, or the
+    /// verdict that refuses them.
+    fn judge_values(
+        &self,
+        exchange: &Exchange,
+        bidder: u8,
+        lo: &[i64],
+        hi: &[i64],
+    ) -> Result<Bounds, Verdict>
         requires round { IsRoundOf exchange.now self.now }
         requires bidder { bidder < length exchange.now.bidders }
         requires lo_nodes { length lo.now ≡ length (tree_of (trees_of exchange.now) bidder) }
         requires hi_nodes { length hi.now ≡ length (tree_of (trees_of exchange.now) bidder) }
         requires lo_values { IsTrue (list_all is_value lo.now) }
         requires hi_values { IsTrue (list_all is_value hi.now) }
-        ensures { (name : List ℕ)
+        ensures judged { (name : List ℕ)
             → IsJudged (tree_of (trees_of exchange.now) bidder) self.now.prices
             exchange.now.settings.improve (set_of self.now.sets bidder)
             (bounds_of self.now.bounds bidder)
-            (stated_bounds (submission_of name lo.now hi.now)) result }
+            (stated_bounds (submission_of name lo.now hi.now)) (verdict_of result) }
+        ensures accepted { IfOk result (λ new. new ≡ values lo.now hi.now) }
+        ensures bounds { IfOk result (AreBounds (length (tree_of (trees_of exchange.now) bidder))) }
+        ensures refused { IfErr result (λ refused. is_acceptance refused ≡ false) }
     {
         let at = Standing {
             tree: exchange.tree(bidder),
@@ -63,41 +74,33 @@ impl Judge {
         judge(&at, lo, hi, improve_of(exchange), &mut Scratch::new())
     }
 
-    /// The verdict on values of a bidder.
-    fn judge_bidder(&self, exchange: &Exchange, bidder: u8, lo: &[i64], hi: &[i64]) -> Verdict
+    /// The bounds that values of a bidder make, where they are accepted, or the verdict that
+    /// refuses them.
+    fn judge_bidder(
+        &self,
+        exchange: &Exchange,
+        bidder: u8,
+        lo: &[i64],
+        hi: &[i64],
+    ) -> Result<Bounds, Verdict>
         requires round { IsRoundOf exchange.now self.now }
         requires bidder { bidder < length exchange.now.bidders }
         requires lo_values { IsTrue (list_all is_value lo.now) }
         requires hi_values { IsTrue (list_all is_value hi.now) }
-        ensures { (name : List ℕ) → IsVerdictOf exchange.now self.now (Some bidder)
-            (submission_of name lo.now hi.now) result }
+        ensures judged { (name : List ℕ) → IsVerdictOf exchange.now self.now (Some bidder)
+            (submission_of name lo.now hi.now) (verdict_of result) }
+        ensures accepted { IfOk result (λ new. new ≡ values lo.now hi.now) }
+        ensures bounds { IfOk result (AreBounds (length (tree_of (trees_of exchange.now) bidder))) }
+        ensures refused { IfErr result (λ refused. is_acceptance refused ≡ false) }
     {
         if self.is_marked(bidder) {
-            return Verdict::Repeated;
+            return Err(Verdict::Repeated);
         }
         if count_nodes(exchange.tree(bidder), lo, hi) {
             self.judge_values(exchange, bidder, lo, hi)
         } else {
-            Verdict::WrongCount
+            Err(Verdict::WrongCount)
         }
-    }
-
-    /// Takes over the values of an accepted submission of the bidder.
-    fn take(&mut self, exchange: &Exchange, bidder: u8, lo: &[i64], hi: &[i64])
-        requires round { IsRoundOf exchange.now self.old }
-        requires bidder { bidder < length exchange.now.bidders }
-        requires fits { bounds_refusal (length (tree_of (trees_of exchange.now) bidder)) lo.now
-            hi.now
-            ≡ None }
-        ensures taken { (name : List ℕ) → self.new ≡ with_taken self.old (Some bidder)
-            (submission_of name lo.now hi.now) }
-        ensures round { IsRoundOf exchange.now self.new }
-    {
-        let Ok(bounds) = exchange.tree(bidder).set_bounds(lo, hi) else {
-            unreachable!()
-        };
-        let _nodes = bounds.len();
-        self.mark(bidder, bounds);
     }
 
     /// The verdict on values of a bidder, which it takes over where they are accepted.
@@ -113,13 +116,12 @@ impl Judge {
             (submission_of name lo.now hi.now) else self.old) }
         ensures round { IsRoundOf exchange.now self.new }
     {
-        let verdict = self.judge_bidder(exchange, bidder, lo, hi);
-        match verdict {
-            Verdict::Accepted => {
-                self.take(exchange, bidder, lo, hi);
+        match self.judge_bidder(exchange, bidder, lo, hi) {
+            Ok(bounds) => {
+                self.mark(bidder, bounds);
                 Verdict::Accepted
             }
-            refused => refused,
+            Err(refused) => refused,
         }
     }
 

@@ -12,16 +12,16 @@ unreachable-requires c =
     let due = c.in_default-set_bounds.ensures.refused in
     cc (fine, due)
 
-pub returns-then-not-mrpar : goal.returns-then-not-mrpar
-returns-then-not-mrpar c = (
+pub returns-then-not-mrpar-clause-judged : goal.returns-then-not-mrpar-clause-judged
+returns-then-not-mrpar-clause-judged c = (
   record { uncrossed = c.in_default.ensures; tight = c.in_default-first_loosened.ensures },
   λ m.
       let h : false ≡ true = c.if-not-mrpar.ensures.1 (subst (λ b. IsMrpar c.args.at.now.tree.now c.args.at.now.prices.now c.args.at.now.set.now b) (sym c.in-Ok.ensures.made) m) in
       absurd (cc),
 )
 
-pub returns-then-not-improvement : goal.returns-then-not-improvement
-returns-then-not-improvement c =
+pub returns-then-not-improvement-clause-judged : goal.returns-then-not-improvement-clause-judged
+returns-then-not-improvement-clause-judged c =
     let fits : SFits w64 c.args.improve = search rules in
     let back : to_z w64 (of_z w64 c.args.improve) ≡ c.args.improve = to_z-of_z w64 c.args.improve fits in (
       record { uncrossed = c.in_default.ensures; tight = c.in_default-first_loosened.ensures },
@@ -32,8 +32,8 @@ returns-then-not-improvement c =
           absurd (cc),
     )
 
-pub returns : goal.returns
-returns c =
+pub returns-clause-judged : goal.returns-clause-judged
+returns-clause-judged c =
     let fits : SFits w64 c.args.improve = search rules in
     let back : to_z w64 (of_z w64 c.args.improve) ≡ c.args.improve = to_z-of_z w64 c.args.improve fits in (
       record { uncrossed = c.in_default.ensures; tight = c.in_default-first_loosened.ensures },

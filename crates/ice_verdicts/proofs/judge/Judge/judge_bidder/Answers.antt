@@ -3,6 +3,7 @@ use Rattle.ice_defs.specs.Tree.{Tree}
 use Rattle.ice_defs.specs.Trade.{tree_of}
 use Rattle.ice_defs.specs.Exchange.{trees_of}
 use Rattle.ice_defs.specs.Round.{has_tree_length}
+use Rattle.ice_rules.specs.Verdicts.{verdict_of}
 use Rattle.ice_verdicts.specs.Judges.{bidder_in, is_marked, submission_of}
 use Rattle.ice_verdicts.proofs.Accepting.{count_lengths, is_miscounted, is_judged}
 use Rattle.ice_verdicts.proofs.judge.Judge.judge_bidder.Goals as goal
@@ -21,17 +22,17 @@ judge_values-requires-clause-hi_nodes c =
     ap (λ (t : Tree). has_tree_length t s) (sym c.tree.ensures) ∙ sym (c.count_nodes.ensures []) ∙ c.if-count_nodes.true in
     (count_lengths (tree_of (trees_of c.args.exchange.now) c.args.bidder) s counts).1
 
-pub returns-then-count_nodes : goal.returns-then-count_nodes
-returns-then-count_nodes c = λ name.
+pub returns-then-count_nodes-clause-judged : goal.returns-then-count_nodes-clause-judged
+returns-then-count_nodes-clause-judged c = λ name.
     let s = submission_of name c.args.lo.now c.args.hi.now in
     is_judged c.args.self.now.prices c.args.exchange.now.settings.improve (bidder_in c.args.exchange.now c.args.self.now c.args.bidder) s
-    c.judge_values.result (is_marked c.args.self.now c.args.bidder)
+    (verdict_of c.judge_values.result) (is_marked c.args.self.now c.args.bidder)
     (sym c.is_marked.ensures ∙ c.if-is_marked.false)
     (ap (λ (t : Tree). has_tree_length t s) (sym c.tree.ensures) ∙ sym (c.count_nodes.ensures name) ∙ c.if-count_nodes.true)
-    (c.judge_values.ensures name)
+    (c.judge_values.ensures.judged name)
 
-pub returns-else-count_nodes : goal.returns-else-count_nodes
-returns-else-count_nodes c = λ name.
+pub returns-else-count_nodes-clause-judged : goal.returns-else-count_nodes-clause-judged
+returns-else-count_nodes-clause-judged c = λ name.
     let s = submission_of name c.args.lo.now c.args.hi.now in
     is_miscounted c.args.self.now.prices c.args.exchange.now.settings.improve (bidder_in c.args.exchange.now c.args.self.now c.args.bidder) s
     (is_marked c.args.self.now c.args.bidder)
