@@ -13,7 +13,9 @@ ghost use Rattle.ice_read.specs.Fault.{IsFault, IsReading};
 use crate::cause::ReadCause;
 use crate::fault::ReadFault;
 use crate::goods::good_member;
+use crate::limits::MOST_UNITS;
 use crate::values::{natural_member, whole_member};
+use ice_defs::GREATEST_VALUE;
 use ice_trade::ExchangeMaker;
 use ice_tree::{NodeKind, TreeMaker};
 use serde_json::Value;
@@ -53,7 +55,7 @@ pub fn value_member(value: &Value, name: &str) -> Result<i64, ReadFault>
     ensures reading { IsReading result (λ path. of_member path (view value.now) name.now value_at) }
     ensures short { IfErr result (λ fault. length fault.place ≤ length name.now + 1) }
 {
-    whole_member(value, name, -1_000_000_000, 1_000_000_000)
+    whole_member(value, name, -GREATEST_VALUE, GREATEST_VALUE)
 }
 
 /// Takes a leaf into a tree that is being made.
@@ -76,7 +78,7 @@ pub(crate) fn take_leaf(
     ensures short { IfErr result (λ fault. length fault.place ≤ 9) }
 {
     let good = good_member(exchange, value, side.word())?;
-    let units = natural_member(value, "units", 1, 1000)?;
+    let units = natural_member(value, "units", 1, MOST_UNITS)?;
     let lo = value_member(value, "lo")?;
     let hi = value_member(value, "hi")?;
     match maker.leaf(side.kind(good, units as u16), lo, hi) {

@@ -10,6 +10,7 @@ mod file;
 mod goods;
 mod laws;
 mod leaf;
+mod limits;
 mod own;
 pub mod parts;
 mod place;

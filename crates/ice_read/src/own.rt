@@ -9,6 +9,7 @@ ghost use Rattle.ice_read.specs.Fault.{IsFault};
 
 use crate::cause::ReadCause;
 use crate::fault::ReadFault;
+use crate::limits::MOST_OWNED;
 use crate::values::{natural_of, object_of};
 use arrayvec::ArrayVec;
 use ice_trade::ExchangeMaker;
@@ -46,7 +47,7 @@ fn take_amount(
     let Some(good) = exchange.find_good(name) else {
         return Err(ReadFault::of(ReadCause::UnknownGood));
     };
-    match natural_of(value, 0, 1_000_000) {
+    match natural_of(value, 0, MOST_OWNED) {
         Ok(amount) => {
             own[good as usize] = amount;
             Ok(())

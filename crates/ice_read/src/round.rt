@@ -10,8 +10,10 @@ ghost use Rattle.ice_read.specs.Fault.{fault_at, IsFault, IsReading};
 use crate::cause::ReadCause;
 use crate::fault::ReadFault;
 use crate::file::value_of;
+use crate::limits::{MOST_BIDS, MOST_VALUES};
 use crate::values::{array_of, has_exactly, member, text_of, whole_of};
 use arrayvec::ArrayVec;
+use ice_defs::GREATEST_VALUE;
 use ice_terms::{Bid, Name};
 use ice_trade::MakeFault;
 use serde_json::Value;
@@ -26,12 +28,12 @@ fn values_at(value: &Value) -> Result<ArrayVec<i64, 200>, ReadFault>
     ensures values { IfOk result (λ values. AreValues values.items) }
 {
     let items = array_of(value)?;
-    if items.len() > 200 {
+    if items.len() > MOST_VALUES {
         return Err(ReadFault::of(ReadCause::Range));
     }
     let mut values = ArrayVec::new();
     for (index, item) in items.iter().enumerate() {
-        match whole_of(item, -1_000_000_000, 1_000_000_000) {
+        match whole_of(item, -GREATEST_VALUE, GREATEST_VALUE) {
             Ok(number) => values.push(number),
             Err(fault) => return Err(fault.at(index as u16)),
         }
@@ -105,7 +107,7 @@ fn bids_in(file: &Value) -> Result<&Vec<Value>, ReadFault>
         return Err(ReadFault::of(ReadCause::Shape));
     }
     match array_of(member(file, "bids")?) {
-        Ok(items) if items.len() <= 400 => Ok(items),
+        Ok(items) if items.len() <= MOST_BIDS => Ok(items),
         Ok(_) => Err(ReadFault::of(ReadCause::Range).under("bids")),
         Err(fault) => Err(fault.under("bids")),
     }

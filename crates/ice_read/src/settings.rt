@@ -6,6 +6,10 @@ ghost use Rattle.ice_read.specs.Fault.{IsReading};
 
 use crate::cause::ReadCause;
 use crate::fault::ReadFault;
+use crate::limits::{
+    GREATEST_CAP, GREATEST_CLOSE_REGRET, GREATEST_IMPROVE, GREATEST_WEIGHT, MOST_BRANCHES,
+    MOST_ROUNDS,
+};
 use crate::values::{has_exactly, natural_member, whole_member};
 use ice_terms::Settings;
 use serde_json::Value;
@@ -28,12 +32,12 @@ pub fn settings_of(value: &Value) -> Result<Settings, ReadFault>
     ) {
         return Err(ReadFault::of(ReadCause::Shape));
     }
-    let weight = natural_member(value, "weight", 0, 100)?;
-    let close_regret = whole_member(value, "close_regret", 0, 1_000_000_000_000)?;
-    let cap = whole_member(value, "cap", 1, 1_000_000_000)?;
-    let improve = whole_member(value, "improve", 0, 1_000_000_000)?;
-    let rounds = natural_member(value, "rounds", 0, 20)?;
-    let branches = natural_member(value, "branches", 0, 50_000)?;
+    let weight = natural_member(value, "weight", 0, GREATEST_WEIGHT)?;
+    let close_regret = whole_member(value, "close_regret", 0, GREATEST_CLOSE_REGRET)?;
+    let cap = whole_member(value, "cap", 1, GREATEST_CAP)?;
+    let improve = whole_member(value, "improve", 0, GREATEST_IMPROVE)?;
+    let rounds = natural_member(value, "rounds", 0, MOST_ROUNDS)?;
+    let branches = natural_member(value, "branches", 0, MOST_BRANCHES)?;
     let settings = Settings::new(
         weight as u8,
         close_regret,

@@ -7,6 +7,7 @@ ghost use Rattle.ice_trade.specs.Fault.{RefusedBy};
 ghost use Rattle.ice_xor.specs.FlatFile.{flat_refusal};
 
 use crate::bidders::FlatBidder;
+use ice_defs::MOST_BIDDERS;
 use ice_terms::Name;
 use ice_trade::MakeFault;
 
@@ -40,7 +41,7 @@ pub(crate) fn check_name(bidders: &[FlatBidder], name: &str) -> Result<Name, Mak
     if is_taken(bidders, &name) {
         return Err(MakeFault::DuplicateBidder);
     }
-    if bidders.len() >= 40 {
+    if bidders.len() >= usize::from(MOST_BIDDERS) {
         return Err(MakeFault::TooMany);
     }
     Ok(name)

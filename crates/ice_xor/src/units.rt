@@ -14,6 +14,9 @@ use ice_trade::ExchangeMaker;
 use serde_json::Value;
 use std::alloc::{AllocError, Global};
 
+/// The most units of a good in a package.
+const MOST_UNITS: i64 = 1000;
+
 /// Units of one good in a package, by the good's number: bought units are positive, and sold ones
 /// negative.
 #[derive(Clone, Copy, PartialEq, Eq, Debug)]
@@ -29,7 +32,7 @@ fn amount_of(value: &Value) -> Result<i16, ReadFault>
     ensures reading { IsReading result (λ path. amount_at path (view value.now)) }
     ensures place { IfErr result (λ fault. fault.place ≡ []) }
 {
-    let amount = whole_of(value, -1000, 1000)?;
+    let amount = whole_of(value, -MOST_UNITS, MOST_UNITS)?;
     if amount == 0 {
         return Err(ReadFault::of(ReadCause::Range));
     }

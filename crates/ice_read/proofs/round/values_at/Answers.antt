@@ -6,8 +6,8 @@ use Rattle.ice_read.proofs.PlacesOfFaults.{refused}
 use Rattle.ice_read.proofs.RoundParts.{place_length, too_long, none_read, one_more, all_read, fault_read}
 use Rattle.ice_read.proofs.round.values_at.Goals as goal
 
-pub returns-then-len-gt200-clause-reading : goal.returns-then-len-gt200-clause-reading
-returns-then-len-gt200-clause-reading c = λ path. too_long path _ c.in_ok-items.items.now.items (c.in_ok-items.ensures.reading path) (omega arith) ∙ refused 4 Range c.of.result c.of.ensures refl path
+pub returns-then-len-gt-MOST_VALUES-clause-reading : goal.returns-then-len-gt-MOST_VALUES-clause-reading
+returns-then-len-gt-MOST_VALUES-clause-reading c = λ path. too_long path _ c.in_ok-items.items.now.items (c.in_ok-items.ensures.reading path) (omega arith) ∙ refused 4 Range c.of.result c.of.ensures refl path
 
 pub loop-index-init : goal.loop-index-init
 loop-index-init c = rw (c.deref-item-items.ensures.value, c.new-values.ensures) (none_read (view c.args.value.now) c.in_ok-items.items.now.items c.in_ok-items.ensures.reading (omega arith))
