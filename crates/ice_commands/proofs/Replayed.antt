@@ -7,8 +7,8 @@ use Rattle.ice_replay.specs.declared.settlement.ReplayEnd.{ReplayEnd}
 use Rattle.ice_replay.specs.Replays.{ReplaysBytes}
 use Rattle.ice_commands.specs.declared.refusal.Refusal.{Refusal}
 use Rattle.ice_commands.specs.declared.refusal.Refusal.TheVariants.{File, Unread, NoMemory}
-use Rattle.ice_commands.specs.declared.replay.Found.{Found}
-use Rattle.ice_commands.specs.declared.replay.Found.TheVariants.{Settlement, FailedTest}
+use Rattle.ice_commands.specs.declared.replay.ReplayAnswer.{ReplayAnswer}
+use Rattle.ice_commands.specs.declared.replay.ReplayAnswer.TheVariants.{Settlement, FailedTest}
 use Rattle.ice_commands.specs.Call.{journal_limit}
 use Rattle.ice_commands.specs.Output.{refused_line, unread_line}
 use Rattle.ice_commands.specs.Parts.{AreFetched, Answers}
@@ -20,16 +20,16 @@ use Rattle.ice_commands.proofs.Refusing.{fault_anyway}
 
 -- of bytes that are not replayed
 module _ (bytes : List ℕ) (number : ℕ) (end : ReplayEnd) (ends : (let found : Result Replay ReplayEnd = Err end in ReplaysBytes bytes number found)) where
-  pub end_found : (result : Result Found Refusal) → IsWithout end result → IfOk result (IsFoundIn bytes number)
+  pub end_found : (result : Result ReplayAnswer Refusal) → IsWithout end result → IfOk result (IsFoundIn bytes number)
   end_found (Ok (Settlement replay)) h = absurd h
   end_found (Ok (FailedTest line rule)) h = subst (λ (e : ReplayEnd). ReplaysBytes bytes number (Err e)) h ends
   end_found (Err refusal) h = tt
 
-  pub end_refused : (result : Result Found Refusal) → IsWithout end result → IfErr result (IsFaultOf 1 (IsReplayFault number bytes))
+  pub end_refused : (result : Result ReplayAnswer Refusal) → IsWithout end result → IfErr result (IsFaultOf 1 (IsReplayFault number bytes))
   end_refused (Ok found) h = tt
   end_refused (Err refusal) h = fault_anyway 1 (IsReplayEnd end) (IsReplayFault number bytes) refusal (λ fault e. (end, ends, e)) h
 
-pub found_answers : (before after : Told) (file : List ℕ) (number : ℕ) (found : Found) → (bytes : List ℕ) × IsFoundIn bytes number found × AreFetched before file journal_limit bytes
+pub found_answers : (before after : Told) (file : List ℕ) (number : ℕ) (found : ReplayAnswer) → (bytes : List ℕ) × IsFoundIn bytes number found × AreFetched before file journal_limit bytes
     → Answers (λ call. ReplayAnswers call file number) before after (found_text found) (found_status found)
 found_answers before after file number (Settlement replay) (bytes, is, told) call part text =
     (replay, (bytes, is, told_in_call call before after file journal_limit (λ other. other ≡ bytes) part told), text)

@@ -18,7 +18,7 @@ use std::alloc::Global;
 
 /// What is found of a settlement.
 #[derive(Drop)]
-pub(crate) enum Found {
+pub(crate) enum ReplayAnswer {
     /// The session says this of it.
     Settlement(Replay),
     /// This test fails first, and it isn't that of a stop.
@@ -26,7 +26,7 @@ pub(crate) enum Found {
 }
 
 /// What is found where there is no replay: a failed test, or why nothing is, of the first file.
-fn without_replay(end: ReplayEnd) -> Result<Found, Refusal>
+fn without_replay(end: ReplayEnd) -> Result<ReplayAnswer, Refusal>
     ensures { IsWithout end result }
 {
     let fault = match end {
@@ -34,7 +34,7 @@ fn without_replay(end: ReplayEnd) -> Result<Found, Refusal>
         ReplayEnd::Unended { line } => FileFault::AtLine { number: 51, line },
         ReplayEnd::OtherKind => FileFault::OtherKind,
         ReplayEnd::NoSettlement => FileFault::NoSettlement,
-        ReplayEnd::No { line, rule } => return Ok(Found::FailedTest { line, rule }),
+        ReplayEnd::No { line, rule } => return Ok(ReplayAnswer::FailedTest { line, rule }),
         ReplayEnd::NoMemory => return Err(Refusal::NoMemory),
     };
     Err(Refusal::File { file: 1, fault })
@@ -42,12 +42,12 @@ fn without_replay(end: ReplayEnd) -> Result<Found, Refusal>
 
 /// What is found of the settlement with this number in the bytes of the first file, or why nothing
 /// is.
-fn found_in(alloc: Global, bytes: &[u8], number: u8) -> Result<Found, Refusal>
+fn found_in(alloc: Global, bytes: &[u8], number: u8) -> Result<ReplayAnswer, Refusal>
     ensures found { IfOk result (IsFoundIn bytes.now number) }
     ensures refusal { IfErr result (IsFaultOf 1 (IsReplayFault number bytes.now)) }
 {
     match ice_replay::replay(alloc, bytes, number) {
-        Ok(replay) => Ok(Found::Settlement(replay)),
+        Ok(replay) => Ok(ReplayAnswer::Settlement(replay)),
         Err(end) => without_replay(end),
     }
 }
@@ -58,7 +58,7 @@ fn found_of<H: Shelf>(
     name: &str,
     number: u8,
     shelf: &mut H,
-) -> Result<Found, Refusal>
+) -> Result<ReplayAnswer, Refusal>
     ensures found { IfOk result (λ found. (bytes : List ℕ) × IsFoundIn bytes number found
         × AreFetched (H.told shelf.old) name.now JOURNAL_LIMIT bytes) }
     ensures refusal { IfErr result (Refuses 1 name.now JOURNAL_LIMIT (IsReplayFault number)
@@ -72,13 +72,13 @@ fn found_of<H: Shelf>(
 }
 
 /// Writes what is found.
-fn say_found<K: Sink>(found: &Found, out: &mut K) -> Status
+fn say_found<K: Sink>(found: &ReplayAnswer, out: &mut K) -> Status
     ensures { IsSaid (found_text found.now) (found_status found.now)
         (K.taken out.old) (K.taken out.new) result }
 {
     match found {
-        Found::Settlement(replay) => ended(put_replay(replay, out), Status::Done),
-        Found::FailedTest { line, rule } => {
+        ReplayAnswer::Settlement(replay) => ended(put_replay(replay, out), Status::Done),
+        ReplayAnswer::FailedTest { line, rule } => {
             let answer = Answer::No {
                 line: *line,
                 rule: *rule,
