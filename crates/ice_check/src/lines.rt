@@ -4,7 +4,7 @@ ghost use Rattle.ice_journal.specs.Lines.{record_of};
 ghost use Rattle.ice_journal.specs.Ranges.{IsRecord};
 ghost use Rattle.ice_check.specs.Standing.{AreRead, AreReadiness, AreStopped, ReadsOn, IsWithin, is_ready_lines};
 
-use ice_check_records::Checker;
+use ice_check_records::Checker as RecordChecker;
 use ice_journal::Line;
 use std::alloc::AllocError;
 
@@ -12,7 +12,7 @@ use std::alloc::AllocError;
 #[derive(Drop)]
 pub(crate) enum Lines {
     /// They are the records that this checker has taken, or memory ran out at the last of them.
-    Records(Checker),
+    Records(RecordChecker),
     /// This line is the spelling of no record, and those before it are of records.
     Grammar { line: u64 },
 }
