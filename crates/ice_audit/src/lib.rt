@@ -10,8 +10,6 @@ mod next;
 mod rounds;
 mod settlements;
 mod standing;
-#[cfg(test)]
-mod tests;
 
 pub use answer::{AuditAnswer, AuditEnd};
 pub use auditing::audit;

@@ -5,8 +5,6 @@ mod gathering;
 mod judging;
 mod lines;
 mod putting;
-#[cfg(test)]
-mod tests;
 
 pub use ice_check::Rule;
 pub use judging::{StatementEnd, judge};
