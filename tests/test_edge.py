@@ -13,22 +13,36 @@ from collections.abc import Callable, Sequence
 from pathlib import Path
 from threading import Timer
 
+from harness import made
 from harness.calls import CALLS, Call
 from harness.cases import FILES, shared
 from harness.edge import counts, edge
-from harness.program import INPUT, NO, SECONDS, UNREAD, WORDS, WRITE_FAULT
+from harness.program import DONE, INPUT, NO, SECONDS, UNREAD, WORDS, WRITE_FAULT
 from harness.program import Program, Ran, ended, limit, programs
 
 NOBODY = 65534
 
+# So many bytes of lines `migrate` gathers at most, before it writes them.
+GATHERED = 65_536
 
-def pieces(call: Call, output: bytes) -> Sequence[bytes]:
-    """What each write has: a line with its newline, of `migrate` all that follows the head, and of
-    the first line of a statement the word, the name and the newline."""
+
+def gathered(lines: Sequence[bytes]) -> Sequence[bytes]:
+    """What each write has of lines that are gathered: as many of them as there is room for."""
+    whole = [b""]
+    for line in lines:
+        if len(whole[-1]) + len(line) > GATHERED:
+            whole.append(b"")
+        whole[-1] += line
+    return whole
+
+
+def pieces(command: str, output: bytes) -> Sequence[bytes]:
+    """What each write has: a line with its newline, of `migrate` the head, and then lines that are
+    gathered, and of the first line of a statement the word, the name and the newline."""
     lines = output.splitlines(keepends=True)
-    if call.command == "migrate":
-        return [lines[0], b"".join(lines[1:])]
-    if call.command == "statement":
+    if command == "migrate":
+        return [lines[0], *gathered(lines[1:])]
+    if command == "statement":
         word, name = lines[0].split()
         return [word + b" ", name, b"\n", *lines[1:]]
     return lines
@@ -100,7 +114,7 @@ class Writes(Edge):
     @for_each_call
     def test_each_write_fails_after_no_byte_and_after_one(self, program, call, whole):
         front = b""
-        for number, piece in enumerate(pieces(call, whole.output), 1):
+        for number, piece in enumerate(pieces(call.command, whole.output), 1):
             for taken in (0, 1):
                 faults = edge(fail_write=number, after=taken)
                 ran = program.run(call.words(), environment=faults)
@@ -111,6 +125,21 @@ class Writes(Edge):
     def test_each_write_takes_a_byte(self, program, call, whole):
         for size in (1, 7):
             self.is_same(program.run(call.words(), environment=edge(short_write=size)), whole)
+
+    def test_long_writes_fail(self):
+        journal, file = self.folder / "journal", self.folder / "counts"
+        journal.write_bytes(made.long_session(1))
+        words = ["migrate", journal]
+        due = pieces("migrate", made.long_session(2))
+        for program in programs():
+            self.is_same(
+                program.run(words, environment=edge(counts=file)), Ran(DONE, b"".join(due), b"")
+            )
+            self.assertEqual(counts(file).writes, len(due))
+            for number in (1, 2, 3, len(due)):
+                with self.subTest(number=number, program=str(program)):
+                    ran = program.run(words, environment=edge(fail_write=number))
+                    self.fails_to_write(ran, b"".join(due[: number - 1]))
 
     def test_a_file_that_takes_no_more_bytes(self):
         # The system's own limit of a file's length, without a file in C: after each byte.
@@ -207,6 +236,33 @@ class Reads(Edge):
             unread.append(self.unread(call, ran, whole))
         self.assertEqual(unread, sorted(unread), "files are read in their order")
         self.assertEqual(sorted(set(unread)), list(range(1, len(call.files) + 1)))
+
+    def test_long_files_in_parts(self):
+        # A journal, which is written again line by line, and an exchange at its limit and past it.
+        journal, exchange = self.folder / "journal", self.folder / "exchange"
+        journal.write_bytes(made.long_session(1))
+        migrated = Ran(DONE, made.long_session(2), b"")
+        whole = made.exchange(made.SELLER, made.BUYER)
+        whole += b" " * (made.EXCHANGE_BYTES - len(whole))
+        sets = Ran(DONE, b"best s 500\nset 1\nbest b 1000\nset 1\nend best\n", b"")
+        refused = Ran(INPUT, b"refused 1 61 -\n", b"")
+        file = self.folder / "counts"
+        for program in programs():
+            for size in (7, 16_384, 1_000_000):
+                with self.subTest(size=size, program=str(program)):
+                    faults = edge(short_read=size, counts=file)
+                    self.is_same(program.run(["migrate", journal], environment=faults), migrated)
+                    last = counts(file).reads
+                    self.assertGreater(last * size, journal.stat().st_size)
+                    for number in (last // 2, last):
+                        faults = edge(short_read=size, fail_read=number)
+                        ran = program.run(["migrate", journal], environment=faults)
+                        self.is_same(ran, Ran(UNREAD, b"unread 1\n", b""))
+            for data, due in ((whole, sets), (whole + b" ", refused)):
+                exchange.write_bytes(data)
+                with self.subTest(length=len(data), program=str(program)):
+                    words = ["best", exchange, FILES / "fifteen.prices"]
+                    self.is_same(program.run(words, environment=edge(short_read=16_384)), due)
 
     def test_a_file_that_changes_while_it_is_read(self):
         journal = self.folder / "journal"

@@ -2,6 +2,9 @@
 from __future__ import annotations
 
 import json
+import re
+
+from harness.cases import shared
 
 SETTINGS = {"weight": 50, "close_regret": 0, "cap": 100, "improve": 1, "rounds": 5, "branches": 200}
 SALE = {"sell": "A", "units": 1, "lo": -10, "hi": -10}
@@ -74,3 +77,19 @@ def long_logs(more: str = "") -> bytes:
         logs += leaves
         more = ""
     return "".join(f"{line}\n" for line in [*head, *logs, "regret 0", "end regret"]).encode()
+
+
+def long_session(version: int) -> bytes:
+    """The session of two settlements with 400 submissions of a stranger in the place of one. Each
+    has twice 200 values, all of which differ, so that no part of the 1.7 MB is like another."""
+    rows = []
+    for first in range(100_000_000, 100_160_000, 400):
+        values = list(map(str, range(first, first + 400)))
+        lists = " ".join(["200", *values[:200], "200", *values[200:]])
+        rows.append(f"submit zz {lists}\nverdict 45\n")
+    text = shared("rounds.session").replace("submit zz 1 1 1 2\nverdict 45\n", "".join(rows))
+    if version == 2:
+        # each log has one leaf, whose one multiplier was 0 before it
+        text = text.replace("ice 1", "ice 2", 1).replace("leaf 0\n", "near 0\n")
+        text = re.sub("(?m)^leaf ", "near 1 0 ", text)
+    return text.encode()

@@ -116,23 +116,3 @@ impl Sink for MemSink {
         Ok(())
     }
 }
-
-#[cfg(test)]
-mod tests {
-    use super::*;
-    use std::test::Fail;
-
-    #[test]
-    fn third_put_fails_after_two_bytes(rt: HostRuntime) -> Result<(), Fail> {
-        let mut sink = MemSink::new(rt.alloc(), 10)?;
-        sink.fail_at(3, 2);
-        assert_eq!(rt; sink.put(b"ab"), Ok(()));
-        assert_eq!(rt; sink.put(b"cd"), Ok(()));
-        assert_eq!(rt; sink.put(b"efg"), Err(SinkFault::Failed));
-        assert_eq!(rt; sink.bytes(), b"abcdef".as_slice());
-        assert_eq!(rt; sink.put(b"hi"), Ok(()));
-        assert_eq!(rt; sink.put(b"jkl"), Err(SinkFault::Failed));
-        assert_eq!(rt; sink.bytes(), b"abcdefhijk".as_slice());
-        Ok(())
-    }
-}

@@ -35,27 +35,3 @@ impl Status {
         *self as u8
     }
 }
-
-#[cfg(test)]
-mod tests {
-    use super::*;
-
-    #[test]
-    fn codes_are_numbered_in_order(rt: HostRuntime) {
-        let rows = [
-            (Status::Done, 0),
-            (Status::Words, 1),
-            (Status::Input, 2),
-            (Status::No, 3),
-            (Status::Spent, 4),
-            (Status::Limit, 5),
-            (Status::ReadFault, 6),
-            (Status::WriteFault, 7),
-            (Status::NoMemory, 8),
-            (Status::StillOpen, 9),
-        ];
-        for (status, code) in rows {
-            assert_eq!(rt; status.code(), code);
-        }
-    }
-}

@@ -11,8 +11,6 @@ mod packing;
 mod place;
 mod records;
 mod sort;
-#[cfg(test)]
-mod tests;
 
 pub use judging::{Unfit, judge};
 pub use laws::bytes_have_one_judgement;
