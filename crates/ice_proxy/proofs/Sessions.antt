@@ -2,10 +2,9 @@
 use Rattle.std.proofs.Common.{ℕ, zero, suc, ◌<◌, ◌≡◌, true, false, List, [], ◌∷◌, length, map, ℤ, refl, sym, ap, subst, arith, ◌∙◌}
 use Rattle.std.proofs.lemmas.Int.{ints}
 use Rattle.std.proofs.lemmas.List.{length-map}
-use Rattle.std.specs.List.{AllByRecursion, AllZip, IsDistinct}
+use Rattle.std.specs.List.{AllZip, IsDistinct}
 use Rattle.std.specs.Str.{bytes_eq}
 use Rattle.std.proofs.lemmas.Bool.{eq-eqb}
-use Rattle.std.proofs.lemmas.Cmp.{nat_list_eq_equiv}
 use Rattle.ice_defs.specs.declared.Verdict.{Verdict}
 use Rattle.ice_defs.specs.declared.Verdict.TheVariants.{Accepted}
 use Rattle.ice_defs.specs.Tree.{Tree}
@@ -23,6 +22,7 @@ use Rattle.ice_defs.proofs.Naming.{bytes_eq-same}
 use Rattle.ice_round_laws.specs.Keeping.{HaveBounds}
 use Rattle.ice_round_laws.proofs.Keeping.{rounds_keep_bounds, opening_have_bounds, bounds_count}
 use Rattle.ice_round_laws.proofs.Naming.{standings_are_named}
+use Rattle.ice_round_laws.proofs.Apart.{AreOthers, AreJudged, others_judged, others_next}
 use Rattle.ice_rules.proofs.Exact.{accepted_alone}
 use Rattle.ice_headline_laws.proofs.Promised.{right_gives_headline}
 use Rattle.ice_proxy.specs.Proposals.{proposal, IsProxyBid}
@@ -62,10 +62,6 @@ proxy_holds p improve bidder truth s sure (named, (a, is, e)) =
 abbrev names_from : List Standing → List (List ℕ)
 names_from bidders = map (λ (b : Standing). b.name) bidders
 
--- nobody else has this name
-abbrev AreOthers : List ℕ → List Standing → Type 0
-AreOthers name bidders = AllByRecursion (λ n. bytes_eq name n ≡ false) (names_from bidders)
-
 module _ (p : Prices) (improve : ℤ) where
   -- the bids of others are none of this name
   none_named : (name : List ℕ) (bidders : List Standing) (truths : List (List ℤ)) (judged : List Judged) → AreOthers name bidders → IsProxyRound p improve bidders truths judged → of_name name judged ≡ []
@@ -77,30 +73,7 @@ module _ (p : Prices) (improve : ℤ) where
       let is : bytes_eq name j.submission.name ≡ false = ap (bytes_eq name) bid.0 ∙ others.0 in
       rw is (none_named name bidders truths judged others.1 round)
 
--- and a bid of this name none of the others
-skips : (name : List ℕ) (b : Standing) (j : Judged) (judged : List Judged) → bytes_eq name b.name ≡ false → j.submission.name ≡ name → of_name b.name (j ∷ judged) ≡ of_name b.name judged
-skips name b j judged other named =
-    let is : bytes_eq b.name j.submission.name ≡ false = ap (bytes_eq b.name) named ∙ nat_list_eq_equiv.symm b.name name ∙ other in
-    rw is refl
-
 -- ---- all bidders
-
-abbrev AreJudged : Prices → ℤ → List Standing → List Judged → Type 0
-AreJudged p improve bidders judged = AllByRecursion (λ bidder. JudgesInOrder p improve bidder false (of_name bidder.name judged)) bidders
-
-others_judged : (p : Prices) (improve : ℤ) (name : List ℕ) (bidders : List Standing) (j : Judged) (judged : List Judged) → AreOthers name bidders → j.submission.name ≡ name
-    → AreJudged p improve bidders (j ∷ judged) → AreJudged p improve bidders judged
-others_judged p improve name [] j judged others named are = tt
-others_judged p improve name (b ∷ bidders) j judged others named are = (
-  subst (JudgesInOrder p improve b false) (skips name b j judged others.0 named) are.0,
-  others_judged p improve name bidders j judged others.1 named are.1,
-)
-
-others_next : (name : List ℕ) (bidders : List Standing) (j : Judged) (judged : List Judged) → AreOthers name bidders → j.submission.name ≡ name → next_bounds bidders (j ∷ judged) ≡ next_bounds bidders judged
-others_next name [] j judged others named = refl
-others_next name (b ∷ bidders) j judged others named =
-    ap (λ (js : List Judged). bounds_after b.bounds js ∷ next_bounds bidders (j ∷ judged)) (skips name b j judged others.0 named)
-    ∙ ap (λ (bs : List Bounds). bounds_after b.bounds (of_name b.name judged) ∷ bs) (others_next name bidders j judged others.1 named)
 
 taken : (old : Bounds) (j : Judged) → j.verdict ≡ Accepted → bounds_after old (j ∷ []) ≡ stated_bounds j.submission
 taken old j accepted =

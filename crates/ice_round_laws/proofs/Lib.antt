@@ -15,6 +15,8 @@ pub mod Taking
 pub mod Single
 -- a verdict looks at the earlier submissions of its own name alone
 pub mod Others
+-- bidders of other names: a submission changes nothing of theirs
+pub mod Apart
 -- the names of the entries are the bidders', and stay
 pub mod Naming
 -- small rounds, worked
