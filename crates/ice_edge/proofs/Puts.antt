@@ -1,11 +1,12 @@
 -- Puts one after another, seen as one put of the whole text.
-use Rattle.std.proofs.Common.{◌≡◌, ◌∙◌, ap, sym, refl, subst, ℕ, ◌+◌, ◌<◌, ◌≤◌, List, [], ◌∷◌, ◌++◌, length, get_or, take, drop, Option, Some, None, append_assoc, length-append, arith}
+use Rattle.std.proofs.Common.{◌≡◌, ◌∙◌, ap, sym, refl, subst, ℕ, ◌+◌, ◌<◌, ◌≤◌, List, [], ◌∷◌, ◌++◌, length, get_or, take, drop, Option, Some, None, Result, Ok, Err, append_assoc, length-append, arith}
 use Rattle.std.proofs.lemmas.List.{append-nil, take-append-le, take-append-drop, take_more}
 use Rattle.std.proofs.lemmas.List.Concat.{flat_map-append}
 use Rattle.std.specs.List.{flat_map}
 use Rattle.std.proofs.Math.Seq.{take-append-add}
+use Rattle.ice_edge.specs.declared.sink.SinkFault.{SinkFault}
 use Rattle.ice_edge.specs.Edge.{Rose, Appends, AppendsFront}
-use Rattle.ice_edge.specs.Puts.{Takes, FailsIn, TakesAllBut}
+use Rattle.ice_edge.specs.Puts.{Takes, FailsIn, IsPut, TakesAllBut}
 use Rattle.ice_edge.specs.Taken.{Taken}
 
 pub Appends-nothing : (old : Option (List ℕ)) → Appends old [] old
@@ -52,13 +53,31 @@ text_split f xs i x h is =
     ap (flat_map f) (sym (take-append-drop (i + 1) xs)) ∙ flat_map-append f (take (i + 1) xs) (drop (i + 1) xs)
     ∙ ap (λ t. t ++ flat_map f (drop (i + 1) xs)) (text_more f xs i x h is)
 
--- ---- what is left of a whole text
+-- ---- nothing, and one text behind another
 
 pub takes_nothing : (old : Taken) → Takes [] old old
 takes_nothing old = record { appends = Appends-nothing old.written; kept = refl }
 
 pub takes_join : (t u : List ℕ) (old mid new : Taken) → Takes t old mid → Takes u mid new → Takes (t ++ u) old new
 takes_join t u old mid new a b = record { appends = Appends-append old.written mid.written new.written t u a.appends b.appends; kept = b.kept ∙ a.kept }
+
+-- ---- two pieces
+
+pub first_fails : {old new : Taken} (piece rest : List ℕ) → FailsIn piece old new → FailsIn (piece ++ rest) old new
+first_fails {old = old} {new = new} piece rest fails = record { front = front-append old.written new.written piece rest fails.front; rose = fails.rose; later = fails.later }
+
+pub then_fails : {old mid new : Taken} (piece rest : List ℕ) → Takes piece old mid → FailsIn rest mid new → FailsIn (piece ++ rest) old new
+then_fails {old = old} {mid = mid} {new = new} piece rest takes fails = record {
+  front = append-front old.written mid.written new.written piece rest takes.appends fails.front;
+  rose = rose-kept old.faults mid.faults new.faults takes.kept fails.rose;
+  later = omega (arith, takes.kept, fails.later);
+}
+
+pub then_put : {old mid : Taken} (piece rest : List ℕ) (put : Result (Unit {0}) SinkFault) (new : Taken) → Takes piece old mid → IsPut rest put mid new → IsPut (piece ++ rest) put old new
+then_put {old = old} {mid = mid} piece rest (Ok done) new takes is = takes_join piece rest old mid new takes is
+then_put piece rest (Err fault) new takes is = then_fails piece rest takes is
+
+-- ---- what is left of a whole text
 
 pub all_left : (whole : List ℕ) (old : Taken) → TakesAllBut whole whole old old
 all_left whole old = record { front = []; takes = takes_nothing old; split = refl }

@@ -1,12 +1,13 @@
 -- Texts that are put piece by piece, and lists element by element.
-use Rattle.std.proofs.Common.{◌≡◌, ◌∙◌, refl, ap, sym, subst, ℕ, zero, suc, ◌+◌, ◌<◌, ◌≤◌, List, [], ◌∷◌, ◌++◌, length, map, drop, get_or, Result, Ok, Err, arith, add-one, drop-cons}
+use Rattle.std.proofs.Common.{◌≡◌, ◌∙◌, refl, ap, sym, subst, ℕ, zero, suc, ◌+◌, ◌<◌, ◌≤◌, List, [], ◌∷◌, ◌++◌, length, map, drop, get_or, Result, Err, arith, add-one, drop-cons}
 use Rattle.std.specs.List.{AllByRecursion, flat_map}
 use Rattle.std.proofs.lemmas.List.{drop_all}
 use Rattle.std.proofs.lemmas.List.Concat.{flat_map-cons, flat_map-append}
 use Rattle.std.proofs.lemmas.List.Folds.{flat_map-map}
 use Rattle.ice_edge.specs.declared.sink.SinkFault.{SinkFault}
 use Rattle.ice_edge.specs.Puts.{Takes, FailsIn, IsPut, TakesAllBut}
-use Rattle.ice_edge.proofs.Puts.{takes_join, front-append, append-front, rose-kept, less_left, fails_next, none_left}
+use Rattle.ice_edge.proofs.Puts.{takes_join, less_left, fails_next, none_left}
+pub use Rattle.ice_edge.proofs.Puts.{first_fails, then_fails, then_put}
 use Rattle.ice_edge.specs.Taken.{Taken}
 use Rattle.ice_journal.specs.Records.{Record}
 use Rattle.ice_journal.specs.Journal.{bytes_of}
@@ -77,22 +78,8 @@ next_all P xs i d there all =
 
 -- ---- two pieces
 
-pub first_fails : {old new : Taken} (piece rest : List ℕ) → FailsIn piece old new → FailsIn (piece ++ rest) old new
-first_fails {old = old} {new = new} piece rest fails = record { front = front-append old.written new.written piece rest fails.front; rose = fails.rose; later = fails.later }
-
-pub then_fails : {old mid new : Taken} (piece rest : List ℕ) → Takes piece old mid → FailsIn rest mid new → FailsIn (piece ++ rest) old new
-then_fails {old = old} {mid = mid} {new = new} piece rest takes fails = record {
-  front = append-front old.written mid.written new.written piece rest takes.appends fails.front;
-  rose = rose-kept old.faults mid.faults new.faults takes.kept fails.rose;
-  later = omega (arith, takes.kept, fails.later);
-}
-
 pub takes_both : {old mid new : Taken} (piece rest : List ℕ) → Takes piece old mid → Takes rest mid new → Takes (piece ++ rest) old new
 takes_both {old = old} {mid = mid} {new = new} piece rest a b = takes_join piece rest old mid new a b
-
-pub then_put : {old mid : Taken} (piece rest : List ℕ) (put : Result (Unit {0}) SinkFault) (new : Taken) → Takes piece old mid → IsPut rest put mid new → IsPut (piece ++ rest) put old new
-then_put piece rest (Ok done) new takes is = takes_both piece rest takes is
-then_put piece rest (Err fault) new takes is = then_fails piece rest takes is
 
 -- ---- the next piece of a text that is spelled in other words
 

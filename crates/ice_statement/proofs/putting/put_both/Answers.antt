@@ -1,4 +1,4 @@
-use Rattle.ice_statement.proofs.Puts.{then_put}
+use Rattle.ice_edge.proofs.Puts.{then_put}
 use Rattle.ice_statement.proofs.putting.put_both.Goals as goal
 
 pub returns : goal.returns
