@@ -13,10 +13,9 @@ use Rattle.ice_defs.specs.Sum.{numbers_below}
 use Rattle.ice_defs.specs.Tree.{kind_of, children_of}
 use Rattle.ice_defs.specs.Set.{weight_of}
 use Rattle.ice_defs.specs.Bound.{Multipliers}
-use Rattle.ice_defs.specs.Bounds.{Bounds}
-use Rattle.ice_defs.specs.Exchange.{Good, Bidder, Exchange, names_of, opening_bounds}
+use Rattle.ice_defs.specs.Exchange.{Good, Bidder, opening_bounds}
 use Rattle.ice_defs.specs.Session.{Going, Payment, Closed, Session}
-use Rattle.ice_defs.specs.Right.{bounds_after_round, IsRightFrom, IsRight}
+use Rattle.ice_defs.specs.Right.{IsRight}
 use Rattle.ice_journal.specs.Records.{Record, version_2}
 use Rattle.ice_journal.specs.Records as line
 use Rattle.ice_journal.specs.Nodes.{node_record}
@@ -27,6 +26,7 @@ use Rattle.ice_journal_laws.specs.Theorems.{Says}
 use Rattle.ice_journal_laws.specs.Written.{settlement_records, session_records}
 use Rattle.ice_statement_laws.specs.Statement.{Own, own_going}
 use Rattle.ice_statement_laws.specs.Texts.{IsOwnOf}
+use Rattle.ice_statement_laws.proofs.Gathered.{last_names}
 use Rattle.ice_statement.specs.Judging.{end_at, answer_or, has_bidder}
 
 module _ (name : List ℕ) where
@@ -122,10 +122,6 @@ module _ (name : List ℕ) where
       by false e = e
 
 -- its payment
-last_names : (ex : Exchange) (number : ℕ) (bounds : List Bounds) (going : List Going) (c : Closed) → IsRightFrom ex number bounds going c → map (λ (p : Payment). p.name) c.payments ≡ names_of ex
-last_names ex number bounds [] c (ends, closed) = closed.names
-last_names ex number bounds (x ∷ later) c (goes, going, more) = last_names ex (suc number) (bounds_after_round ex bounds x) later c more
-
 payment_at : (payments : List Payment) (bidders : List Bidder) (i : ℕ) (b : Bidder) → map (λ (p : Payment). p.name) payments ≡ map (λ (y : Bidder). y.name) bidders → slice_get bidders i ≡ Some b → (p : Payment) × (slice_get payments i ≡ Some p)
 payment_at payments [] i b e is = absurd (none-some b is)
 payment_at [] (y ∷ bidders) i b e is = absurd (by e)

@@ -414,7 +414,7 @@ closed_adds g number c p here e is distinct =
 
 -- ---- all settlements
 
-last_names : (ex : Exchange) (number : ℕ) (bounds : List Bounds) (going : List Going) (c : Closed) → IsRightFrom ex number bounds going c → map (λ (p : Payment). p.name) c.payments ≡ names_of ex
+pub last_names : (ex : Exchange) (number : ℕ) (bounds : List Bounds) (going : List Going) (c : Closed) → IsRightFrom ex number bounds going c → map (λ (p : Payment). p.name) c.payments ≡ names_of ex
 last_names ex number bounds [] c (ends, closed) = closed.names
 last_names ex number bounds (x ∷ later) c (goes, going, more) = last_names ex (suc number) (bounds_after_round ex bounds x) later c more
 

@@ -1,6 +1,6 @@
 -- What the tests of a journal say of its prices and its
 -- discounts, beyond that its session is right.
-use Rattle.std.proofs.Common.{◌≡◌, ℕ, suc, Bool, true, false, cond, eqb, List, [], ◌∷◌, ◌++◌, map, length, ℤ, pos, refl, sym, ◌∙◌, ap, subst, append_assoc, inr}
+use Rattle.std.proofs.Common.{◌≡◌, ℕ, suc, Bool, true, false, cond, eqb, List, [], ◌∷◌, ◌++◌, map, length, drop, ℤ, pos, refl, sym, ◌∙◌, ap, subst, append_assoc, inr}
 use Rattle.std.specs.Prelude.{if◌then◌else◌, ◌==◌, Option, Some, None, option_map, IsSomeAnd, slice_index_or}
 use Rattle.std.specs.List.{flat_map, AllByRecursion}
 use Rattle.std.specs.Str.{bytes_eq}
@@ -258,12 +258,9 @@ module _ (t : State) where
 
 -- ---- the whole journal
 
-tails_same : (a b : Record) (xs ys : List Record) → a ∷ xs ≡ b ∷ ys → xs ≡ ys
-tails_same a b xs ys e = cc
-
 said_by : (version : Version) (kind : Kind) (rest ws : List Record) → plain (line.head version kind ∷ rest) ≡ line.head version_1 session_kind ∷ ws → Said rest ws
-said_by version_1 kind rest ws e = subst (Said rest) (tails_same _ _ _ _ e) (itself rest)
-said_by version_2 kind rest ws e = subst (Said rest) (tails_same _ _ _ _ e) (plainly (goods_in rest) (all_zero (goods_in rest)) rest)
+said_by version_1 kind rest ws e = subst (Said rest) (ap (drop 1) e) (itself rest)
+said_by version_2 kind rest ws e = subst (Said rest) (ap (drop 1) e) (plainly (goods_in rest) (all_zero (goods_in rest)) rest)
 
 pub checked_is_stated : (journal : List Record) (x : Session) → Checks journal → Says journal (session_records x) → IsStated x
 checked_is_stated (line.head version kind ∷ rest) x (checked, tested) says =
