@@ -1,7 +1,7 @@
 -- But for want of memory, bytes have one last settlement, or one reason why there is none.
 use Rattle.std.proofs.Common.{◌≡◌, ◌≢◌, ℕ, List, refl, sym, ◌∙◌, ap, subst}
 use Rattle.std.specs.Prelude.{Some, None, Result, Ok, Err}
-use Rattle.std.proofs.lemmas.Option.{none-some}
+use Rattle.std.proofs.lemmas.Option.{none-some, same_Some}
 use Rattle.ice_journal.specs.Records.{Record}
 use Rattle.ice_journal.specs.Journal.{LinesFault, grammar, unended, IsJournal, IsLinesFault}
 use Rattle.ice_journal.proofs.Journals.{one_answer as bytes_tell}
@@ -24,9 +24,6 @@ data Answers (journal : List Record) : Result LastTrade LastEnd → Type 0 where
   closes : (last : LastTrade) → IsLastOf last journal → Answers journal (Ok last)
   of_no_session : ¬ IsSession journal → Answers journal (Err OtherKind)
   fails : (place : ℕ) (test : Rule) → IsSession journal → FirstFailure journal (Some (record { line = place; rule = test })) → Answers journal (Err (No place test))
-
-some_same : (f g : Failure) → Some f ≡ Some g → f ≡ g
-some_same f g e = cc
 
 -- a journal says one session's records
 same_session : (one other : LastTrade) (journal : List Record) → IsLastOf one journal → IsLastOf other journal → SaySame one other
@@ -58,7 +55,7 @@ of_one_journal journal _ _ (fails m test is first) (of_no_session none) = absurd
 of_one_journal journal _ _ (fails m x is first) (fails n y is' first') =
     let f : Failure = record { line = m; rule = x } in
     let g : Failure = record { line = n; rule = y } in
-    ap (λ (f : Failure). No f.line f.rule) (some_same f g (same_failure journal (Some f) (Some g) first first'))
+    ap (λ (f : Failure). No f.line f.rule) (same_Some f g (same_failure journal (Some f) (Some g) first first'))
 
 -- ---- what bytes answer
 

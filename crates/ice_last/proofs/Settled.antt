@@ -12,7 +12,6 @@ use Rattle.ice_journal.specs.Journal.{IsJournal}
 use Rattle.ice_journal_laws.specs.declared.answer.Answer.{Answer}
 use Rattle.ice_journal_laws.specs.declared.answer.Answer.TheVariants as answer
 use Rattle.ice_journal_laws.specs.declared.answer.CheckEnd.{CheckEnd}
-use Rattle.ice_journal_laws.specs.declared.rule.Rule.{Rule}
 use Rattle.ice_journal_laws.specs.State.{exchange_at}
 use Rattle.ice_journal_laws.specs.Checks.{Failure, FirstFailure}
 use Rattle.ice_journal_laws.specs.Progress.{Progress, nothing, other_kind, passing, failed, out_of_memory, Leads}
@@ -71,12 +70,6 @@ module _ (journal : List Record) (payments : List Fraction) (said : payments ≡
       )
 
 -- ---- or it has not
-
-answered : (a : Answer) (why : CheckEnd) → (let x : Result Answer CheckEnd = Ok a in x) ≡ Err why → ⊥
-answered a why e = cc
-
-same_failure : (f : Failure) (number : ℕ) (test : Rule) → (let x : Result Answer CheckEnd = Ok (answer.No number test) in x) ≡ Ok (answer.No f.line f.rule) → (number ≡ f.line) × (test ≡ f.rule)
-same_failure f number test e = (cc, cc)
 
 assign_other : assign_kind ≡ session_kind → ⊥
 assign_other e = cc

@@ -2,7 +2,7 @@
 use Rattle.std.proofs.Common.{◌≡◌, ◌≢◌, ℕ, List, refl, sym, ◌∙◌, ap, subst, inl, inr}
 use Rattle.std.specs.Prelude.{false, Some, None, Result, Ok, Err}
 use Rattle.std.proofs.lemmas.Bool.{true≢false}
-use Rattle.std.proofs.lemmas.Option.{none-some}
+use Rattle.std.proofs.lemmas.Option.{none-some, same_Some}
 use Rattle.ice_journal.specs.Records.{Record}
 use Rattle.ice_journal.specs.Journal.{LinesFault, grammar, unended, IsJournal, IsLinesFault}
 use Rattle.ice_journal.proofs.Journals.{one_answer as bytes_tell}
@@ -18,24 +18,21 @@ use Rattle.ice_migrate.specs.Laws.{OneJudgement}
 
 -- ---- the judgement of a journal
 
-some_same : (f g : Failure) → Some f ≡ Some g → f ≡ g
-some_same f g e = cc
-
 -- a stop is the only test that a journal may fail first that passes or stops
 fails_other : (journal : List Record) (failure : Failure) → PassesOrStops journal → FirstFailure journal (Some failure) → failure.rule ≢ rule.Closed → ⊥
 fails_other journal failure (inl first) failed other = none-some failure (same_failure journal None (Some failure) first failed)
 fails_other journal failure (inr (place, first)) failed other =
-    other (sym (ap (λ (f : Failure). f.rule) (some_same (record { line = place; rule = rule.Closed }) failure (same_failure journal (Some (record { line = place; rule = rule.Closed })) (Some failure) first failed))))
+    other (sym (ap (λ (f : Failure). f.rule) (same_Some (record { line = place; rule = rule.Closed }) failure (same_failure journal (Some (record { line = place; rule = rule.Closed })) (Some failure) first failed))))
 
 migrated_fails : (journal : List Record) (failure : Failure) → IsMigrated journal → FailsAt journal failure → ⊥
 migrated_fails journal failure is (inl (first, other)) = fails_other journal failure is.passes first other
 migrated_fails journal failure is (inr (stops, order)) = none-some failure (sym is.ordered ∙ order)
 
 one_failure : (journal : List Record) (f g : Failure) → FailsAt journal f → FailsAt journal g → f ≡ g
-one_failure journal f g (inl (first, other)) (inl (first', other')) = some_same f g (same_failure journal (Some f) (Some g) first first')
+one_failure journal f g (inl (first, other)) (inl (first', other')) = same_Some f g (same_failure journal (Some f) (Some g) first first')
 one_failure journal f g (inl (first, other)) (inr (stops, order)) = absurd (fails_other journal f stops first other)
 one_failure journal f g (inr (stops, order)) (inl (first, other)) = absurd (fails_other journal g stops first other)
-one_failure journal f g (inr (stops, order)) (inr (stops', order')) = some_same f g (sym order ∙ order')
+one_failure journal f g (inr (stops, order)) (inr (stops', order')) = same_Some f g (sym order ∙ order')
 
 -- the judgement of a journal
 data Answers (journal : List Record) : Result (Unit {0}) Unfit → Type 0 where
