@@ -12,8 +12,12 @@ use Rattle.std.specs.Prelude.{Option, Some, None, Result, Ok, Err, OnOk, OnErr}
 use Rattle.ice_check.specs.declared.lines.Lines.{Lines}
 use Rattle.ice_check.specs.declared.lines.Lines.TheVariants as known
 
+-- nothing else is known of the records
+abbrev Any : Progress → List Record → Type 0
+Any p records = Unit {0}
+
 -- the taken lines, before bytes that come after them
-before : (c : Checking) (whole rest : List ℕ) (h : AreTaken c whole) → HasRead (whole ++ rest) rest (length h.journal) c
+before : (c : Checking) (whole rest : List ℕ) (h : AreTaken c whole) → HasRead Any (whole ++ rest) rest (length h.journal) c
 before c whole rest h = record {
   records = h.journal;
   lawful = h.spelled.lawful;
@@ -23,12 +27,13 @@ before c whole rest h = record {
   leads = h.leads;
   come = h.come;
   line = h.line ∙ sym (add-one (length h.journal));
+  known = tt;
 }
 
 -- the line of a record
 pub one_more : (c d : Checking) (whole : List ℕ) (r : Record) → AreTaken c whole → IsRecord r → ((p : Progress) → HasCome c p → ComesTo p r d) → d.line ≡ suc c.line → AreTaken d (whole ++ line_of r)
 one_more c d whole r h is takes line =
-    let after = one_read (whole ++ line_of r) (line_of r) (text_of r) [] (length h.journal) c d r (before c whole (line_of r) h) refl is refl takes line in
+    let after : HasRead Any (whole ++ line_of r) [] (length h.journal + 1) d = one_read (whole ++ line_of r) (line_of r) (text_of r) [] (length h.journal) c d r (before c whole (line_of r) h) refl is refl takes line (λ records p q leads come after any. tt) in
     record {
       journal = after.records;
       spelled = all_read (whole ++ line_of r) [] (length h.journal + 1) d after refl;

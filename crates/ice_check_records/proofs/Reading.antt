@@ -1,5 +1,5 @@
--- The records that are read so far, and where the tests of them have come.
-use Rattle.std.proofs.Common.{◌≡◌, ◌<◌, ◌≤◌, ◌+◌, ℕ, suc, List, [], ◌∷◌, ◌++◌, length, Contains, sym, ◌∙◌, ap, arith, length-append, append_assoc}
+-- The records that are read so far, where the tests of them have come, and what else is known.
+use Rattle.std.proofs.Common.{◌≡◌, ◌<◌, ◌≤◌, ◌+◌, ℕ, suc, List, [], ◌∷◌, ◌++◌, length, Contains, refl, sym, ◌∙◌, ap, arith, length-append, append_assoc}
 use Rattle.std.specs.List.{AllByRecursion}
 use Rattle.std.proofs.lemmas.List.{append-nil}
 use Rattle.std.proofs.lemmas.Grind.{flat_map-append}
@@ -8,11 +8,11 @@ use Rattle.ice_journal.specs.Records.{Record}
 use Rattle.ice_journal.specs.Ranges.{IsRecord}
 use Rattle.ice_journal.specs.Spelling.{text_of, line_of}
 use Rattle.ice_journal.specs.Journal.{bytes_of, IsJournal, IsNoRecord, grammar, unended, IsLinesFault}
-use Rattle.ice_journal_laws.specs.Progress.{Progress, nothing, Leads}
+use Rattle.ice_journal_laws.specs.Progress.{Progress, nothing, IsAfter, Leads, stays}
 use Rattle.ice_journal_laws.proofs.Leading.{leads_more}
 use Rattle.ice_check_records.specs.Checking.{Checking, HasCome, ComesTo}
 
-pub record HasRead (bytes rest : List ℕ) (count : ℕ) (c : Checking) : Type 0 where
+pub record HasRead (Known : Progress → List Record → Type 0) (bytes rest : List ℕ) (count : ℕ) (c : Checking) : Type 0 where
   pub records : List Record
   pub lawful : AllByRecursion IsRecord records
   pub count_is : count ≡ length records
@@ -21,14 +21,19 @@ pub record HasRead (bytes rest : List ℕ) (count : ℕ) (c : Checking) : Type 0
   pub leads : Leads nothing records progress
   pub come : HasCome c progress
   pub line : c.line ≡ count + 1
+  pub known : Known progress records
+
+pub none_read : {Known : Progress → List Record → Type 0} (bytes : List ℕ) (c : Checking) → HasCome c nothing → c.line ≡ 1 → Known nothing [] → HasRead Known bytes bytes 0 c
+none_read bytes c come first known = record { records = []; lawful = tt; count_is = refl; bytes_are = refl; progress = nothing; leads = stays; come = come; line = first; known = known }
 
 bytes_more : (records : List Record) (r : Record) → bytes_of (records ++ r ∷ []) ≡ bytes_of records ++ line_of r
 bytes_more records r = flat_map-append line_of records (r ∷ []) ∙ ap (λ (l : List ℕ). bytes_of records ++ l) (append-nil (line_of r))
 
 -- one more line is the text of a record
-pub one_read : (bytes rest text after : List ℕ) (count : ℕ) (c d : Checking) (r : Record) → HasRead bytes rest count c → rest ≡ text ++ 10 ∷ after → IsRecord r → text ≡ text_of r → ((p : Progress) → HasCome c p → ComesTo p r d) → d.line ≡ suc c.line
-    → HasRead bytes after (count + 1) d
-one_read bytes rest text after count c d r h parts is spelled takes line =
+pub one_read : {Known Next : Progress → List Record → Type 0} (bytes rest text after : List ℕ) (count : ℕ) (c d : Checking) (r : Record) → HasRead Known bytes rest count c → rest ≡ text ++ 10 ∷ after → IsRecord r → text ≡ text_of r
+    → ((p : Progress) → HasCome c p → ComesTo p r d) → d.line ≡ suc c.line
+    → ((records : List Record) (p q : Progress) → Leads nothing records p → HasCome c p → IsAfter p r q → Known p records → Next q (records ++ r ∷ [])) → HasRead Next bytes after (count + 1) d
+one_read bytes rest text after count c d r h parts is spelled takes line goes =
     let next = takes h.progress h.come in
     record {
       records = h.records ++ r ∷ [];
@@ -42,6 +47,7 @@ one_read bytes rest text after count c d r h parts is spelled takes line =
       leads = leads_more nothing h.progress next.after h.records r h.leads next.leads;
       come = next.come;
       line = omega (arith, line, h.line);
+      known = goes h.records h.progress next.after h.leads h.come next.leads h.known;
     }
 
 lines_count : (records : List Record) → length records ≤ length (bytes_of records)
@@ -49,11 +55,11 @@ lines_count [] = omega arith
 lines_count (r ∷ rest) = omega (arith, lines_count rest, length-append (line_of r) (bytes_of rest), length-append (text_of r) (10 ∷ []))
 
 -- each line has a byte at least
-pub few_read : (bytes rest : List ℕ) (count : ℕ) (c : Checking) → HasRead bytes rest count c → count + length rest ≤ length bytes
+pub few_read : {Known : Progress → List Record → Type 0} (bytes rest : List ℕ) (count : ℕ) (c : Checking) → HasRead Known bytes rest count c → count + length rest ≤ length bytes
 few_read bytes rest count c h = omega (arith, h.count_is, lines_count h.records, length-append (bytes_of h.records) rest, ap length h.bytes_are)
 
 -- the next line is no record
-pub grammar_fault : (bytes rest text after : List ℕ) (count : ℕ) (c : Checking) → HasRead bytes rest count c → rest ≡ text ++ 10 ∷ after → ¬ Contains text 10 → IsNoRecord text
+pub grammar_fault : {Known : Progress → List Record → Type 0} (bytes rest text after : List ℕ) (count : ℕ) (c : Checking) → HasRead Known bytes rest count c → rest ≡ text ++ 10 ∷ after → ¬ Contains text 10 → IsNoRecord text
     → IsLinesFault bytes (grammar (count + 1))
 grammar_fault bytes rest text after count c h parts one_line no_record = (
   text,
@@ -69,7 +75,7 @@ grammar_fault bytes rest text after count c h parts one_line no_record = (
 )
 
 -- the next line has no newline
-pub unended_fault : (bytes rest : List ℕ) (count : ℕ) (c : Checking) → HasRead bytes rest count c → ¬ Contains rest 10 → 0 < length rest → IsLinesFault bytes (unended (count + 1))
+pub unended_fault : {Known : Progress → List Record → Type 0} (bytes rest : List ℕ) (count : ℕ) (c : Checking) → HasRead Known bytes rest count c → ¬ Contains rest 10 → 0 < length rest → IsLinesFault bytes (unended (count + 1))
 unended_fault bytes rest count c h one_line some = (
   rest,
   record {
@@ -82,5 +88,5 @@ unended_fault bytes rest count c h one_line some = (
   some,
 )
 
-pub all_read : (bytes rest : List ℕ) (count : ℕ) (c : Checking) (h : HasRead bytes rest count c) → rest ≡ [] → IsJournal bytes h.records
+pub all_read : {Known : Progress → List Record → Type 0} (bytes rest : List ℕ) (count : ℕ) (c : Checking) (h : HasRead Known bytes rest count c) → rest ≡ [] → IsJournal bytes h.records
 all_read bytes rest count c h none = record { lawful = h.lawful; spelled = h.bytes_are ∙ ap (λ (l : List ℕ). bytes_of h.records ++ l) none ∙ append-nil (bytes_of h.records) }

@@ -2,8 +2,6 @@
 pub mod Sessions
 -- what is kept of the records, one after another
 pub mod Watched
--- the bytes that are read so far
-pub mod Taken
 -- what a last settlement is made of
 pub mod Constructed
 -- what is answered at the end

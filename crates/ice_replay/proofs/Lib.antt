@@ -6,8 +6,6 @@ pub mod Coming
 pub mod Following
 -- what is answered where the records end
 pub mod Answering
--- the bytes that are read so far
-pub mod Played
 -- the names and the bounds of the bidders, one more at a time
 pub mod Listed
 -- a session states the regret of each settlement once
