@@ -9,12 +9,14 @@ use Rattle.ice_defs.specs.declared.Verdict.{Verdict}
 use Rattle.ice_defs.specs.Bounds.{Bounds, bounds_of}
 use Rattle.ice_defs.specs.Prices.{Prices}
 use Rattle.ice_defs.specs.Round.{Submission, Judged, Standing, stated_bounds, is_accepted, IsVerdict, bounds_after}
-use Rattle.ice_defs.specs.Trade.{Assignment, set_of}
+use Rattle.ice_defs.specs.Trade.{set_of}
 use Rattle.ice_defs.specs.Exchange.{Exchange}
 use Rattle.ice_journal.specs.Records as line
 use Rattle.ice_journal_laws.specs.declared.rule.Rule.TheVariants as rule
+use Rattle.ice_round_laws.proofs.Entering.{taken_push}
 use Rattle.ice_round_laws.proofs.Verdicts.{one_verdict}
 use Rattle.ice_verdicts.specs.Judges.{Round, IsRoundOf, bidder_in, is_marked, bidder_named, with_taken, round_after, IsVerdictOf, IsVerdictIn}
+use Rattle.ice_verdicts.proofs.Submitting.{Asked, asked_in, after_asked}
 use Rattle.ice_statement_laws.specs.Statement.{StatementLine, shown}
 use Rattle.ice_statement_laws.specs.Audit.{at_regret, at_round, at_verdict, AuditState, settings_at, standing_at, move_to, to_line, audit_next}
 use Rattle.ice_statement_laws.proofs.Walking.{quiet}
@@ -23,7 +25,7 @@ use Rattle.ice_audit.specs.declared.settlements.Settlements.{Settlements}
 use Rattle.ice_audit.specs.Standing.{own_name, IsKept, HasJudged, Stands}
 use Rattle.ice_audit.specs.Taking.{FailsFirst, GoesOn}
 use Rattle.ice_audit.proofs.Failing.{order_fails, verdict_fails}
-use Rattle.ice_audit.proofs.Tools.{passes_from, fails_from, at_now, tree_is, named_first, any_more, same_paid}
+use Rattle.ice_audit.proofs.Tools.{passes_from, fails_from, at_now, tree_is, named_first, same_paid}
 
 -- ---- one more submission
 
@@ -65,7 +67,7 @@ module _ (ex : Exchange) (r : Round) (bounds : Bounds) (judged : List Judged) (x
   taken_first = ap (λ (o : Option ℕ). with_taken r o x) named
 
   any_is : (b : Bool) → is_accepted last ≡ b → list_any is_accepted (judged ++ last ∷ []) ≡ (list_any is_accepted judged || b)
-  any_is b e = any_more judged last ∙ ap (λ (c : Bool). list_any is_accepted judged || c) e
+  any_is b e = taken_push judged last ∙ ap (λ (c : Bool). list_any is_accepted judged || c) e
 
   bounds_is : (a b : Bool) → list_any is_accepted judged ≡ a → is_accepted last ≡ b → bounds_after bounds (judged ++ last ∷ []) ≡ cond a (bounds_after bounds judged) (cond b (stated_bounds x) bounds)
   bounds_is a b e f = bounds_more bounds judged last ∙ (λ i. cond (e i) (bounds_after bounds judged) (cond (f i) (stated_bounds x) bounds))
@@ -90,27 +92,6 @@ module _ (ex : Exchange) (r : Round) (bounds : Bounds) (judged : List Judged) (x
 
   pub judged_more : HasJudged (round_after ex r last) bounds (judged ++ last ∷ [])
   judged_more = by_verdict (is_accepted last) refl
-
--- ---- what a submission leaves as it is
-
-record Asked : Type 0 where
-  bounds : List Bounds
-  sets : Assignment
-  prices : Prices
-
-abbrev asked_in : Round → Asked
-asked_in r = record { bounds = r.bounds; sets = r.sets; prices = r.prices }
-
-taken_asked : (r : Round) (found : Option ℕ) (s : Submission) → asked_in (with_taken r found s) ≡ asked_in r
-taken_asked r None s = refl
-taken_asked r (Some b) s = refl
-
-after_asked : (ex : Exchange) (r : Round) (j : Judged) → asked_in (round_after ex r j) ≡ asked_in r
-after_asked ex r j = by (is_accepted j)
-  where
-    by : (t : Bool) → asked_in (cond t (with_taken r (bidder_named ex j.submission.name) j.submission) r) ≡ asked_in r
-    by true = taken_asked r (bidder_named ex j.submission.name) j.submission
-    by false = refl
 
 -- an accepted one is the first of its bidder
 repeated : (p : Prices) (improve : ℤ) (bidder : Standing) (taken : Bool) (x : Submission) (due : Verdict) → IsVerdict p improve bidder taken x due → taken ≡ true → is_accepted (record { submission = x; verdict = due }) ≡ false

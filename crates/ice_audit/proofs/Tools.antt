@@ -1,11 +1,11 @@
 -- What is known of a state that an audit stands for.
-use Rattle.std.proofs.Common.{◌≡◌, ℕ, Bool, true, false, List, [], ◌∷◌, ◌++◌, length, map, slice_index_or, slice_set, refl, sym, ap, ◌∙◌, subst, arith}
-use Rattle.std.specs.Prelude.{Some, ◌||◌}
-use Rattle.std.specs.List.{list_any, position}
+use Rattle.std.proofs.Common.{◌≡◌, ℕ, true, List, [], ◌∷◌, length, map, slice_index_or, slice_set, refl, sym, ap, ◌∙◌, subst, arith}
+use Rattle.std.specs.Prelude.{Some}
+use Rattle.std.specs.List.{position}
 use Rattle.std.specs.Str.{bytes_eq}
 use Rattle.ice_defs.specs.Trade.{tree_of, set_of}
 use Rattle.ice_defs.specs.Set.{NodeSet}
-use Rattle.ice_defs.specs.Round.{Judged, Standing, is_accepted}
+use Rattle.ice_defs.specs.Round.{Standing}
 use Rattle.ice_defs.specs.Exchange.{Bidder, Exchange}
 use Rattle.ice_journal_laws.specs.declared.rule.Rule.{Rule}
 use Rattle.ice_section.specs.Section.{exchange_in}
@@ -64,17 +64,3 @@ first_set (x ∷ sets) s one = refl
 pub one_set : (sets : List NodeSet) (s : NodeSet) → length sets ≡ 1 → length (slice_set sets 0 s) ≡ 1
 one_set [] s one = absurd (omega (arith, one))
 one_set (x ∷ sets) s one = one
-
--- ---- one more submission
-
-pub any_more : (judged : List Judged) (j : Judged) → list_any is_accepted (judged ++ j ∷ []) ≡ (list_any is_accepted judged || is_accepted j)
-any_more [] j = by (is_accepted j)
-  where
-    by : (b : Bool) → (b || false) ≡ b
-    by true = refl
-    by false = refl
-any_more (k ∷ judged) j = by (is_accepted k) (any_more judged j)
-  where
-    by : (b : Bool) → list_any is_accepted (judged ++ j ∷ []) ≡ (list_any is_accepted judged || is_accepted j) → (b || list_any is_accepted (judged ++ j ∷ [])) ≡ ((b || list_any is_accepted judged) || is_accepted j)
-    by true e = refl
-    by false e = e

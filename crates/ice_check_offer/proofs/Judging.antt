@@ -1,12 +1,12 @@
 -- What a record makes of an offer in its round.
-use Rattle.std.proofs.Common.{◌≡◌, ◌≢◌, ℕ, suc, Bool, true, false, eqb, [], ◌∷◌, ◌++◌, List, length, replicate, cond, refl, sym, ◌∙◌, ap, subst}
-use Rattle.std.specs.Prelude.{Option, Some, None, option_and_then}
+use Rattle.std.proofs.Common.{◌≡◌, ◌≢◌, ℕ, suc, Bool, false, eqb, [], ◌∷◌, ◌++◌, List, length, replicate, refl, sym, ◌∙◌, ap, subst}
+use Rattle.std.specs.Prelude.{Option, None, option_and_then}
 use Rattle.std.proofs.lemmas.Bool.{eq-eqb}
 use Rattle.ice_defs.specs.declared.Verdict.{Verdict}
 use Rattle.ice_defs.specs.Bounds.{Bounds}
 use Rattle.ice_defs.specs.Trade.{Assignment}
 use Rattle.ice_defs.specs.Prices.{Prices}
-use Rattle.ice_defs.specs.Round.{Submission, Judged, IsNextVerdict, next_bounds, is_accepted}
+use Rattle.ice_defs.specs.Round.{Submission, Judged, IsNextVerdict, next_bounds}
 use Rattle.ice_defs.specs.Exchange.{Exchange}
 use Rattle.ice_defs.specs.Session.{standings}
 use Rattle.ice_journal.specs.Records.{Record}
@@ -18,7 +18,8 @@ use Rattle.ice_journal_laws.specs.Next.{to_line, go_to, if_true, settled, to_set
 use Rattle.ice_journal_laws.specs.Progress.{passing, TakesOn}
 use Rattle.ice_journal_laws.proofs.Priced.{round_submits, round_settles, round_missing, verdict_missing, verdict_wrong, verdict_right}
 use Rattle.ice_round_laws.proofs.Taking.{verdict_is_one}
-use Rattle.ice_verdicts.specs.Judges.{Round, IsRoundOf, bidders_in, bidder_named, with_taken, round_after, IsAfter}
+use Rattle.ice_verdicts.specs.Judges.{Round, IsRoundOf, bidders_in, round_after, IsAfter}
+use Rattle.ice_verdicts.proofs.Submitting.{Asked, asked_in, after_asked}
 use Rattle.ice_check_offer.specs.declared.fault.Fault.TheVariants.{Here}
 use Rattle.ice_check_offer.specs.declared.place.Place.TheVariants as place
 use Rattle.ice_check_offer.specs.declared.offer.Offer.{Offer}
@@ -27,31 +28,12 @@ use Rattle.ice_check_offer.specs.Rounds.{CanOpen}
 use Rattle.ice_check_offer.specs.Taking.{GoesOn, GoesToSettlement, FailsBy}
 use Rattle.ice_check_offer.proofs.Standing.{from_place, at_now}
 
--- ---- what a submission leaves as it is
-
-record Asked : Type 0 where
-  bounds : List Bounds
-  sets : Assignment
-  prices : Prices
+-- ---- what a settlement is told
 
 record Told : Type 0 where
   exchange : Exchange
   bounds : List Bounds
   sets : Assignment
-
-abbrev asked_in : Round → Asked
-asked_in r = record { bounds = r.bounds; sets = r.sets; prices = r.prices }
-
-taken_asked : (r : Round) (found : Option ℕ) (s : Submission) → asked_in (with_taken r found s) ≡ asked_in r
-taken_asked r None s = refl
-taken_asked r (Some b) s = refl
-
-after_asked : (ex : Exchange) (r : Round) (j : Judged) → asked_in (round_after ex r j) ≡ asked_in r
-after_asked ex r j = by (is_accepted j)
-  where
-    by : (t : Bool) → asked_in (cond t (with_taken r (bidder_named ex j.submission.name) j.submission) r) ≡ asked_in r
-    by true = taken_asked r (bidder_named ex j.submission.name) j.submission
-    by false = refl
 
 module _ (ex : Exchange) (number : ℕ) (o : Offer) where
   -- ---- the round
