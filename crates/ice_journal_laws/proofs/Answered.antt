@@ -1,7 +1,7 @@
 -- Bytes have one answer, and it is the one that the progress of their records ends with.
 use Rattle.std.proofs.Common.{◌≡◌, ℕ, ℤ, List, [], ◌∷◌, refl, sym, ◌∙◌, ap, subst}
 use Rattle.std.specs.Prelude.{Some, None, Result, Ok, Err}
-use Rattle.std.proofs.lemmas.Option.{none-some}
+use Rattle.std.proofs.lemmas.Option.{none-some, same_Some}
 use Rattle.ice_defs.specs.Trade.{total_value}
 use Rattle.ice_defs.specs.Weighing.{lower_weights}
 use Rattle.ice_defs.specs.Bounds.{Bounds}
@@ -100,11 +100,8 @@ same_answer journal (No line test) (Closed v x) h k = absurd (yes_is_no journal 
 same_answer journal (No line test) (No line' test') (checked, fails) (checked', fails') =
     same (same_failure journal (Some (failure line test)) (Some (failure line' test')) fails fails')
   where
-    unwrap : (f g : Failure) → Some f ≡ Some g → f ≡ g
-    unwrap f g e = cc
-
     same : Some (failure line test) ≡ Some (failure line' test') → No line test ≡ No line' test'
-    same e = ap (λ (f : Failure). No f.line f.rule) (unwrap (failure line test) (failure line' test') e)
+    same e = ap (λ (f : Failure). No f.line f.rule) (same_Some (failure line test) (failure line' test') e)
 
 answered_is_checked : (journal : List Record) (answer : Answer) → AnswersJournal journal answer → IsChecked journal
 answered_is_checked journal (Assign value) h = h.0.0

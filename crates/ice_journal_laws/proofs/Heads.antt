@@ -2,12 +2,13 @@
 use Rattle.std.proofs.Common.{◌≡◌, Bool, true, false, cond, List, [], ◌∷◌, ◌++◌, refl, subst}
 use Rattle.std.specs.Prelude.{None}
 use Rattle.std.specs.List.{AllByRecursion}
-use Rattle.ice_journal.specs.Records.{Record, Version, Kind}
+use Rattle.ice_journal.specs.Records.{Record, Version, version_1, version_2, Kind, session_kind}
 use Rattle.ice_journal.specs.Records as line
 use Rattle.ice_journal.specs.Ranges.{IsRecord}
 use Rattle.ice_journal_laws.specs.State.{done, State, begun}
-use Rattle.ice_journal_laws.specs.Checks.{is_checked, Tested, passes, goes_on}
+use Rattle.ice_journal_laws.specs.Checks.{is_checked, IsChecked, Tested, passes, goes_on}
 use Rattle.ice_journal_laws.specs.Progress.{Progress, nothing, other_kind, passing, passes_on, after_head, Leads, stays, goes}
+use Rattle.ice_journal_laws.specs.Theorems.{HasKind}
 use Rattle.ice_journal_laws.proofs.Leading.{other_passes}
 use Rattle.ice_journal_laws.proofs.KindStays.{leads_keep}
 
@@ -32,6 +33,16 @@ from_first other rest s l = absurd (other_passes rest s l)
 pub headed : (journal : List Record) (s : State) → Leads nothing journal (passing s) → Headed journal s
 headed [] s l = elim l [ ]
 headed (r ∷ rest) s (goes {q = q} a l) = from_first r rest s (subst (λ (z : Progress). Leads z rest (passing s)) a l)
+
+-- a session is checked, in either version
+in_version : (v : Version) (rest : List Record) → IsChecked (line.head v session_kind ∷ rest)
+in_version version_1 rest = refl
+in_version version_2 rest = refl
+
+pub session_checked : (journal : List Record) → HasKind session_kind journal → IsChecked journal
+session_checked (line.head v session_kind ∷ rest) is = in_version v rest
+session_checked (line.head v other ∷ rest) is = absurd cc
+session_checked other is = absurd is
 
 -- journals that pass
 pub tested_leads : (s : State) (records : List Record) → Tested s records None → (t : State) × Leads (passing s) records (passing t) × (t.place ≡ done)

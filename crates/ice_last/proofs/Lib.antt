@@ -1,4 +1,4 @@
--- journals of sessions: their kind stays, and is checked
+-- journals of sessions: their kind stays
 pub mod Sessions
 -- what is kept of the records, one after another
 pub mod Watched

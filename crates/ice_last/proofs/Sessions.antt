@@ -1,9 +1,8 @@
--- Journals of sessions: their kind stays, and it is one that is checked.
+-- Journals of sessions: their kind stays.
 use Rattle.std.proofs.Common.{◌≡◌, List, ◌∷◌, refl, ◌∙◌, subst}
 use Rattle.ice_journal.specs.Records.{Record, Version, version_1, version_2, Kind, session_kind}
 use Rattle.ice_journal.specs.Records as line
 use Rattle.ice_journal_laws.specs.State.{State, begun}
-use Rattle.ice_journal_laws.specs.Checks.{IsChecked}
 use Rattle.ice_journal_laws.specs.Progress.{Progress, nothing, passing, Leads, goes, after_head}
 use Rattle.ice_journal_laws.proofs.KindStays.{leads_keep}
 use Rattle.ice_last.specs.Lasts.{IsSession}
@@ -18,12 +17,3 @@ session_stays v rest s (goes {q = q} a l) = leads_keep (begun v session_kind) s 
 pub kind_at : (journal : List Record) (s : State) → IsSession journal → Leads nothing journal (passing s) → s.kind ≡ session_kind
 kind_at (line.head v kind ∷ rest) s is l = session_stays v rest s (subst (λ (k : Kind). Leads nothing (line.head v k ∷ rest) (passing s)) is l)
 kind_at other s is l = absurd is
-
-checked : (v : Version) (rest : List Record) → IsChecked (line.head v session_kind ∷ rest)
-checked version_1 rest = refl
-checked version_2 rest = refl
-
-pub session_checked : (journal : List Record) → IsSession journal → IsChecked journal
-session_checked (line.head v session_kind ∷ rest) is = checked v rest
-session_checked (line.head v other ∷ rest) is = absurd cc
-session_checked other is = absurd is

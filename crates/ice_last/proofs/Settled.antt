@@ -17,6 +17,7 @@ use Rattle.ice_journal_laws.specs.Checks.{Failure, FirstFailure}
 use Rattle.ice_journal_laws.specs.Progress.{Progress, nothing, other_kind, passing, failed, out_of_memory, Leads}
 use Rattle.ice_journal_laws.specs.Answers.{EndsWith}
 use Rattle.ice_journal_laws.proofs.Leading.{finds}
+use Rattle.ice_journal_laws.proofs.Heads.{session_checked}
 use Rattle.ice_check_records.specs.declared.closed.ClosedSession.{ClosedSession}
 use Rattle.ice_check_records.specs.Closed.{IsClosedAs, IsNotClosed}
 use Rattle.ice_fair_laws.specs.Fair.{PaidTrade, paid_of}
@@ -27,7 +28,7 @@ use Rattle.ice_last_laws.proofs.Lasts.{done_is_last, last_is_paid}
 use Rattle.ice_last.specs.Lasts.{IsSession, last_settlement, LastsBytes}
 use Rattle.ice_last.specs.Ending.{end_found}
 use Rattle.ice_last.specs.Reading.{trade_in, paid_in, IsPayable}
-use Rattle.ice_last.proofs.Sessions.{kind_at, session_checked}
+use Rattle.ice_last.proofs.Sessions.{kind_at}
 
 -- ---- the session has closed
 

@@ -10,10 +10,12 @@ use Rattle.ice_journal_laws.specs.declared.answer.CheckEnd.{CheckEnd}
 use Rattle.ice_journal_laws.specs.declared.rule.Rule.{Rule}
 use Rattle.ice_journal_laws.specs.declared.rule.Rule.TheVariants as rule
 use Rattle.ice_journal_laws.specs.State.{State, begun}
-use Rattle.ice_journal_laws.specs.Checks.{Failure, IsChecked, FirstFailure}
+use Rattle.ice_journal_laws.specs.Checks.{Failure, FirstFailure}
 use Rattle.ice_journal_laws.specs.Progress.{Progress, nothing, other_kind, passing, failed, out_of_memory, Leads}
 use Rattle.ice_journal_laws.specs.Answers.{EndsWith}
+use Rattle.ice_journal_laws.specs.Theorems.{HasKind}
 use Rattle.ice_journal_laws.proofs.Leading.{finds}
+use Rattle.ice_journal_laws.proofs.Heads.{session_checked}
 use Rattle.ice_replay.specs.declared.settlement.Replay.{Replay}
 use Rattle.ice_replay.specs.declared.settlement.ReplayEnd.{ReplayEnd}
 use Rattle.ice_replay.specs.declared.settlement.ReplayEnd.TheVariants.{OtherKind, NoSettlement}
@@ -22,7 +24,6 @@ use Rattle.ice_replay.specs.Settlements.{OfSession, IsSession, IsReplayable, pas
 use Rattle.ice_replay.specs.Replays.{IsReplay, ReplaysBytes}
 use Rattle.ice_replay.specs.Watching.{IsFine, prices_to_come, prices_behind, HasBegun, IsWhole, IsWatched}
 use Rattle.ice_replay.specs.Ending.{IsForbidden, IsAllowed, IsReplayAllowed, IsAbsence, absent, refused}
-use Rattle.ice_replay.proofs.Coming.{session_checked}
 
 answered : (a : Answer) (why : CheckEnd) → (let x : Result Answer CheckEnd = Ok a in x) ≡ Err why → ⊥
 answered a why e = cc
@@ -53,9 +54,9 @@ allowed_replayable journal (passing s) (Ok (answer.Closed regret surplus)) l (pl
 allowed_replayable journal (passing s) (Ok (answer.No number test)) l (place, number_is, test_is) allowed = absurd (short_closed (sym test_is ∙ allowed))
 allowed_replayable journal (passing s) (Err why) l e allowed = absurd e
 
-of_session_checked : (journal : List Record) → IsSession journal → IsChecked journal
-of_session_checked (line.head v session_kind ∷ rest) h = session_checked v rest
-of_session_checked other h = absurd h
+has_kind : (journal : List Record) → IsSession journal → HasKind session_kind journal
+has_kind (line.head v session_kind ∷ rest) h = refl
+has_kind other h = absurd h
 
 same_failure : (f : Failure) (number : ℕ) (test : Rule) → (let x : Result Answer CheckEnd = Ok (answer.No number test) in x) ≡ Ok (answer.No f.line f.rule) → (number ≡ f.line) × (test ≡ f.rule)
 same_failure f number test e = (cc, cc)
@@ -81,8 +82,8 @@ forbidden bytes number journal p (Ok (answer.Closed regret surplus)) end is l e 
 forbidden bytes number journal p (Err why) end is l e session h = absurd (never p l e)
   where
     never : (o : Progress) → Leads nothing journal o → EndsWith o (Err why) → ⊥
-    never nothing l e = finds journal nothing l (of_session_checked journal session)
-    never other_kind l e = finds journal other_kind l (of_session_checked journal session)
+    never nothing l e = finds journal nothing l (session_checked journal (has_kind journal session))
+    never other_kind l e = finds journal other_kind l (session_checked journal (has_kind journal session))
     never out_of_memory l e = finds journal out_of_memory l
     never (failed f) l e = answered _ why (sym e)
     never (passing s) l e = e

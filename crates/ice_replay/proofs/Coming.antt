@@ -9,9 +9,10 @@ use Rattle.ice_journal_laws.specs.declared.rule.Rule.TheVariants as rule
 use Rattle.ice_journal_laws.specs.State.{Place, at_regret, at_accuracy_rows, at_balance_rows, State, begun}
 use Rattle.ice_journal_laws.specs.Next.{next, after_all}
 use Rattle.ice_journal_laws.specs.Tests.{Fails, IsStop, ended_list}
-use Rattle.ice_journal_laws.specs.Checks.{Failure, IsChecked}
+use Rattle.ice_journal_laws.specs.Checks.{Failure}
 use Rattle.ice_journal_laws.specs.Progress.{Progress, nothing, other_kind, passing, failed, out_of_memory, passes_on, fails_at, list_fails_at, IsAfter, Leads, goes}
 use Rattle.ice_journal_laws.proofs.Leading.{stays_failed, finds}
+use Rattle.ice_journal_laws.proofs.Heads.{session_checked}
 use Rattle.ice_journal_laws.proofs.Carried.{leads_ordered}
 use Rattle.ice_replay.specs.Settlements.{Settles}
 use Rattle.ice_replay.specs.Watching.{IsFine}
@@ -65,10 +66,6 @@ pub session_leads : (v : Version) (records : List Record) (p : Progress) → Lea
 session_leads version_1 records p (goes {q = q} a l) = subst (λ (x : Progress). Leads x records p) a l
 session_leads version_2 records p (goes {q = q} a l) = subst (λ (x : Progress). Leads x records p) a l
 
-pub session_checked : (v : Version) (records : List Record) → IsChecked (line.head v session_kind ∷ records)
-session_checked version_1 records = refl
-session_checked version_2 records = refl
-
 module _ (v : Version) (records : List Record) where
   pub stood : (p : Progress) → Leads nothing (line.head v session_kind ∷ records) p → IsFine p → Stood (begun v session_kind) records p
   stood nothing l fine = absurd fine
@@ -79,8 +76,8 @@ module _ (v : Version) (records : List Record) where
 
   -- no test failed before it either
   pub fine_before : (p q : Progress) (r : Record) → Leads nothing (line.head v session_kind ∷ records) p → IsAfter p r q → IsFine q → IsFine p
-  fine_before nothing q r l a fine = absurd (finds (line.head v session_kind ∷ records) nothing l (session_checked v records))
-  fine_before other_kind q r l a fine = absurd (finds (line.head v session_kind ∷ records) other_kind l (session_checked v records))
+  fine_before nothing q r l a fine = absurd (finds (line.head v session_kind ∷ records) nothing l (session_checked (line.head v session_kind ∷ records) refl))
+  fine_before other_kind q r l a fine = absurd (finds (line.head v session_kind ∷ records) other_kind l (session_checked (line.head v session_kind ∷ records) refl))
   fine_before (passing t) q r l a fine = tt
   fine_before (failed f) q r l a fine = subst IsFine a fine
   fine_before out_of_memory q r l a fine = absurd a
