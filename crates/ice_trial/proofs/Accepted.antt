@@ -3,7 +3,6 @@ use Rattle.std.proofs.Common.{ℕ, suc, ◌<◌, ◌≡◌, true, false, List, [
 use Rattle.std.specs.List.{AllByRecursion, AllZip, IsDistinct}
 use Rattle.std.specs.Str.{bytes_eq}
 use Rattle.std.proofs.lemmas.Bool.{eq-eqb}
-use Rattle.std.proofs.lemmas.Cmp.{nat_list_eq_equiv}
 use Rattle.ice_defs.specs.declared.Verdict.{Verdict}
 use Rattle.ice_defs.specs.declared.Verdict.TheVariants.{Accepted}
 use Rattle.ice_defs.specs.Tree.{Tree}
@@ -18,6 +17,7 @@ use Rattle.ice_defs.specs.Lawful.{AreBounds}
 use Rattle.ice_defs.specs.Session.{standings_from, standings}
 use Rattle.ice_defs.proofs.Naming.{bytes_eq-same}
 use Rattle.ice_round_laws.proofs.Naming.{standings_are_named}
+use Rattle.ice_round_laws.proofs.Apart.{AreOthers, AreJudged, others_judged, others_next}
 use Rattle.ice_rules.proofs.Exact.{exact_is_accepted, accepted_alone}
 use Rattle.ice_trial.specs.Truths.{IsTruth, AreTruths, truth_bids}
 use Rattle.ice_trial.specs.Laws.{TruthsAreAccepted}
@@ -54,10 +54,6 @@ first_is {x} e = ap (λ (l : List Submission). slice_index_or l 0 x) e
 rest_are : {x y : Submission} {xs ys : List Submission} → x ∷ xs ≡ y ∷ ys → xs ≡ ys
 rest_are e = ap (drop 1) e
 
--- nobody else has this name
-abbrev AreOthers : List ℕ → List Standing → Type 0
-AreOthers name bidders = AllByRecursion (λ n. bytes_eq name n ≡ false) (map (λ (b : Standing). b.name) bidders)
-
 -- the bids of others are none of this name
 none_named : (name : List ℕ) (bidders : List Standing) (truths : List Bounds) (judged : List Judged) → AreOthers name bidders
     → map (λ (j : Judged). j.submission) judged ≡ truth_bids (map (λ (b : Standing). b.name) bidders) truths → of_name name judged ≡ []
@@ -68,30 +64,7 @@ none_named name (b ∷ bidders) (t ∷ truths) (j ∷ judged) others said =
     let is : bytes_eq name j.submission.name ≡ false = ap (λ (s : Submission). bytes_eq name s.name) (first_is said) ∙ others.0 in
     rw is (none_named name bidders truths judged others.1 (rest_are said))
 
--- and a bid of this name none of the others
-skips : (name : List ℕ) (b : Standing) (j : Judged) (judged : List Judged) → bytes_eq name b.name ≡ false → j.submission.name ≡ name → of_name b.name (j ∷ judged) ≡ of_name b.name judged
-skips name b j judged other named =
-    let is : bytes_eq b.name j.submission.name ≡ false = ap (bytes_eq b.name) named ∙ nat_list_eq_equiv.symm b.name name ∙ other in
-    rw is refl
-
 -- ---- all bidders
-
-abbrev AreJudged : Prices → ℤ → List Standing → List Judged → Type 0
-AreJudged p improve bidders judged = AllByRecursion (λ bidder. JudgesInOrder p improve bidder false (of_name bidder.name judged)) bidders
-
-others_judged : (p : Prices) (improve : ℤ) (name : List ℕ) (bidders : List Standing) (j : Judged) (judged : List Judged) → AreOthers name bidders → j.submission.name ≡ name
-    → AreJudged p improve bidders (j ∷ judged) → AreJudged p improve bidders judged
-others_judged p improve name [] j judged others named are = tt
-others_judged p improve name (b ∷ bidders) j judged others named are = (
-  subst (JudgesInOrder p improve b false) (skips name b j judged others.0 named) are.0,
-  others_judged p improve name bidders j judged others.1 named are.1,
-)
-
-others_next : (name : List ℕ) (bidders : List Standing) (j : Judged) (judged : List Judged) → AreOthers name bidders → j.submission.name ≡ name → next_bounds bidders (j ∷ judged) ≡ next_bounds bidders judged
-others_next name [] j judged others named = refl
-others_next name (b ∷ bidders) j judged others named =
-    ap (λ (js : List Judged). bounds_after b.bounds js ∷ next_bounds bidders (j ∷ judged)) (skips name b j judged others.0 named)
-    ∙ ap (λ (bs : List Bounds). bounds_after b.bounds (of_name b.name judged) ∷ bs) (others_next name bidders j judged others.1 named)
 
 taken : (old truth : Bounds) (name : List ℕ) (j : Judged) → j.submission ≡ bid name truth → j.verdict ≡ Accepted → bounds_after old (j ∷ []) ≡ truth
 taken old truth name j said accepted =
