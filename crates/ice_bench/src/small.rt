@@ -6,7 +6,6 @@ use crate::draws::{Draws, number};
 use ice_frac::Frac;
 use ice_lp::{LpAnswer, Program, solve};
 use std::alloc::{AllocError, Global};
-use std::fmt::Write;
 
 /// Adds whole numbers to a line, each behind a space.
 fn add_numbers(line: &mut String, numbers: &[i128]) -> Result<(), AllocError> {

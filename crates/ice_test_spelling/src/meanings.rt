@@ -3,7 +3,6 @@ use ice_defs::{LimitKind, NodeKind, PricingStage, Verdict};
 use ice_journal::{Change, EndWord, Kind, Line, LowestFraction, Version, read_record};
 use ice_set::NodeSet;
 use ice_terms::Settings;
-use std::process::Abort;
 
 const HEADS: [(&str, Version, Kind); 7] = [
     ("ice 1 assign", Version::One, Kind::Assign),
