@@ -1,10 +1,9 @@
 //! The settlements of a statement, up to the prices.
-ghost use Rattle.std.specs.Prelude.{◌≡◌, ◌==◌, IsTrue, false, length, pos, ◌≤ℤ◌, IfOk, map, replicate};
+ghost use Rattle.std.specs.Prelude.{◌≡◌, ◌==◌, IsTrue, false, length, IfOk, map, replicate};
 ghost use Rattle.ice_defs.specs.Exchange.{trees_of, opening_bounds};
 ghost use Rattle.ice_defs.specs.Session.{closes};
 ghost use Rattle.ice_defs.specs.Set.{IsSatisfied};
 ghost use Rattle.ice_journal.specs.Records as records;
-ghost use Rattle.ice_pricing.specs.Lawful.{AreUnlawful};
 ghost use Rattle.ice_verdicts.specs.Judges.{IsRoundOf};
 ghost use Rattle.ice_statement_laws.specs.Statement.{shown, kept, offered};
 ghost use Rattle.ice_audit.specs.Standing.{own_tree, behind_kept, IsKept};
@@ -12,9 +11,8 @@ ghost use Rattle.ice_audit.specs.Taking.{GoesOn, Takes};
 ghost use Rattle.ice_check_offer.specs.Broken.{IsBroken};
 
 use crate::next::Next;
-use ice_check_offer::broken_rule;
+use ice_check_offer::{are_lawful_in, broken_rule, count_goods};
 use ice_journal_laws::Rule;
-use ice_pricing::are_lawful;
 use ice_set::NodeSet;
 use ice_terms::Prices;
 use ice_trade::Exchange;
@@ -46,31 +44,6 @@ impl Drop for Settlements {
             next: _,
         } = self;
     }
-}
-
-/// The greatest price of a good.
-fn cap_of(exchange: &Exchange) -> i64
-    ensures value { result ≡ exchange.now.settings.cap }
-    ensures low { pos 0 ≤ℤ result }
-    ensures high { result ≤ℤ pos 1000000000 }
-{
-    exchange.settings().cap
-}
-
-/// Whether there is one price for each good.
-fn count_goods(exchange: &Exchange, prices: &Prices) -> bool
-    ensures { result ≡ (length prices.now.nums == length exchange.now.goods) }
-{
-    prices.goods() == exchange.goods()
-}
-
-/// Whether prices are within the exchange's cap and in lowest terms.
-fn are_lawful_in(exchange: &Exchange, prices: &Prices) -> bool
-    ensures yes { IsTrue result → ¬ AreUnlawful exchange.now.settings.cap prices.now }
-    ensures no { result ≡ false → AreUnlawful exchange.now.settings.cap prices.now }
-{
-    let cap = cap_of(exchange);
-    are_lawful(prices, cap)
 }
 
 impl Settlements {

@@ -15,3 +15,4 @@ pub use broken::broken_rule;
 pub use fault::Fault;
 pub use offer::Offer;
 pub use place::{CertificateList, Place, Went};
+pub use pricing::{are_lawful_in, count_goods};

@@ -51,14 +51,14 @@ fn cap_of(exchange: &Exchange) -> i64
 }
 
 /// Whether there is one price for each good.
-fn count_goods(exchange: &Exchange, prices: &Prices) -> bool
+pub fn count_goods(exchange: &Exchange, prices: &Prices) -> bool
     ensures { result ≡ (length prices.now.nums == length exchange.now.goods) }
 {
     prices.goods() == exchange.goods()
 }
 
 /// Whether prices are within the exchange's cap and in lowest terms.
-fn are_lawful_in(exchange: &Exchange, prices: &Prices) -> bool
+pub fn are_lawful_in(exchange: &Exchange, prices: &Prices) -> bool
     ensures yes { IsTrue result → ¬ AreUnlawful exchange.now.settings.cap prices.now }
     ensures no { result ≡ false → AreUnlawful exchange.now.settings.cap prices.now }
 {
