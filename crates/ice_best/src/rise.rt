@@ -77,7 +77,8 @@ pub(crate) fn follow(
     requires weights { length weights.now ≡ length tree.now }
     requires fixing { length fixing.now ≡ length tree.now }
     requires followed { IsFollowed tree.now weights.now fixing.now table.old node more }
-    ensures { IsFollowed tree.now weights.now fixing.now table.new (parent_of tree.now node) result }
+    ensures { IsFollowed tree.now weights.now fixing.now table.new
+        (parent_of tree.now node) result }
 {
     let parent = tree.parent(node);
     if !table.possible[parent as usize] {

@@ -113,7 +113,8 @@ impl Shelf for MemShelf {
         // The bytes that are had, or are too many.
         ensures bytes { IfOk result (λ v. AreTold (told_of self.old) name.now v.items) }
         ensures within { IfOk result (λ v. length v.items ≤ limit) }
-        ensures too_long { IsErrOf result FetchFault.TooLong → IsLonger (told_of self.old) name.now limit }
+        ensures too_long { IsErrOf result FetchFault.TooLong
+            → IsLonger (told_of self.old) name.now limit }
 
         // The counts that rise.
         ensures failed { IsErrOf result FetchFault.Failed
@@ -123,7 +124,8 @@ impl Shelf for MemShelf {
 
         // What stays the same.
         ensures kept { OnOk result (told_of self.new ≡ told_of self.old) }
-        ensures kept_in_want { IsErrOf result FetchFault.NoMemory → told_of self.new ≡ told_of self.old }
+        ensures kept_in_want { IsErrOf result FetchFault.NoMemory
+            → told_of self.new ≡ told_of self.old }
         ensures later { IsLater (told_of self.old) (told_of self.new) }
 
         // It fails exactly where it is told to and where there is no file, and else is too long

@@ -20,7 +20,8 @@ pub(crate) fn read_rest<F: Read + Drop>(
 ) -> Result<Vec<u8>, FetchFault>
     ensures bytes { IfOk result (λ bytes. IfSome (F.remaining file) (λ left. bytes.items ≡ left)) }
     ensures within { IfOk result (λ bytes. length bytes.items ≤ limit) }
-    ensures too_long { IsErrOf result FetchFault.TooLong → IfSome (F.remaining file) (λ left. limit < length left) }
+    ensures too_long { IsErrOf result FetchFault.TooLong
+        → IfSome (F.remaining file) (λ left. limit < length left) }
 {
     let most = (limit as u64).saturating_add(1);
     let mut bytes = Vec::with_capacity(alloc, FIRST_ROOM.min(limit.saturating_add(1)))?;

@@ -41,7 +41,8 @@ pub trait Shelf {
         // The bytes that are had, or are too many.
         ensures bytes { IfOk result (λ v. AreTold (told self.old) name.now v.items) }
         ensures within { IfOk result (λ v. length v.items ≤ limit) }
-        ensures too_long { IsErrOf result FetchFault.TooLong → IsLonger (told self.old) name.now limit }
+        ensures too_long { IsErrOf result FetchFault.TooLong
+            → IsLonger (told self.old) name.now limit }
 
         // The counts that rise.
         ensures failed { IsErrOf result FetchFault.Failed

@@ -43,8 +43,10 @@ fn left(cut: i128, den: i128, cost: i128, violation: i128, weight: i128) -> Opti
     requires cost { pos 0 ≤ℤ cost }
     requires violation { pos 0 ≤ℤ violation }
     requires weight { pos 0 ≤ℤ weight }
-    ensures some { IfSome result (λ sum. sum ≡ (cut *ℤ (den *ℤ cost)) +ℤ (cut *ℤ (violation *ℤ weight))) }
-    ensures none { IfNone result (pos (2 ^ 127) ≤ℤ ((cut *ℤ (den *ℤ cost)) +ℤ (cut *ℤ (violation *ℤ weight)))) }
+    ensures some { IfSome result
+        (λ sum. sum ≡ (cut *ℤ (den *ℤ cost)) +ℤ (cut *ℤ (violation *ℤ weight))) }
+    ensures none { IfNone result
+        (pos (2 ^ 127) ≤ℤ ((cut *ℤ (den *ℤ cost)) +ℤ (cut *ℤ (violation *ℤ weight)))) }
 {
     plus(
         asked_part(cut, den, cost)?,

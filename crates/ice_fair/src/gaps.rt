@@ -141,8 +141,10 @@ pub(crate) fn is_over_both(fraction: &Frac, num: i128, cut: u16, prices: &Prices
     requires low { pos 0 ≤ℤ num }
     requires high { num ≤ℤ pos (2 ^ 102) }
     requires positive { 0 < cut }
-    ensures yes { IsTrue result → Equals fraction.now (record { num = num; den = cut * prices.now.den }) }
-    ensures no { Equals fraction.now (record { num = num; den = cut * prices.now.den }) → IsTrue result }
+    ensures yes { IsTrue result
+        → Equals fraction.now (record { num = num; den = cut * prices.now.den }) }
+    ensures no { Equals fraction.now (record { num = num; den = cut * prices.now.den })
+        → IsTrue result }
 {
     let Some(found) = Frac::new(num, both_dens(cut, prices)) else {
         unreachable!()

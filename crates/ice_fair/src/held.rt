@@ -40,7 +40,8 @@ fn held_of(low: &[u64], high: &[u64], bidder: u8) -> i128
 pub(crate) fn total(numbers: &[u64]) -> i128
     requires few { length numbers.now ≤ 40 }
     requires fits { AllByRecursion (λ n. n ≤ 2 ^ 24) numbers.now }
-    ensures value { result ≡ sum_below (λ b. pos (slice_index_or numbers.now b 0)) (length numbers.now) }
+    ensures value { result
+        ≡ sum_below (λ b. pos (slice_index_or numbers.now b 0)) (length numbers.now) }
     ensures low { pos 0 ≤ℤ result }
     ensures high { result ≤ℤ pos (40 * 2 ^ 24) }
 {

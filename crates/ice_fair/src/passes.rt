@@ -92,7 +92,8 @@ pub(crate) fn passes(
     requires violation_high { priced.now.violation ≤ℤ pos (2 ^ 100) }
     requires gap_low { pos 0 ≤ℤ priced.now.gap }
     requires gap_high { priced.now.gap ≤ℤ pos (2 ^ 102) }
-    requires limited { IsFairLimited (length paid.now.trade.trees) (numbers_of certificate.now low.now high.now) }
+    requires limited { IsFairLimited (length paid.now.trade.trees)
+        (numbers_of certificate.now low.now high.now) }
     ensures yes { let p = paid.now in let q = priced.now in IsTrue result
         → IsTested (paid_by p.trade p.cut p.nums.now) (numbers_of certificate.now low.now high.now)
         q.prices.now q.violation p.cut (num_at p.nums.now) q.gap }

@@ -34,9 +34,12 @@ pub fn run_fair_stage(
     requires payments { ArePayments trade.now cut payments.now }
     requires accurate { HasAccurate trade.now payments.now delta den }
     requires sized { IsSizedStage (fairness_at delta den) }
+    // On success
     ensures stated { IfOk result (IsStatedEnd trade.now payments.now cut delta den) }
     ensures fair { IfOk result (IsFairEnd trade.now payments.now cut delta den) }
+    // At a limit
     ensures stopped { IfErr result (IsFairStop trade.now payments.now cut delta den) }
+    // What it took
     ensures work { IsMoreWork work.old work.new }
     ensures turns { IfOk result (λ _. HasTurns 1 work.old work.new) }
 {

@@ -72,7 +72,8 @@ impl Frac {
     pub fn new(num: i128, den: i128) -> Option<Frac>
         ensures none { IsNone result ↔ (den <ℤ pos 1) ⊎ (num ≡ i128.MIN) }
         ensures value { IfSome result (λ r. r ≡ lowest num (unsigned_abs den)) }
-        ensures equal { IfSome result (λ r. Equals r (record { num = num; den = unsigned_abs den })) }
+        ensures equal { IfSome result
+            (λ r. Equals r (record { num = num; den = unsigned_abs den })) }
         ensures lowest { IfSome result IsLowest }
     {
         if den < 1 || num == i128::MIN {
@@ -175,7 +176,8 @@ impl Frac {
     /// The order of two fractions, exact for every pair.
     pub fn cmp(&self, other: &Frac) -> Ordering
         ensures order { result ≡ order_of self.now other.now }
-        ensures ranked { MatchOrdering result (Below self.now other.now) (Equals self.now other.now) (Below other.now self.now) }
+        ensures ranked { MatchOrdering result (Below self.now other.now) (Equals self.now other.now)
+            (Below other.now self.now) }
     {
         let left = self.num.unsigned_abs();
         let right = other.num.unsigned_abs();

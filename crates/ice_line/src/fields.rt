@@ -42,7 +42,8 @@ impl<'a> Fields<'a> {
 
     /// Takes the next field.
     pub fn next(&mut self) -> Option<&'a [u8]>
-        ensures { MatchOption result ((self.old ≡ []) × (self.new ≡ [])) (λ field. self.old ≡ field.now ∷ self.new) }
+        ensures { MatchOption result ((self.old ≡ []) × (self.new ≡ []))
+            (λ field. self.old ≡ field.now ∷ self.new) }
     {
         let (field, rest) = split_field(self.rest?);
         self.rest = rest;

@@ -16,7 +16,8 @@ fn split_byte(field: &[u8]) -> Option<(u8, &[u8])>
 
 /// The number of a digit.
 fn digit(byte: u8) -> Option<u8>
-    ensures { MatchOption result (¬ IsInRange 48 57 byte) (λ number. (byte ≡ 48 + number) × (number < 10)) }
+    ensures { MatchOption result (¬ IsInRange 48 57 byte)
+        (λ number. (byte ≡ 48 + number) × (number < 10)) }
 {
     if byte >= b'0' && byte <= b'9' {
         Some(byte - b'0')
@@ -123,7 +124,8 @@ fn number_of_64_bits(field: &[u8]) -> Option<i128>
 
 /// What comes after a minus.
 fn after_minus(field: &[u8]) -> Option<&[u8]>
-    ensures { MatchOption result ((rest : List ℕ) → field.now ≡ 45 ∷ rest → ⊥) (λ rest. field.now ≡ 45 ∷ rest.now) }
+    ensures { MatchOption result ((rest : List ℕ) → field.now ≡ 45 ∷ rest → ⊥)
+        (λ rest. field.now ≡ 45 ∷ rest.now) }
 {
     match field {
         [b'-', rest @ ..] => Some(rest),

@@ -22,7 +22,8 @@ pub enum LineFault {
 /// The first line, without its newline, and the bytes after it. None exactly where there is no
 /// newline.
 pub fn split_line(bytes: &[u8]) -> Option<(&[u8], &[u8])>
-    ensures { MatchOption result (¬ Contains bytes.now 10) (λ parts. BeginsWithLine bytes.now parts.0.now parts.1.now) }
+    ensures { MatchOption result (¬ Contains bytes.now 10)
+        (λ parts. BeginsWithLine bytes.now parts.0.now parts.1.now) }
 {
     for (i, byte) in bytes.iter().enumerate() {
         if *byte == b'\n' {

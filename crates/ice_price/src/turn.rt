@@ -49,7 +49,8 @@ fn end_stage(
     requires low { AreNonNegative duals.now }
     ensures ended { let ws = weights_of_duals factor duals.now in
         IfOk result (IsEndWith pool.now ws prices violation) }
-    ensures stopped { IfErr result (IsStoppedBy (AreLarge (2 ^ 32) (weights_of_duals factor duals.now))) }
+    ensures stopped { IfErr result
+        (IsStoppedBy (AreLarge (2 ^ 32) (weights_of_duals factor duals.now))) }
 {
     let certificate = certified(alloc, factor, pool, duals)?;
     Ok(Turn::Ends(StageEnd {

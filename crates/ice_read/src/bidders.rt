@@ -67,14 +67,17 @@ fn tree_member(
 /// Takes a bidder.
 fn take_bidder(exchange: &mut ExchangeMaker, value: &Value) -> Result<(), ReadFault>
     requires { AreNames (good_names exchange.old) }
+    // What comes of it
     ensures taken { OnOk result ((path : Path)
         → bidder_added exchange.old path (view value.now) ≡ Ok exchange.new.bidders) }
     ensures refused { IfErr result (λ fault. IsFault fault
         (λ path. bidder_added exchange.old path (view value.now))) }
+    // On success
     ensures same { OnOk result (exchange.new
         ≡ record exchange.old { bidders = exchange.new.bidders }) }
     ensures one { OnOk result (length exchange.new.bidders ≡ length exchange.old.bidders + 1) }
     ensures few { OnOk result (length exchange.new.bidders ≤ 40) }
+    // On refusal
     ensures short { IfErr result (λ fault. length fault.place ≤ 162) }
     ensures sale { IfErr result (TellsOfSale (IsSaleOf exchange.old.goods (view value.now))) }
 {

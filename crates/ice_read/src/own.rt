@@ -35,13 +35,16 @@ fn take_amount(
     requires named { AreNames (good_names exchange.now) }
     requires count { length own.old.items ≡ length exchange.now.goods }
     requires limits { AreAmounts own.old.items }
+    // What comes of it
     ensures taken { OnOk result ((path : Path)
         → own_one (good_names exchange.now) path own.old.items name.now (view value.now)
         ≡ Ok own.new.items) }
     ensures refused { IfErr result (λ fault. IsFault fault
         (λ path. own_one (good_names exchange.now) path own.old.items name.now (view value.now))) }
+    // On success
     ensures count { OnOk result (length own.new.items ≡ length exchange.now.goods) }
     ensures limits { OnOk result (AreAmounts own.new.items) }
+    // On refusal
     ensures short { IfErr result (λ fault. length fault.place ≤ 33) }
 {
     let Some(good) = exchange.find_good(name) else {

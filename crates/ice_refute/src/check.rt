@@ -31,12 +31,14 @@ fn take_step(
     requires goods { CountsGoods (length desk.old.room) (step_of step.now) }
     requires nodes { nodes_of desk.old.marks ≡ nodes_of trees.now }
     requires kept { AreKept desk.old.marks desk.old.sides.items }
+    // What comes of it
     ensures passes { OnOk result (PassesAt trees.now desk.old.room weights.now target desk.old.marks
         (step_of step.now)) }
     ensures sides { IfOk result (λ is_open. open_sides is_open desk.new.marks desk.new.sides.items
         ≡ sides_after (open_sides true desk.old.marks desk.old.sides.items) (step_of step.now)) }
     ensures fault { IfErr result (HasFault trees.now desk.old.room weights.now target desk.old.marks
         (step_of step.now)) }
+    // Either way
     ensures nodes { nodes_of desk.new.marks ≡ nodes_of desk.old.marks }
     ensures kept { AreKept desk.new.marks desk.new.sides.items }
     ensures exact { desk.new.room ≡ desk.old.room }
@@ -66,9 +68,11 @@ pub fn check_log(
     requires start { nodes_of start.now ≡ nodes_of trees.now }
     requires marks { nodes_of desk.old.marks ≡ nodes_of trees.now }
     requires goods { AllByRecursion (CountsGoods (length desk.old.room)) log.now }
+    // What comes of it
     ensures ok { IsOk result ↔ Passes trees.now desk.old.room weights.now target start.now log.now }
     ensures fault { IfErr result (IsLogFault trees.now desk.old.room weights.now target
         start.now log.now) }
+    // Either way
     ensures marks { nodes_of desk.new.marks ≡ nodes_of trees.now }
     ensures exact { desk.new.room ≡ desk.old.room }
 {

@@ -85,6 +85,7 @@ impl Walk {
         requires nodes { self.old.nodes ≡ nodes_of trees.now }
         requires opened { 0 < length self.old.sides }
         requires goods { CountsGoods (length desk.old.room) (step_of step.now) }
+        // What comes of it
         ensures ok { OnOk result (PassesAt trees.now desk.old.room weights.now target
             (first_side self.old.sides) (step_of step.now)) }
         ensures sides { OnOk result (self.new.sides
@@ -93,6 +94,7 @@ impl Walk {
             (first_side self.old.sides) (step_of step.now)) }
         ensures few { OnOk result (length self.new.sides ≤ 2001) }
         ensures unchanged { OnErr result (self.new ≡ self.old) }
+        // Either way
         ensures nodes { self.new.nodes ≡ self.old.nodes }
         ensures exact { desk.new.room ≡ desk.old.room }
         ensures marks { desk.new.marks ≡ desk.old.marks }

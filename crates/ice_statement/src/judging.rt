@@ -86,7 +86,8 @@ fn end_at(line: &Line, name: &[u8]) -> Option<bool>
 
 /// Whether a bidder of the journal has this name.
 fn has_bidder(bytes: &[u8], name: &[u8]) -> bool
-    ensures { (journal : List Record) → IsJournal bytes.now journal → has_bidder name.now journal ≡ result }
+    ensures { (journal : List Record) → IsJournal bytes.now journal
+        → has_bidder name.now journal ≡ result }
 {
     let mut rest = bytes;
     while let Some((text, after)) = split_line(rest) {

@@ -31,8 +31,10 @@ impl Prices {
     /// The prices with this denominator and these numerators, and None exactly where they are
     /// outside their limits.
     pub fn new(den: i64, nums: &[i128]) -> Option<Prices>
-        ensures some { IfSome result (λ p. ArePriceTerms p × (pos p.den ≡ den) × (p.nums ≡ nums.now)) }
-        ensures none { IfNone result ((p : exchange.Prices) → ArePriceTerms p → pos p.den ≡ den → p.nums ≡ nums.now → ⊥) }
+        ensures some { IfSome result
+            (λ p. ArePriceTerms p × (pos p.den ≡ den) × (p.nums ≡ nums.now)) }
+        ensures none { IfNone result
+            ((p : exchange.Prices) → ArePriceTerms p → pos p.den ≡ den → p.nums ≡ nums.now → ⊥) }
     {
         if den < 1 || den > GREATEST_DENOMINATOR {
             return None;

@@ -154,12 +154,16 @@ pub fn threshold(
     requires valued { All IsValueLimit values.now }
     requires summed { sum_over (λ v. v) values.now ≡ total }
     requires rich { pos 0 ≤ℤ total }
+    // The cut and the discounts
     ensures cut { IfOk result (λ p. IsCut vickrey.now total p.cut) }
     ensures cut_down { IfOk result (λ p. AreCutDown p.cut p.discounts.items vickrey.now) }
     ensures discounts { IfOk result (λ p. IsThreshold vickrey.now total p.discounts.items) }
-    ensures payments { IfOk result (λ p. ArePayments values.now p.discounts.items p.payments.items) }
+    // The payments
+    ensures payments { IfOk result
+        (λ p. ArePayments values.now p.discounts.items p.payments.items) }
     ensures surplus { IfOk result (λ p. IsSurplus total p.discounts.items p.surplus) }
     ensures balance { IfOk result (λ p. Equals (sum_of p.payments.items) p.surplus) }
+    // Their numbers are short
     ensures small { IfOk result (λ p. AreShort p.cut p.surplus p.discounts.items p.payments.items) }
 {
     let cut = least_cut(vickrey, total);

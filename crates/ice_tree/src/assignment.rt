@@ -111,7 +111,8 @@ impl Assignment {
     fn lower_value_of(&self, bounds: &[Bounds], bidder: u8) -> i64
         requires bidder { bidder < length bounds.now }
         requires nodes { AreChosen self.now bounds.now }
-        ensures value { result ≡ value (set_of self.now bidder) (weights_of (lower_weights bounds.now) bidder) }
+        ensures value { result
+            ≡ value (set_of self.now bidder) (weights_of (lower_weights bounds.now) bidder) }
         ensures low { neg_ℤ (pos 200000000000) ≤ℤ result }
         ensures high { result ≤ℤ pos 200000000000 }
     {

@@ -129,7 +129,8 @@ impl Bounds {
     pub(crate) fn perturbed(&self, chosen: &NodeSet, node: u16) -> i64
         requires node { node < length self.now.lo }
         requires chosen { length chosen.now ≡ length self.now.lo }
-        ensures { result ≡ (if has chosen.now node then weight_of self.now.lo node else weight_of self.now.hi node) }
+        ensures { result ≡ (if has chosen.now node then weight_of self.now.lo node
+            else weight_of self.now.hi node) }
     {
         if chosen.has(node) {
             self.lo(node)

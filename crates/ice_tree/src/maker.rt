@@ -125,7 +125,8 @@ impl TreeMaker {
     }
 
     fn refusal(&self, kind: NodeKind, lo: i64, hi: i64) -> Option<TreeFault>
-        ensures { option_map tree_fault_number result ≡ draft_refusal self.now.goods self.now.draft kind lo hi }
+        ensures { option_map tree_fault_number result
+            ≡ draft_refusal self.now.goods self.now.draft kind lo hi }
     {
         if self.is_complete() {
             return Some(TreeFault::Unclosed);
@@ -158,7 +159,8 @@ impl TreeMaker {
     /// refusal leaves the maker as it was.
     pub fn open_choose(&mut self, least: u16, most: u16, lo: i64, hi: i64) -> Result<(), TreeFault>
         ensures made { OnOk result (self.new ≡ record self.old { draft = with_open self.old.draft (NodeKind.Choose least most) lo hi }) }
-        ensures refused { RefusedBy result (draft_refusal self.old.goods self.old.draft (NodeKind.Choose least most) lo hi) }
+        ensures refused { RefusedBy result
+            (draft_refusal self.old.goods self.old.draft (NodeKind.Choose least most) lo hi) }
         ensures unchanged { OnErr result (self.new ≡ self.old) }
     {
         let kind = NodeKind::Choose { least, most };
@@ -176,8 +178,10 @@ impl TreeMaker {
     /// outside their limits (`OutOfRange`).
     pub fn leaf(&mut self, kind: NodeKind, lo: i64, hi: i64) -> Result<(), TreeFault>
         requires { IsLeaf kind }
-        ensures made { OnOk result (self.new ≡ record self.old { draft = with_node self.old.draft kind lo hi }) }
-        ensures refused { RefusedBy result (draft_refusal self.old.goods self.old.draft kind lo hi) }
+        ensures made { OnOk result
+            (self.new ≡ record self.old { draft = with_node self.old.draft kind lo hi }) }
+        ensures refused { RefusedBy result
+            (draft_refusal self.old.goods self.old.draft kind lo hi) }
         ensures unchanged { OnErr result (self.new ≡ self.old) }
     {
         if let Some(fault) = self.refusal(kind, lo, hi) {
@@ -193,7 +197,8 @@ impl TreeMaker {
     /// Refuses where none is open (`Unclosed`), and where the node has no child or its interval
     /// doesn't fit its children (`BadInterval`). A refusal leaves the maker as it was.
     pub fn close(&mut self) -> Result<(), TreeFault>
-        ensures made { OnOk result (self.new ≡ record self.old { draft = with_closed self.old.draft }) }
+        ensures made { OnOk result
+            (self.new ≡ record self.old { draft = with_closed self.old.draft }) }
         ensures refused { RefusedBy result (draft_close_refusal self.old.draft) }
         ensures unchanged { OnErr result (self.new ≡ self.old) }
     {

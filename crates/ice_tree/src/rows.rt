@@ -38,7 +38,8 @@ impl Rows {
         requires children { length self.old.children.items ≡ length self.old.nodes.items }
         requires parent { 0 < length self.old.nodes.items → parent < length self.old.nodes.items }
         requires few { slice_index self.old.children.items parent < 200 }
-        ensures nodes { self.new.nodes.items ≡ self.old.nodes.items ++ record { kind = kind; parent = parent } ∷ [] }
+        ensures nodes { self.new.nodes.items
+            ≡ self.old.nodes.items ++ record { kind = kind; parent = parent } ∷ [] }
         ensures lo { self.new.lo.items ≡ self.old.lo.items ++ lo ∷ [] }
         ensures hi { self.new.hi.items ≡ self.old.hi.items ++ hi ∷ [] }
         ensures children { self.new.children.items ≡ one_child_more self.old.children.items parent }

@@ -18,10 +18,12 @@ fn common_multiple(fraction: &Frac, den: u64, most: u64) -> Option<u64>
     requires positive { 0 < den }
     requires fits { den ≤ most }
     requires most { most ≤ 2 ^ 32 }
+    // Where there is one
     ensures value { IfSome result (λ made. made ≡ lcm fraction.now.den den) }
     ensures fits { IfSome result (λ made. made ≤ most) }
     ensures positive { IfSome result (λ made. 0 < made) }
     ensures lowest { IfSome result (λ _. IsLowest fraction.now) }
+    // Where it is too great
     ensures none { IfNone result (most < lcm fraction.now.den den) }
 {
     if fraction.den() > u128::from(most) {
@@ -41,10 +43,12 @@ pub fn common_den(fractions: &[Frac], most: u64) -> Option<u64>
     requires fractions { AllByRecursion IsFraction fractions.now }
     requires some { 1 ≤ most }
     requires most { most ≤ 2 ^ 32 }
+    // Where there is one
     ensures value { IfSome result (λ den. den ≡ common_den fractions.now) }
     ensures fits { IfSome result (λ den. den ≤ most) }
     ensures positive { IfSome result (λ den. 0 < den) }
     ensures lowest { IfSome result (λ _. AllByRecursion IsLowest fractions.now) }
+    // Where it is too great
     ensures none { IfNone result (most < common_den fractions.now) }
 {
     let mut den = 1;

@@ -75,9 +75,11 @@ pub(crate) fn tree_of(goods: u8, bidder: &FlatBidder) -> Result<(Tree, Bounds), 
     requires few { goods ≤ 32 }
     requires some { 0 < length bidder.now.packages }
     requires packages { AllByRecursion (λ p. 0 < length p.units) bidder.now.packages }
+    // What comes of it
     ensures made { IfOk result (λ made. (made.0 ≡ flat_tree bidder.now)
         × (made.1 ≡ flat_bounds bidder.now)) }
     ensures refused { RefusedBy result (tree_refusal goods bidder.now) }
+    // On success
     ensures tree { IfOk result (λ made. IsLimitedTree goods made.0) }
     ensures bounds { IfOk result (λ made. AreBounds (length made.0) made.1) }
 {
