@@ -1,12 +1,12 @@
 -- One turn of a trace.
-use Rattle.std.proofs.Common.{◌≡◌, ℕ, zero, suc, ◌+◌, ◌-◌, ◌<◌, ◌≤◌, sym, ap, subst, arith, ◌∙◌, Option, Some, None, Result, Ok, Err, IfErr}
+use Rattle.std.proofs.Common.{◌≡◌, ℕ, zero, suc, ◌+◌, ◌-◌, ◌<◌, ◌≤◌, refl, sym, ap, subst, arith, ◌∙◌, Option, Some, None, Result, Ok, Err, IfErr}
 use Rattle.std.specs.Result.{IsErrAnd}
 use Rattle.ice_defs.specs.Dictionary.{Dictionary, Spot, Choice, is_least, is_unbounded, is_wide, pivots, choice, pivoted}
 use Rattle.ice_lp.specs.declared.ends.LpEnd.{LpEnd}
 use Rattle.ice_lp.specs.declared.ends.LpEnd.TheVariants.{Wide}
 use Rattle.ice_lp.specs.declared.trace.Turn.{Turn}
 use Rattle.ice_lp.specs.Turning.{choice_value}
-use Rattle.ice_lp.specs.Ending.{IsEnd}
+use Rattle.ice_lp.specs.Ending.{IsEnd, made_by, made_at, made_from}
 use Rattle.ice_defs.specs.Trace.{TraceEnd, least_end, infeasible_end, wide_end, pivots_end, and_pivot, at_choice, end_from}
 
 abbrev pub next_of : ℕ → ℕ → Option Dictionary → TraceEnd
@@ -55,3 +55,35 @@ unbounded_is left count d k e = end_is left count d (is_unbounded k) e
 
 pub wide_is : (left count : ℕ) (d : Dictionary) → choice d ≡ is_wide → end_from left count d ≡ wide_end
 wide_is left count d e = end_is left count d is_wide e
+
+-- ---- how many pivots are made
+
+-- none more at a choice that is too wide
+pub made_wide : (left count : ℕ) (d : Dictionary) → choice d ≡ is_wide → made_from left count d ≡ count
+unfolding made_from
+made_wide zero count d e = refl
+made_wide (suc left) count d e = ap (made_at count (made_from left (suc count)) d) e
+
+made_one : (left count l : ℕ) (d : Dictionary) (k : Spot) (o : Option Dictionary) → choice d ≡ pivots l k → pivoted d l k ≡ o
+    → made_from (suc left) count d ≡ made_by count (made_from left (suc count)) o
+unfolding made_from
+made_one left count l d k o e p = ap (made_at count (made_from left (suc count)) d) e ∙ ap (made_by count (made_from left (suc count))) p
+
+-- nor by a pivot that is
+pub made_wide_pivot : (left count l : ℕ) (d : Dictionary) (k : Spot) → 0 < left → choice d ≡ pivots l k → pivoted d l k ≡ None → made_from left count d ≡ count
+made_wide_pivot left count l d k h e p =
+    let one : left ≡ suc (left - 1) = omega arith in
+    ap (λ n. made_from n count d) one ∙ made_one (left - 1) count l d k None e p
+
+-- and one more by a pivot, with the numbers as code has them
+pub made_pivot : (left made start l : ℕ) (d after : Dictionary) (k : Spot) → 0 < left → start ≤ made → choice d ≡ pivots l k → pivoted d l k ≡ Some after
+    → made_from left (made - start) d ≡ made_from (left - 1) (made + 1 - start) after
+made_pivot left made start l d after k h low e p =
+    let one : left ≡ suc (left - 1) = omega arith in
+    let more : suc (made - start) ≡ made + 1 - start = omega arith in
+    ap (λ n. made_from n (made - start) d) one ∙ made_one (left - 1) (made - start) l d k (Some after) e p ∙ ap (λ n. made_from (left - 1) n after) more
+
+-- the count as code has it, behind an error
+pub counted_err : {T : Type 0} → (r : Result T LpEnd) (new old made : ℕ) → old ≤ new → made ≡ new - old → IfErr r (λ e. e ≡ Wide → new ≡ old + made)
+counted_err (Ok x) new old made low e = tt
+counted_err (Err x) new old made low e = λ is. omega (arith, low, e)

@@ -4,12 +4,17 @@ use Rattle.ice_program_laws.specs.Solutions.{IsPivot}
 use Rattle.ice_program_laws.proofs.Pivot.{pivot_keeps_solutions}
 use Rattle.ice_lp.specs.declared.trace.Turn.TheVariants.{Least, Unbounded, Pivot}
 use Rattle.ice_lp.specs.Turning.{IsPivotTurn}
-use Rattle.ice_lp.proofs.TraceEnds.{wide_err, choice_is, after_pivot, wide_pivot, spent, least_is, unbounded_is, wide_is}
+use Rattle.ice_lp.proofs.TraceEnds.{wide_err, choice_is, after_pivot, wide_pivot, spent, least_is, unbounded_is, wide_is, made_wide, made_wide_pivot, made_pivot, counted_err}
 use Rattle.ice_lp.proofs.trace.run.Goals as goal
 
 pub returns-in_err-next_turn-clause-stopped : goal.returns-in_err-next_turn-clause-stopped
 returns-in_err-next_turn-clause-stopped c =
     wide_err c.from_residual.result _ (c.turns.invariant.same ∙ wide_is c.turns.left (c.turns.pivots - c.args.pivots.now) c.turns.dictionary (sym c.in_err-next_turn.ensures.choice)) c.from_residual.ensures.1
+
+pub returns-in_err-next_turn-clause-counted_wide : goal.returns-in_err-next_turn-clause-counted_wide
+returns-in_err-next_turn-clause-counted_wide c =
+    counted_err c.from_residual.result c.turns.pivots c.args.pivots.now _ (omega (arith, c.turns.invariant.counted, c.turns.invariant.few))
+    (c.turns.invariant.made ∙ made_wide c.turns.left (c.turns.pivots - c.args.pivots.now) c.turns.dictionary (sym c.in_err-next_turn.ensures.choice))
 
 pub returns-in-Least-clause-ended : goal.returns-in-Least-clause-ended
 returns-in-Least-clause-ended c =
@@ -33,6 +38,13 @@ returns-in_err-pivot-in-Pivot-clause-stopped c =
     c.in_err-pivot-in-Pivot.ensures.wide)
     c.from_residual-in_err-pivot-in-Pivot.ensures.1
 
+pub returns-in_err-pivot-in-Pivot-clause-counted_wide : goal.returns-in_err-pivot-in-Pivot-clause-counted_wide
+returns-in_err-pivot-in-Pivot-clause-counted_wide c =
+    counted_err c.from_residual-in_err-pivot-in-Pivot.result c.turns.pivots c.args.pivots.now _ (omega (arith, c.turns.invariant.counted, c.turns.invariant.few))
+    (c.turns.invariant.made ∙ made_wide_pivot c.turns.left (c.turns.pivots - c.args.pivots.now) c.in-Pivot.leaving c.turns.dictionary c.in-Pivot.entering (omega arith)
+    (choice_is c.turns.dictionary (Pivot c.in-Pivot.leaving c.in-Pivot.entering) c.in_ok-next_turn.field-0 c.in-Pivot.is c.in_ok-next_turn.ensures.choice)
+    c.in_err-pivot-in-Pivot.ensures.wide)
+
 pub turns-preserved : goal.turns-preserved
 turns-preserved c =
     let low : c.args.pivots.now ≤ c.turns.pivots = omega (arith, c.turns.invariant.counted, c.turns.invariant.few) in
@@ -44,5 +56,7 @@ turns-preserved c =
       counted = omega (arith, c.turns.invariant.counted, some);
       proper = (pivot_keeps_solutions c.turns.dictionary c.pivot.new.self c.in-Pivot.leaving c.in-Pivot.entering c.turns.invariant.proper is_pivot made).0;
       same = c.turns.invariant.same ∙ after_pivot c.turns.left c.turns.pivots c.args.pivots.now c.in-Pivot.leaving c.turns.dictionary c.pivot.new.self c.in-Pivot.entering some low
+          (choice_is c.turns.dictionary (Pivot c.in-Pivot.leaving c.in-Pivot.entering) c.in_ok-next_turn.field-0 c.in-Pivot.is c.in_ok-next_turn.ensures.choice) made;
+      made = c.turns.invariant.made ∙ made_pivot c.turns.left c.turns.pivots c.args.pivots.now c.in-Pivot.leaving c.turns.dictionary c.pivot.new.self c.in-Pivot.entering some low
           (choice_is c.turns.dictionary (Pivot c.in-Pivot.leaving c.in-Pivot.entering) c.in_ok-next_turn.field-0 c.in-Pivot.is c.in_ok-next_turn.ensures.choice) made;
     }
