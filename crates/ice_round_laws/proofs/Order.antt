@@ -7,6 +7,7 @@ use Rattle.ice_defs.specs.declared.Verdict.TheVariants.{UnknownBidder}
 use Rattle.ice_defs.specs.Prices.{Prices}
 use Rattle.ice_defs.specs.Round.{Submission, Judged, Standing, is_accepted, of_name, IsVerdict, JudgesInOrder, is_known, IsRound, bounds_after, next_bounds}
 use Rattle.ice_round_laws.specs.Laws.{submissions_of, OrderIsFree}
+use Rattle.ice_round_laws.proofs.Apart.{AreJudged}
 use Rattle.ice_round_laws.proofs.Verdicts.{one_verdict}
 use Rattle.ice_defs.proofs.Naming.{same-bytes_eq}
 
@@ -60,11 +61,8 @@ unknown_all bidders name none (j ∷ later) all = by (bytes_eq name j.submission
 
 -- ---- any name
 
-abbrev JudgesAll : Prices → ℤ → List Judged → List Standing → Type 0
-JudgesAll p improve judged bidders = AllByRecursion (λ bidder. JudgesInOrder p improve bidder false (of_name bidder.name judged)) bidders
-
 known_same : (p : Prices) (improve : ℤ) (bidders : List Standing) (one other : List Judged) (name : List ℕ) → is_known bidders name ≡ true
-    → JudgesAll p improve one bidders → JudgesAll p improve other bidders → submissions_of name one ≡ submissions_of name other → of_name name one ≡ of_name name other
+    → AreJudged p improve bidders one → AreJudged p improve bidders other → submissions_of name one ≡ submissions_of name other → of_name name one ≡ of_name name other
 known_same p improve [] one other name known a b e = absurd (cc)
 known_same p improve (bidder ∷ bidders) one other name known a b e = by (bytes_eq bidder.name name) refl known (λ others. known_same p improve bidders one other name others a.1 b.1 e)
   where
