@@ -4,19 +4,19 @@ use crate::dictionary::Dictionary;
 use crate::equation::{Equation, Variable};
 use crate::numbers::{divisor, product, quotient};
 use crate::work::GivenUp;
-use ice_pricing::{Certificate, CertificateRow};
+use ice_pricing::{Certificate, CertificateRow, GREATEST_WEIGHT};
 use std::alloc::Global;
 
-/// The greatest denominator of prices and certificates, and the greatest weight.
-pub(crate) const LARGEST: i128 = 4_294_967_296;
+/// The greatest denominator of prices and of weights, and the greatest weight.
+pub(crate) const GREATEST_DEN: i128 = GREATEST_WEIGHT as i128;
 
 /// The least common multiple of two numbers from 1 to 2^32, where it is at most 2^32 too.
 fn common_multiple(den: i128, other: i128) -> Result<i128, GivenUp> {
-    if other > LARGEST {
+    if other > GREATEST_DEN {
         return Err(GivenUp::Long);
     }
     let multiple = product(quotient(den, divisor(den, other)), other)?;
-    if multiple > LARGEST {
+    if multiple > GREATEST_DEN {
         return Err(GivenUp::Long);
     }
     Ok(multiple)
@@ -37,7 +37,7 @@ fn num_over(num: i128, den: i128, common: i128) -> Result<i128, GivenUp> {
 
 /// A weight from 0 to 2^32.
 fn weight_of(number: i128) -> Result<u64, GivenUp> {
-    if number > LARGEST {
+    if number > GREATEST_DEN {
         return Err(GivenUp::Long);
     }
     u64::try_from(number).map_err(|_| GivenUp::Wide)

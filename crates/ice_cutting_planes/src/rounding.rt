@@ -1,7 +1,7 @@
 //! Prices over a long denominator, rounded where no price passes a top, and neither the violation
 //! nor the greatest gap grows.
 use crate::asked::Asked;
-use crate::certified::LARGEST;
+use crate::certified::GREATEST_DEN;
 use crate::dictionary::Point;
 use crate::nets::LongPrices;
 use crate::numbers::{divisor_of, product, quotient, sum};
@@ -57,7 +57,7 @@ impl Rounding {
     pub(crate) fn fits(&self) -> Result<bool, GivenUp> {
         let whole = product(self.den, 100)?;
         let shared = divisor_of(whole, &self.nums);
-        Ok(quotient(whole, shared) <= LARGEST)
+        Ok(quotient(whole, shared) <= GREATEST_DEN)
     }
 
     /// Whether no bidder gains more than the violation, and no gap has grown past the greatest one.

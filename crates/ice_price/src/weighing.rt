@@ -7,8 +7,8 @@ ghost use Rattle.ice_turns.specs.Large.{AreLarge, IsStoppedBy};
 
 use ice_defs::LimitKind;
 use ice_frac::Frac;
-use ice_pricing::Certificate;
-use ice_turns::{LARGEST, PoolMember, Stop, common_den, member_rows, numerators, weights_of};
+use ice_pricing::{Certificate, GREATEST_WEIGHT};
+use ice_turns::{PoolMember, Stop, common_den, member_rows, numerators, weights_of};
 use std::alloc::Global;
 
 /// The certificate that the duals of a pool's members make, times a factor. It stops where the
@@ -28,12 +28,12 @@ pub(crate) fn certified(
     ensures stopped { let ws = weights_of_duals factor duals.now in
         IfErr result (IsStoppedBy (AreLarge (2 ^ 32) ws)) }
 {
-    let weights = weights_of(alloc, factor, duals, LARGEST)?;
-    let den = match common_den(&weights, LARGEST) {
+    let weights = weights_of(alloc, factor, duals, GREATEST_WEIGHT)?;
+    let den = match common_den(&weights, GREATEST_WEIGHT) {
         Some(den) => den,
         None => return Err(Stop::AtLimit(LimitKind::Den)),
     };
-    let numbers = numerators(alloc, &weights, den, LARGEST)?;
+    let numbers = numerators(alloc, &weights, den, GREATEST_WEIGHT)?;
     let rows = member_rows(alloc, pool, &numbers)?;
     Ok(Certificate { den, rows })
 }

@@ -2,6 +2,7 @@
 ghost use Rattle.std.specs.Prelude.{IsTrue};
 ghost use Rattle.ice_pricing.specs.Priced.{IsLimited};
 
+use ice_defs::GREATEST_DENOMINATOR;
 use ice_terms::Prices;
 use ice_tree::NodeSet;
 use std::marker::Model;
@@ -42,8 +43,8 @@ impl Model for Certificate {
     ghost view = { λ c. record { den = c.den; rows = c.rows.items } };
 }
 
-/// The greatest denominator of a certificate, and the greatest weight of a row.
-const LARGEST: u64 = 4_294_967_296;
+/// The greatest weight of a row, and the greatest denominator of weights and of prices.
+pub const GREATEST_WEIGHT: u64 = GREATEST_DENOMINATOR as u64;
 
 impl Certificate {
     /// Whether the denominator is from 1 to 2^32, and there are at most 200 rows, each with a
@@ -52,11 +53,11 @@ impl Certificate {
         ensures yes { IsTrue result → IsLimited self.now }
         ensures no { IsLimited self.now → IsTrue result }
     {
-        if self.den == 0 || self.den > LARGEST || self.rows.len() > 200 {
+        if self.den == 0 || self.den > GREATEST_WEIGHT || self.rows.len() > 200 {
             return false;
         }
         for row in &self.rows {
-            if row.weight > LARGEST {
+            if row.weight > GREATEST_WEIGHT {
                 return false;
             }
         }

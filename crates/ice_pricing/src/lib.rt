@@ -11,7 +11,7 @@ mod rows;
 mod tally;
 mod weights;
 
-pub use certificate::{Certificate, CertificateRow, Pricing};
+pub use certificate::{Certificate, CertificateRow, GREATEST_WEIGHT, Pricing};
 pub use check::check_pricing;
 pub use ice_certificate::{Excess, Scratch};
 pub use lawful::are_lawful;

@@ -9,9 +9,6 @@ use arrayvec::ArrayVec;
 use ice_frac::{Frac, common_divisor};
 use ice_terms::Prices;
 
-/// The greatest denominator of prices and certificates, and the greatest weight.
-pub const LARGEST: u64 = 4_294_967_296;
-
 /// The least common multiple of the fraction's denominator and a number up to a limit, which is at
 /// most 2^32. None exactly where it is above the limit.
 fn common_multiple(fraction: &Frac, den: u64, most: u64) -> Option<u64>

@@ -13,7 +13,7 @@ mod weighing;
 mod work;
 
 pub use ends::Stop;
-pub use fractions::{LARGEST, common_den, num_over, over};
+pub use fractions::{common_den, num_over, over};
 pub use pool::PoolMember;
 pub use program::{last_alone, least_above, member_units, times_units, zeros};
 pub use solution::{Solution, solve_turn};

@@ -8,12 +8,12 @@ ghost use Rattle.ice_defs.specs.Rows.{HasCommonDivisor};
 ghost use Rattle.ice_turns.specs.Steps.{IsStep, IsStepStop};
 
 use crate::ends::Stop;
-use crate::fractions::{LARGEST, common_den, prices_over};
+use crate::fractions::{common_den, prices_over};
 use crate::pool::PoolMember;
 use crate::scan::{Scan, scan_bidders};
 use ice_defs::LimitKind;
 use ice_frac::Frac;
-use ice_pricing::{Provisional, Scratch};
+use ice_pricing::{GREATEST_WEIGHT, Provisional, Scratch};
 use ice_terms::Prices;
 
 /// What a least point asks for.
@@ -40,7 +40,7 @@ fn prices_of(trade: &Provisional<'_>, point: &[Frac]) -> Option<Prices>
         IfNone result (2 ^ 32 < p.den) }
 {
     let prices = &point[..usize::from(trade.goods())];
-    let den = common_den(prices, LARGEST)?;
+    let den = common_den(prices, GREATEST_WEIGHT)?;
     Some(prices_over(prices, den))
 }
 

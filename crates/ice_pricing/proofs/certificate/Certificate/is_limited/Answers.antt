@@ -12,7 +12,7 @@ returns-clause-yes c =
     let few : length c.self.inside.rows.items ≤ 200 = search rules in
     λ h. record {
       positive = omega (arith, den, not_zero);
-      den_fits = omega (arith, den, c.if-self-gt-LARGEST.false);
+      den_fits = omega (arith, den, c.if-self-gt-GREATEST_WEIGHT.false);
       few = omega (arith, rows, few);
       weights_fit = recursion_from_All (λ (row : Row). row.weight ≤ 2 ^ 32) c.args.self.now.rows
           (λ k d lt. c.loop-row.invariant k d (omega (arith, lt, rows, read, c.loop-row-test.false)));
