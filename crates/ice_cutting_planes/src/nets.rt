@@ -24,13 +24,14 @@ pub(crate) struct Excess {
     pub(crate) amount: i128,
 }
 
+/// The greatest size of a node's net at prices over a long denominator: 2^90.
+const GREATEST_NET: i128 = 1_237_940_039_285_380_274_899_124_224;
+
 /// A number that is at most 2^90 in size.
 fn small(number: i128) -> Result<i128, GivenUp>
     ensures { IfOk result IsSmall }
 {
-    if number > 1_237_940_039_285_380_274_899_124_224
-        || number < -1_237_940_039_285_380_274_899_124_224
-    {
+    if number > GREATEST_NET || number < -GREATEST_NET {
         return Err(GivenUp::Wide);
     }
     Ok(number)

@@ -14,9 +14,12 @@ pub(crate) fn sum(one: i128, other: i128) -> Result<i128, GivenUp> {
     one.checked_add(other).ok_or(GivenUp::Wide)
 }
 
+/// The least size of a number that isn't short: 2^62.
+const LEAST_LONG: i128 = 4_611_686_018_427_387_904;
+
 /// Whether a number is below 2^62 in size.
 fn is_short(number: i128) -> bool {
-    number > -4_611_686_018_427_387_904 && number < 4_611_686_018_427_387_904
+    number > -LEAST_LONG && number < LEAST_LONG
 }
 
 /// The sum of two products, where they fit. Those of short numbers always do.
