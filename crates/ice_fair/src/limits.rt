@@ -3,11 +3,8 @@ ghost use Rattle.std.specs.Prelude.{◌≤◌, ◌^◌, IsTrue};
 ghost use Rattle.std.specs.List.{AllByRecursion};
 ghost use Rattle.ice_fair_stage.specs.Certified.{IsFairLimited};
 
-use ice_fair_stage::FairCertificate;
+use ice_fair_stage::{FairCertificate, GREATEST_FAIR_NUMBER};
 use ice_pricing::CertificateRow;
-
-/// The greatest denominator of a certificate, and the greatest weight.
-const LARGEST: u64 = 16_777_216;
 
 /// Whether no number is above 2^24.
 fn are_small(numbers: &[u64]) -> bool
@@ -15,7 +12,7 @@ fn are_small(numbers: &[u64]) -> bool
     ensures no { AllByRecursion (λ n. n ≤ 2 ^ 24) numbers.now → IsTrue result }
 {
     for number in numbers {
-        if *number > LARGEST {
+        if *number > GREATEST_FAIR_NUMBER {
             return false;
         }
     }
@@ -28,7 +25,7 @@ fn have_small_weights(rows: &[CertificateRow]) -> bool
     ensures no { AllByRecursion (λ row. row.weight ≤ 2 ^ 24) rows.now → IsTrue result }
 {
     for row in rows {
-        if row.weight > LARGEST {
+        if row.weight > GREATEST_FAIR_NUMBER {
             return false;
         }
     }
@@ -42,7 +39,7 @@ pub(crate) fn is_fair_limited(certificate: &FairCertificate, bidders: u8) -> boo
     ensures no { IsFairLimited bidders certificate.now → IsTrue result }
 {
     let den = certificate.certificate.den;
-    if den == 0 || den > LARGEST || certificate.certificate.rows.len() > 200 {
+    if den == 0 || den > GREATEST_FAIR_NUMBER || certificate.certificate.rows.len() > 200 {
         return false;
     }
     let bidders = usize::from(bidders);

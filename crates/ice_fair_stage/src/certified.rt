@@ -16,8 +16,9 @@ use ice_pricing::{Certificate, Provisional};
 use ice_turns::{PoolMember, Stop, common_den, member_rows, numerators, weights_of};
 use std::alloc::{AllocError, Global};
 
-/// The greatest denominator of certificates of fair prices, and the greatest number.
-const MOST: u64 = 16_777_216;
+/// The greatest denominator of a certificate of fair prices, and the greatest number of a bidder or
+/// weight of a row.
+pub const GREATEST_FAIR_NUMBER: u64 = 16_777_216;
 
 /// For each bidder two numbers.
 #[derive(Drop)]
@@ -61,8 +62,8 @@ fn all_weights(
     ensures stopped { let ws = weights_of_duals cut own.now ++ weights_of_duals den members.now in
         IfErr result (IsStoppedBy (AreLarge (2 ^ 24) ws)) }
 {
-    let mut made = weights_of(alloc, u64::from(cut), own, MOST)?;
-    let later = weights_of(alloc, den, members, MOST)?;
+    let mut made = weights_of(alloc, u64::from(cut), own, GREATEST_FAIR_NUMBER)?;
+    let later = weights_of(alloc, den, members, GREATEST_FAIR_NUMBER)?;
     made.extend_from_slice(&later)?;
     Ok(made)
 }
@@ -82,11 +83,11 @@ fn made_of(
     ensures value { IfOk result (IsCertificate bidders pool.now weights.now) }
     ensures stopped { IfErr result (IsStoppedBy (AreLarge (2 ^ 24) weights.now)) }
 {
-    let den = match common_den(weights, MOST) {
+    let den = match common_den(weights, GREATEST_FAIR_NUMBER) {
         Some(den) => den,
         None => return Err(Stop::AtLimit(LimitKind::Den)),
     };
-    let numbers = numerators(alloc, weights, den, MOST)?;
+    let numbers = numerators(alloc, weights, den, GREATEST_FAIR_NUMBER)?;
     let (own, members) = numbers.split_at(2 * usize::from(bidders));
     let Holds { low, high } = holds_of(alloc, own, bidders)?;
     let rows = member_rows(alloc, pool, members)?;

@@ -12,5 +12,6 @@ mod stage;
 mod turn;
 
 pub use certificate::FairCertificate;
+pub use certified::GREATEST_FAIR_NUMBER;
 pub use ends::{FairLimit, FairStageEnd, FairStop};
 pub use run::run_fair_stage;
