@@ -3,10 +3,10 @@ ghost use Rattle.ice_edge.specs.Puts.{IsPut};
 ghost use Rattle.ice_write_fair.specs.Lines.{last_line, fair_lines};
 ghost use Rattle.ice_write_fair.specs.Writable.{IsWritableFair};
 
-use crate::accuracy::put_accuracy;
 use crate::certificate::{put_certificate, put_distance};
 use ice_edge::{Sink, SinkFault};
 use ice_fair::Fair;
+use ice_write_session::put_accuracy;
 
 /// Puts the last line.
 fn put_end<K: Sink>(out: &mut K) -> Result<(), SinkFault>
@@ -23,7 +23,7 @@ pub fn put_fair<K: Sink>(fair: &Fair, out: &mut K) -> Result<(), SinkFault>
     requires { IsWritableFair fair.now }
     ensures { IsPut (fair_lines fair.now) result (K.taken out.old) (K.taken out.new) }
 {
-    put_accuracy(fair, out)?;
+    put_accuracy(&fair.prices, &fair.delta, &fair.accuracy, out)?;
     put_distance(&fair.distance, out)?;
     put_certificate(&fair.certificate, out)?;
     put_end(out)

@@ -2,7 +2,6 @@
 //! time. No call takes memory.
 #![tactic(auto)]
 
-mod accuracy;
 mod certificate;
 mod fair;
 mod holds;

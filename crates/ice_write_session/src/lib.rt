@@ -18,7 +18,7 @@ pub use closing::put_closing;
 pub use group::{put_final, put_provisional, put_rival, put_spent};
 pub use halt::{put_halt, put_limit, put_pool};
 pub use opening::put_opening;
-pub use pricing::{put_prices, put_rows};
+pub use pricing::{put_accuracy, put_rows};
 pub use record::{put_end, put_line};
 pub use regret::put_regret;
 pub use submission::put_judged;

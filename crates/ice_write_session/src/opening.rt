@@ -25,8 +25,9 @@ fn put_offer<K: Sink>(exchange: &Exchange, opening: &Opening, out: &mut K) -> Re
         (going_of opening.now []))) result (K.taken out.old) (K.taken out.new) }
 {
     put_provisional(exchange, &opening.provisional, out)?;
-    put_accuracy(&opening.pricing, out)?;
-    put_balance(&opening.pricing.balance, out)
+    let pricing = &opening.pricing;
+    put_accuracy(&pricing.prices, &pricing.delta, &pricing.accuracy, out)?;
+    put_balance(&pricing.balance, out)
 }
 
 /// Puts a settlement that opens a round of this exchange, before its submissions: its number, the

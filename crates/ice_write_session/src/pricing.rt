@@ -12,12 +12,12 @@ ghost use Rattle.ice_write_session.specs.Writable.{IsWritableRow, IsWritableCert
 use crate::record::put_line;
 use ice_edge::{Sink, SinkFault};
 use ice_journal::Line;
-use ice_pricing::{Certificate, CertificateRow, Pricing};
+use ice_pricing::{Certificate, CertificateRow};
 use ice_terms::Prices;
 use ice_write::put_record;
 
-/// Puts the `prices` record. It takes no memory.
-pub fn put_prices<K: Sink>(prices: &Prices, out: &mut K) -> Result<(), SinkFault>
+/// Puts the `prices` record.
+fn put_prices<K: Sink>(prices: &Prices, out: &mut K) -> Result<(), SinkFault>
     ensures { IsPut (bytes_of (line.prices prices.now ∷ [])) result
         (K.taken out.old) (K.taken out.new) }
 {
@@ -67,15 +67,19 @@ fn den_of(certificate: &Certificate) -> u64
 }
 
 /// Puts the violation, and the denominator of its certificate.
-fn put_violation<K: Sink>(pricing: &Pricing, out: &mut K) -> Result<(), SinkFault>
-    requires violation { IsViolationField pricing.now.delta }
-    requires den { IsDen pricing.now.accuracy.den }
-    ensures { IsPut (bytes_of (line.accuracy pricing.now.delta pricing.now.accuracy.den ∷ []))
-        result (K.taken out.old) (K.taken out.new) }
+fn put_violation<K: Sink>(
+    violation: &i128,
+    accuracy: &Certificate,
+    out: &mut K,
+) -> Result<(), SinkFault>
+    requires violation { IsViolationField violation.now }
+    requires den { IsDen accuracy.now.den }
+    ensures { IsPut (bytes_of (line.accuracy violation.now accuracy.now.den ∷ [])) result
+        (K.taken out.old) (K.taken out.new) }
 {
     let line = Line::Accuracy {
-        violation: pricing.delta,
-        den: den_of(&pricing.accuracy),
+        violation: *violation,
+        den: den_of(accuracy),
     };
     put_line(&line, out)
 }
@@ -92,17 +96,23 @@ fn put_balance_den<K: Sink>(balance: &Certificate, out: &mut K) -> Result<(), Si
     put_line(&line, out)
 }
 
-/// Puts the prices, their violation, and the certificate of it.
-pub(crate) fn put_accuracy<K: Sink>(pricing: &Pricing, out: &mut K) -> Result<(), SinkFault>
-    requires violation { IsViolationField pricing.now.delta }
-    requires certificate { IsWritableCertificate pricing.now.accuracy }
-    ensures { IsPut (bytes_of (line.prices pricing.now.prices
-        ∷ line.accuracy pricing.now.delta pricing.now.accuracy.den
-        ∷ map row_record pricing.now.accuracy.rows)) result (K.taken out.old) (K.taken out.new) }
+/// Puts prices, their violation, and the certificate of it, whose numbers are in the ranges of
+/// their records. It takes no memory.
+pub fn put_accuracy<K: Sink>(
+    prices: &Prices,
+    violation: &i128,
+    accuracy: &Certificate,
+    out: &mut K,
+) -> Result<(), SinkFault>
+    requires violation { IsViolationField violation.now }
+    requires certificate { IsWritableCertificate accuracy.now }
+    ensures { IsPut (bytes_of (line.prices prices.now
+        ∷ line.accuracy violation.now accuracy.now.den
+        ∷ map row_record accuracy.now.rows)) result (K.taken out.old) (K.taken out.new) }
 {
-    put_prices(&pricing.prices, out)?;
-    put_violation(pricing, out)?;
-    put_rows(&pricing.accuracy, out)
+    put_prices(prices, out)?;
+    put_violation(violation, accuracy, out)?;
+    put_rows(accuracy, out)
 }
 
 /// Puts the certificate of the greatest price.
