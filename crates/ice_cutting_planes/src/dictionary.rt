@@ -90,8 +90,8 @@ fn first_equation(
     })
 }
 
-/// The equations of all columns: of so many goods, and of the last
-/// one, in which each good has `last` with its sign turned.
+/// The equations of all columns: of so many goods, and of the last one, in which each good has
+/// `last` with its sign turned.
 fn first_equations(alloc: Global, goods: u8, last: i128) -> Result<Vec<Equation>, AllocError> {
     let mut left = Vec::new(alloc);
     for column in 0..goods {

@@ -1,5 +1,5 @@
-//! The records of a session's settlements, put into a sink one line at a time, in version 2. No
-//! call takes memory.
+//! The records of a session's settlements and submissions, put into a sink one line at a time, in
+//! version 2. No call takes memory.
 #![tactic(auto)]
 
 mod closing;
