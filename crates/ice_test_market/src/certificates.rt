@@ -40,21 +40,62 @@ fn with_leaf(leaf: u16) -> NodeSet
     set
 }
 
+/// Whether rows of both leaves pass the test of accuracy at a violation of 500 and of 499, and that
+/// of balance.
+fn passes_of_both(tree: &Tree, weights: &Weights, prices: &Prices) -> [bool; 3]
+    requires tree { length tree.now ≡ 3 }
+    requires nodes { length weights.now ≡ 3 }
+    requires modest { AreAtMostTrillion weights.now }
+{
+    let own = NodeSet::empty(3);
+    let mut sums = RowSums::new();
+    sums.add(tree, weights, &own, 1, &with_leaf(1));
+    sums.add(tree, weights, &own, 1, &with_leaf(2));
+    [
+        sums.pass_accuracy(1, 100, prices, 500, 2),
+        sums.pass_accuracy(1, 100, prices, 499, 2),
+        sums.pass_balance(1, prices, 500, 2),
+    ]
+}
+
+/// Whether a row of a purchase passes the test of balance at 0 and at 1.
+fn passes_of_a_purchase(tree: &Tree, weights: &Weights, prices: &Prices) -> [bool; 2]
+    requires tree { length tree.now ≡ 3 }
+    requires nodes { length weights.now ≡ 3 }
+    requires modest { AreAtMostTrillion weights.now }
+{
+    let mut sums = RowSums::new();
+    sums.add(tree, weights, &NodeSet::empty(3), 1, &with_leaf(1));
+    [
+        sums.pass_balance(1, prices, 0, 1),
+        sums.pass_balance(1, prices, 1, 1),
+    ]
+}
+
+/// The greatest excess over nothing.
+fn most_above_nothing(tree: &Tree, weights: &Weights, prices: &Prices) -> i128
+    requires tree { length tree.now ≡ 3 }
+    requires nodes { length weights.now ≡ 3 }
+    requires modest { AreAtMostTrillion weights.now }
+{
+    best_excess(
+        tree,
+        weights,
+        &NodeSet::empty(3),
+        prices,
+        &mut Scratch::new(),
+    )
+    .amount
+}
+
 #[test]
 fn rows_of_one_bidder(rt: HostRuntime) -> Result<(), Fail> {
     let tree = buys_or_sells()?;
     assert!(rt; tree.nodes() == 3);
-    let weights = worth_of_buying();
-    let own = NodeSet::empty(3);
     let prices = Prices::new(1, &[5]).ok_or("prices")?;
-    let mut sums = RowSums::new();
-    sums.add(&tree, &weights, &own, 1, &with_leaf(1));
-    sums.add(&tree, &weights, &own, 1, &with_leaf(2));
-    assert!(rt; sums.pass_accuracy(1, 100, &prices, 500, 2));
-    assert!(rt; !sums.pass_accuracy(1, 100, &prices, 499, 2));
-    assert!(rt; !sums.pass_balance(1, &prices, 500, 2));
-    let most = best_excess(&tree, &weights, &own, &prices, &mut Scratch::new());
-    assert_eq!(rt; most.amount, 500);
+    let weights = worth_of_buying();
+    assert!(rt; passes_of_both(&tree, &weights, &prices) == [true, false, false]);
+    assert_eq!(rt; most_above_nothing(&tree, &weights, &prices), 500);
     Ok(())
 }
 
@@ -63,15 +104,6 @@ fn row_of_a_buyer(rt: HostRuntime) -> Result<(), Fail> {
     let tree = buys_or_sells()?;
     assert!(rt; tree.nodes() == 3);
     let prices = Prices::new(1, &[10]).ok_or("prices")?;
-    let mut sums = RowSums::new();
-    sums.add(
-        &tree,
-        &worth_of_buying(),
-        &NodeSet::empty(3),
-        1,
-        &with_leaf(1),
-    );
-    assert!(rt; sums.pass_balance(1, &prices, 0, 1));
-    assert!(rt; !sums.pass_balance(1, &prices, 1, 1));
+    assert!(rt; passes_of_a_purchase(&tree, &worth_of_buying(), &prices) == [true, false]);
     Ok(())
 }

@@ -283,55 +283,121 @@ fn found(
     Some((loss(&at, scratch), mrpar(&then, scratch), improves))
 }
 
+/// A tree with bounds, narrower ones, which are listed too, and prices.
+#[derive(Drop)]
+struct Case<'a> {
+    tree: &'a Tree,
+    old: &'a Bounds,
+    new: &'a Bounds,
+    lo: &'a [i64],
+    hi: &'a [i64],
+    prices: &'a Prices,
+    improve: i64,
+}
+
+/// Whether the rules find of a set what they must find.
+fn agrees(case: &Case<'_>, set: &NodeSet, want: &Expected, scratch: &mut Scratch) -> bool {
+    let tree = case.tree;
+    let improve = case.improve;
+    let rules = found(tree, case.old, case.new, set, case.prices, improve, scratch);
+    let judged = verdict(tree, case.old, case.lo, case.hi, set, case.prices, improve);
+    rules == Some((want.loss, want.mrpar, want.improves)) && judged == Some(want.verdict)
+}
+
+/// How many sets have been refused by the first rule, and by the second, and accepted.
+#[derive(Drop)]
+struct Counts {
+    first: u16,
+    second: u16,
+    accepted: u16,
+}
+
+impl Counts {
+    fn add(&mut self, verdict: Verdict) {
+        match verdict {
+            Verdict::Mrpar => self.first = self.first.wrapping_add(1),
+            Verdict::Improve => self.second = self.second.wrapping_add(1),
+            _ => self.accepted = self.accepted.wrapping_add(1),
+        }
+    }
+}
+
+/// The first satisfied set of which the rules find something else than by all sets and corners.
+fn first_at_fault(
+    case: &Case<'_>,
+    before: &Nets,
+    after: &Nets,
+    fall: i64,
+    counts: &mut Counts,
+    scratch: &mut Scratch,
+) -> Option<u16> {
+    let nodes = case.tree.nodes();
+    for bits in 0..64u16 {
+        let place = usize::from(bits);
+        let set = set_of(nodes, bits);
+        if !before.satisfied[place] || case.tree.is_satisfied(&set).is_err() {
+            continue;
+        }
+        let want = expected_of(before, after, place, fall);
+        if !agrees(case, &set, &want, scratch) {
+            return Some(bits);
+        }
+        counts.add(want.verdict);
+    }
+    None
+}
+
+/// The same of a drawn tree with drawn bounds and prices.
+fn first_of_drawn(
+    draw: &mut Draw,
+    counts: &mut Counts,
+    scratch: &mut Scratch,
+) -> Result<Option<u16>, Fail> {
+    let (tree, old) = drawn_tree(draw)?;
+    let nums = [i64::from(draw.below(7)), i64::from(draw.below(7))];
+    let den = 1 + i64::from(draw.below(3));
+    let improve = i64::from(draw.below(4));
+    let terms = [i128::from(nums[0]), i128::from(nums[1])];
+    let prices = Prices::new(den, &terms).ok_or("prices")?;
+    let (lo, hi) = drawn_inside(&old, draw);
+    let nodes = tree.nodes();
+    if nodes > 6 {
+        return Err("nodes".into());
+    }
+    let lo = &lo[..usize::from(nodes)];
+    let hi = &hi[..usize::from(nodes)];
+    let Ok(new) = tree.set_bounds(lo, hi) else {
+        return Err("bounds".into());
+    };
+    let before = Nets::of(&tree, &old, den, nums);
+    let after = Nets::of(&tree, &new, den, nums);
+    let case = Case {
+        tree: &tree,
+        old: &old,
+        new: &new,
+        lo,
+        hi,
+        prices: &prices,
+        improve,
+    };
+    let fall = improve.wrapping_mul(den);
+    Ok(first_at_fault(&case, &before, &after, fall, counts, scratch))
+}
+
 #[test]
 fn the_rules_agree_with_all_sets_and_corners(rt: HostRuntime) -> Result<(), Fail> {
     let mut draw = Draw { state: 1 };
     let mut scratch = Scratch::new();
-    let mut accepted = 0u16;
-    let mut first = 0u16;
-    let mut second = 0u16;
+    let mut counts = Counts {
+        first: 0,
+        second: 0,
+        accepted: 0,
+    };
     for round in 0..60u16 {
-        let (tree, old) = drawn_tree(&mut draw)?;
-        let nums = [i64::from(draw.below(7)), i64::from(draw.below(7))];
-        let den = 1 + i64::from(draw.below(3));
-        let improve = i64::from(draw.below(4));
-        let terms = [i128::from(nums[0]), i128::from(nums[1])];
-        let prices = Prices::new(den, &terms).ok_or("prices")?;
-        let (lo, hi) = drawn_inside(&old, &mut draw);
-        let nodes = tree.nodes();
-        assert!(rt; nodes <= 6);
-        let lo = &lo[..usize::from(nodes)];
-        let hi = &hi[..usize::from(nodes)];
-        let Ok(new) = tree.set_bounds(lo, hi) else {
-            return Err("bounds".into());
-        };
-        let before = Nets::of(&tree, &old, den, nums);
-        let after = Nets::of(&tree, &new, den, nums);
-        for bits in 0..64u16 {
-            let place = usize::from(bits);
-            let set = set_of(nodes, bits);
-            if !before.satisfied[place] || tree.is_satisfied(&set).is_err() {
-                continue;
-            }
-            let want = expected_of(&before, &after, place, improve.wrapping_mul(den));
-            let rules = found(&tree, &old, &new, &set, &prices, improve, &mut scratch);
-            assert_eq!(rt;
-                rules,
-                Some((want.loss, want.mrpar, want.improves)),
-                "round {round}, set {bits}"
-            );
-            let judged = verdict(&tree, &old, lo, hi, &set, &prices, improve);
-            assert_eq!(rt; judged, Some(want.verdict), "round {round}, set {bits}");
-            match want.verdict {
-                Verdict::Mrpar => first = first.wrapping_add(1),
-                Verdict::Improve => second = second.wrapping_add(1),
-                _ => accepted = accepted.wrapping_add(1),
-            }
-        }
+        let fault = first_of_drawn(&mut draw, &mut counts, &mut scratch)?;
+        assert_eq!(rt; fault, None, "in round {round}");
     }
-    assert!(rt;
-        20 < first && 20 < accepted && 20 < second,
-        "{accepted} {first} {second}"
-    );
+    let counts = [counts.accepted, counts.first, counts.second];
+    assert!(rt; 20 < counts[0] && 20 < counts[1] && 20 < counts[2]);
     Ok(())
 }

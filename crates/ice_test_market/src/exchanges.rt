@@ -90,85 +90,114 @@ fn refusal(maker: ExchangeMaker) -> Option<MakeFault> {
     maker.finish().err()
 }
 
+/// What a maker answers to four goods, how many goods and bidders it has then, and the refusal of
+/// its end.
+fn answers_to_goods(
+    alloc: Global,
+) -> Result<([Result<u8, MakeFault>; 4], [u8; 2], Option<MakeFault>), Fail> {
+    let mut maker = ExchangeMaker::new(alloc, settings()?)?;
+    let answers = [
+        add_good(&mut maker, "a b", false),
+        add_good(&mut maker, "A", false),
+        add_good(&mut maker, "A", true),
+        add_good(&mut maker, "B", true),
+    ];
+    let counts = [maker.goods(), maker.bidders()];
+    Ok((answers, counts, refusal(maker)))
+}
+
 #[test]
 fn refuses_goods(rt: HostRuntime) -> Result<(), Fail> {
-    let mut maker = ExchangeMaker::new(rt.alloc(), settings()?)?;
-    for (name, exact, answer) in [
-        ("a b", false, Err(MakeFault::BadName)),
-        ("A", false, Ok(0)),
-        ("A", true, Err(MakeFault::DuplicateGood)),
-        ("B", true, Ok(1)),
-    ] {
-        assert_eq!(rt; add_good(&mut maker, name, exact), answer);
-    }
-    assert_eq!(rt; maker.goods(), 2);
-    assert_eq!(rt; maker.bidders(), 0);
-    assert_eq!(rt; refusal(maker), Some(MakeFault::Empty));
+    let (answers, counts, refusal) = answers_to_goods(rt.alloc())?;
+    assert!(rt;
+        answers
+            == [
+                Err(MakeFault::BadName),
+                Ok(0),
+                Err(MakeFault::DuplicateGood),
+                Ok(1)
+            ]
+    );
+    assert!(rt; counts == [2, 0]);
+    assert_eq!(rt; refusal, Some(MakeFault::Empty));
     Ok(())
+}
+
+/// What a maker answers to a bidder that owns so much and may sell two units.
+fn answer_to_two_sales(maker: &mut ExchangeMaker, own: u32) -> Result<Result<u8, MakeFault>, Fail>
+    requires goods { length maker.old.goods ≡ 1 }
+    requires own { own ≤ 1000000 }
+    ensures { length maker.new.goods ≡ 1 }
+{
+    let (tree, bounds) = two_sales()?;
+    Ok(add(maker, "s", own, tree, bounds))
 }
 
 #[test]
 fn refuses_bidders(rt: HostRuntime) -> Result<(), Fail> {
     let mut maker = one_good(rt.alloc(), false)?;
-    let (tree, bounds) = two_sales()?;
-    let refused = add(&mut maker, "s", 1, tree, bounds);
-    assert_eq!(rt; refused, Err(MakeFault::OverSale { good: 0, amount: 2 }));
-    let (tree, bounds) = two_sales()?;
-    let added = add(&mut maker, "s", 2, tree, bounds);
-    assert_eq!(rt; added, Ok(0));
-    assert_eq!(rt; add_good(&mut maker, "B", false), Err(MakeFault::Late));
+    let refused = answer_to_two_sales(&mut maker, 1)?;
+    let added = answer_to_two_sales(&mut maker, 2)?;
+    let late = add_good(&mut maker, "B", false);
+    assert!(rt; refused == Err(MakeFault::OverSale { good: 0, amount: 2 }));
+    assert!(rt; added == Ok(0) && late == Err(MakeFault::Late));
     Ok(())
 }
 
 #[test]
 fn numbers_refusals(rt: HostRuntime) {
-    assert_eq!(rt;
+    let numbers = [
         MakeFault::OverSale { good: 0, amount: 2 }.number(),
-        Some(14)
-    );
-    assert_eq!(rt; MakeFault::NoMemory.number(), None);
+        MakeFault::NoMemory.number(),
+    ];
+    assert!(rt; numbers == [Some(14), None]);
+}
+
+/// Whether the exchange has its settings and the one exact good.
+fn has_its_good(exchange: &Exchange) -> bool {
+    exchange.settings().weight == 50
+        && exchange.goods() == 1
+        && exchange.good_name(0).text() == "A"
+        && exchange.is_exact(0)
+}
+
+/// Whether the exchange has both bidders, of which the first owns two units.
+fn has_its_bidders(exchange: &Exchange) -> bool {
+    exchange.goods() == 1
+        && exchange.bidders() == 2
+        && exchange.bidder_name(1).text() == "b"
+        && exchange.owns(0, 0) == 2
+}
+
+/// The numbers of a good and of a bidder with this name.
+fn found(exchange: &Exchange, name: &str) -> [Option<u8>; 2] {
+    [exchange.find_good(name), exchange.find_bidder(name)]
+}
+
+/// How many trees, bounds and marks of exact goods the exchange lists.
+fn listed(exchange: &Exchange) -> [usize; 3] {
+    [
+        exchange.trees().len(),
+        exchange.bounds().len(),
+        exchange.exact().len(),
+    ]
 }
 
 #[test]
-fn reads_goods(rt: HostRuntime) -> Result<(), Fail> {
+fn reads_goods_and_bidders(rt: HostRuntime) -> Result<(), Fail> {
     let exchange = sale(rt.alloc(), true)?;
-    assert_eq!(rt; exchange.settings().weight, 50);
-    assert_eq!(rt; exchange.goods(), 1);
-    assert_eq!(rt; exchange.good_name(0).text(), "A");
-    assert!(rt; exchange.is_exact(0));
-    Ok(())
-}
-
-#[test]
-fn reads_bidders(rt: HostRuntime) -> Result<(), Fail> {
-    let exchange = sale(rt.alloc(), true)?;
-    assert_eq!(rt; exchange.goods(), 1);
-    assert_eq!(rt; exchange.bidders(), 2);
-    assert_eq!(rt; exchange.bidder_name(1).text(), "b");
-    assert_eq!(rt; exchange.owns(0, 0), 2);
+    assert!(rt; has_its_good(&exchange));
+    assert!(rt; has_its_bidders(&exchange));
+    assert!(rt; listed(&exchange) == [2, 2, 1]);
     Ok(())
 }
 
 #[test]
 fn finds_names(rt: HostRuntime) -> Result<(), Fail> {
     let exchange = sale(rt.alloc(), false)?;
-    for (name, good, bidder) in [
-        ("A", Some(0), None),
-        ("b", None, Some(1)),
-        ("no name", None, None),
-    ] {
-        assert_eq!(rt; exchange.find_good(name), good);
-        assert_eq!(rt; exchange.find_bidder(name), bidder);
-    }
-    Ok(())
-}
-
-#[test]
-fn lists_trees(rt: HostRuntime) -> Result<(), Fail> {
-    let exchange = sale(rt.alloc(), true)?;
-    assert_eq!(rt; exchange.trees().len(), 2);
-    assert_eq!(rt; exchange.bounds().len(), 2);
-    assert_eq!(rt; exchange.exact().len(), 1);
+    assert!(rt; found(&exchange, "A") == [Some(0), None]);
+    assert!(rt; found(&exchange, "b") == [None, Some(1)]);
+    assert!(rt; found(&exchange, "no name") == [None, None]);
     Ok(())
 }
 
@@ -209,11 +238,11 @@ fn one_unit_left(alloc: Global, exact: bool) -> Result<Option<Result<(), TradeFa
 
 #[test]
 fn an_exact_good_may_not_be_left(rt: HostRuntime) -> Result<(), Fail> {
-    assert_eq!(rt; one_unit_left(rt.alloc(), false)?, Some(Ok(())));
     let excess = TradeFault {
         good: 0,
         excess: -1,
     };
-    assert_eq!(rt; one_unit_left(rt.alloc(), true)?, Some(Err(excess)));
+    assert!(rt; one_unit_left(rt.alloc(), false)? == Some(Ok(())));
+    assert!(rt; one_unit_left(rt.alloc(), true)? == Some(Err(excess)));
     Ok(())
 }

@@ -35,25 +35,36 @@ fn weights_of(values: [i32; 3]) -> Weights
     weights
 }
 
+/// The greatest net of a tree of three nodes, the nodes of the set that has it, and the set's net.
+fn best_of(tree: &Tree, weights: &Weights, prices: &Prices) -> Option<(i128, [bool; 3], i128)>
+    requires tree { length tree.now ≡ 3 }
+    requires nodes { length weights.now ≡ 3 }
+    requires small { AreAtMostTrillion weights.now }
+{
+    let best = best_at_prices(tree, weights, 100, prices, &mut Scratch::new());
+    let most = best.net;
+    let set = best.set;
+    if set.len() != 3 {
+        return None;
+    }
+    let nodes = [set.has(0), set.has(1), set.has(2)];
+    Some((most, nodes, net(tree, &set, weights, 100, prices)))
+}
+
 #[test]
 fn a_buyer_and_a_seller_at_prices_of_3_halves_and_0(rt: HostRuntime) -> Result<(), Fail> {
     let prices = Prices::new(2, &[3, 0]).ok_or("prices")?;
-    let mut scratch = Scratch::new();
     for (least, most, buys, values, want) in [
         (1, 1, true, [7000, 0, 400], 14_800),
         (0, 2, false, [0, -100, -100], 100),
     ] {
         let tree = tree_of(least, most, buys)?;
         assert!(rt; tree.nodes() == 3);
-        let weights = weights_of(values);
-        let best = best_at_prices(&tree, &weights, 100, &prices, &mut scratch);
-        assert_eq!(rt; best.net, want, "choose {least} to {most}");
-        let set = best.set;
-        assert!(rt; set.len() == 3);
-        assert!(rt; set.has(0), "choose {least} to {most}");
-        assert_eq!(rt; set.has(1), !buys, "choose {least} to {most}");
-        assert_eq!(rt; set.has(2), buys, "choose {least} to {most}");
-        assert_eq!(rt; net(&tree, &set, &weights, 100, &prices), want);
+        let best = best_of(&tree, &weights_of(values), &prices);
+        assert!(rt;
+            best == Some((want, [true, !buys, buys], want)),
+            "choose {least} to {most}"
+        );
     }
     Ok(())
 }

@@ -19,8 +19,7 @@ fn names(rt: HostRuntime) -> Result<(), Fail> {
         assert_eq!(rt; Name::new(text).is_some(), is_name, "{text}");
     }
     let name = Name::new("Ab-1").ok_or("no name")?;
-    assert_eq!(rt; name.text(), "Ab-1");
-    assert_eq!(rt; name.bytes(), b"Ab-1".as_slice());
+    assert!(rt; name.text() == "Ab-1" && name.bytes() == b"Ab-1".as_slice());
     assert!(rt; name.copy() == name);
     Ok(())
 }
@@ -59,14 +58,21 @@ fn settings(rt: HostRuntime) -> Result<(), Fail> {
 #[test]
 fn prices(rt: HostRuntime) -> Result<(), Fail> {
     let prices = Prices::new(4_294_967_296, &[0, 4_611_686_018_427_387_904]).ok_or("prices")?;
-    assert_eq!(rt; prices.den(), 4_294_967_296);
-    assert_eq!(rt; prices.goods(), 2);
+    assert_eq!(rt; (prices.den(), prices.goods()), (4_294_967_296, 2));
     assert_eq!(rt; prices.nums(), [0, 4_611_686_018_427_387_904].as_slice());
-    assert!(rt; Prices::new(0, &[0]).is_none());
-    assert!(rt; Prices::new(4_294_967_297, &[0]).is_none());
-    assert!(rt; Prices::new(1, &[]).is_none());
-    assert!(rt; Prices::new(1, &[0; 33]).is_none());
-    assert!(rt; Prices::new(1, &[-1]).is_none());
-    assert!(rt; Prices::new(1, &[4_611_686_018_427_387_905]).is_none());
     Ok(())
+}
+
+fn are_prices(den: i64, nums: &[i128]) -> bool {
+    Prices::new(den, nums).is_some()
+}
+
+#[test]
+fn no_prices(rt: HostRuntime) {
+    assert!(rt; !are_prices(0, &[0]));
+    assert!(rt; !are_prices(4_294_967_297, &[0]));
+    assert!(rt; !are_prices(1, &[]));
+    assert!(rt; !are_prices(1, &[0; 33]));
+    assert!(rt; !are_prices(1, &[-1]));
+    assert!(rt; !are_prices(1, &[4_611_686_018_427_387_905]));
 }

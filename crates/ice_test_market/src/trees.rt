@@ -69,33 +69,39 @@ fn judges_sets(rt: HostRuntime) {
     assert_eq!(rt; units.get(1), 1);
 }
 
+/// Whether a new maker over one good refuses an end, leaves out of range and crossed values.
+fn refuses_at_first(maker: &mut TreeMaker) -> bool {
+    maker.close() == Err(TreeFault::Unclosed)
+        && maker.leaf(NodeKind::Sell { good: 1, units: 1 }, 0, 0) == Err(TreeFault::OutOfRange)
+        && maker.leaf(
+            NodeKind::Sell {
+                good: 0,
+                units: 1001,
+            },
+            0,
+            0,
+        ) == Err(TreeFault::OutOfRange)
+        && maker.leaf(NodeKind::Buy { good: 0, units: 1 }, 30, 20) == Err(TreeFault::Crossed)
+}
+
+/// Whether a maker with 16 open nodes, none of which has a child but the next, counts them and
+/// refuses an end and a leaf.
+fn refuses_below_16(maker: &mut TreeMaker) -> bool {
+    maker.close() == Err(TreeFault::BadInterval)
+        && maker.leaf(NodeKind::Buy { good: 0, units: 1 }, 0, 0) == Err(TreeFault::TooDeep)
+        && maker.open_nodes() == 16
+        && maker.nodes() == 16
+        && !maker.is_complete()
+}
+
 #[test]
 fn refuses(rt: HostRuntime) {
     let mut maker = TreeMaker::new(1);
-    let leaf = NodeKind::Buy { good: 0, units: 1 };
-    assert!(rt; maker.close() == Err(TreeFault::Unclosed));
-    assert!(rt;
-        maker.leaf(NodeKind::Sell { good: 1, units: 1 }, 0, 0) == Err(TreeFault::OutOfRange)
-    );
-    assert!(rt;
-        maker.leaf(
-            NodeKind::Sell {
-                good: 0,
-                units: 1001
-            },
-            0,
-            0
-        ) == Err(TreeFault::OutOfRange)
-    );
-    assert!(rt; maker.leaf(leaf, 30, 20) == Err(TreeFault::Crossed));
+    assert!(rt; refuses_at_first(&mut maker));
     for _depth in 0..16 {
         assert!(rt; maker.open_choose(1, 1, 0, 0) == Ok(()));
     }
-    assert!(rt; maker.close() == Err(TreeFault::BadInterval));
-    assert!(rt; maker.leaf(leaf, 0, 0) == Err(TreeFault::TooDeep));
-    assert_eq!(rt; maker.open_nodes(), 16);
-    assert_eq!(rt; maker.nodes(), 16);
-    assert!(rt; !maker.is_complete());
+    assert!(rt; refuses_below_16(&mut maker));
     assert!(rt; maker.finish().is_err());
 }
 
