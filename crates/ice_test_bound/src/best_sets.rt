@@ -158,25 +158,32 @@ fn greatest_of_all(tree: &Tree, weights: &Weights, fixing: &Fixing) -> Option<i1
     greatest
 }
 
+/// The value that is found of a drawn tree under drawn marks, and the greatest of all sets.
+fn found_and_greatest(
+    draw: &mut Draw,
+    scratch: &mut Scratch,
+) -> Result<Option<(Option<i128>, Option<i128>)>, TreeFault> {
+    let tree = drawn_tree(draw)?;
+    let nodes = tree.nodes();
+    let weights = drawn_weights(draw, nodes);
+    let mut fixing = Fixing::free(nodes);
+    draw_marks(&mut fixing, draw);
+    if fixing.len() != nodes {
+        return Ok(None);
+    }
+    let mut set = NodeSet::empty(nodes);
+    let found = best(&tree, &weights, &fixing, scratch, &mut set);
+    Ok(Some((found, greatest_of_all(&tree, &weights, &fixing))))
+}
+
 #[test]
 fn best_is_the_greatest_of_all_sets(rt: HostRuntime) -> Result<(), Fail> {
     let mut draw = Draw { state: 1 };
     let mut scratch = Scratch::new();
     let mut none = 0u16;
     for round in 0..400u16 {
-        let tree = drawn_tree(&mut draw)?;
-        let nodes = tree.nodes();
-        let weights = drawn_weights(&mut draw, nodes);
-        let mut fixing = Fixing::free(nodes);
-        draw_marks(&mut fixing, &mut draw);
-        assert!(rt; fixing.len() == nodes, "in round {round}");
-        let mut set = NodeSet::empty(nodes);
-        let found = best(&tree, &weights, &fixing, &mut scratch, &mut set);
-        assert_eq!(rt;
-            found,
-            greatest_of_all(&tree, &weights, &fixing),
-            "in round {round}"
-        );
+        let (found, greatest) = found_and_greatest(&mut draw, &mut scratch)?.ok_or("nodes")?;
+        assert_eq!(rt; found, greatest, "in round {round}");
         if found.is_none() {
             none = none.wrapping_add(1);
         }
@@ -185,74 +192,106 @@ fn best_is_the_greatest_of_all_sets(rt: HostRuntime) -> Result<(), Fail> {
     Ok(())
 }
 
+/// The best value of three leaves of which so many are taken, and the nodes of the set.
+fn chosen(least: u16, most: u16) -> Result<Option<(Option<i128>, [bool; 4])>, TreeFault> {
+    let tree = three_leaves(least, most)?;
+    if tree.nodes() != 4 {
+        return Ok(None);
+    }
+    let mut set = NodeSet::empty(4);
+    let fixing = Fixing::free(4);
+    let found = best(
+        &tree,
+        &worked_weights(),
+        &fixing,
+        &mut Scratch::new(),
+        &mut set,
+    );
+    if set.len() != 4 {
+        return Ok(None);
+    }
+    Ok(Some((found, [set.has(0), set.has(1), set.has(2), set.has(3)])))
+}
+
 #[test]
 fn choices_among_gains_of_5_and_minus_3_and_0(rt: HostRuntime) -> Result<(), Fail> {
-    let mut scratch = Scratch::new();
     for (least, most, want, second) in [(1, 3, 5, false), (2, 2, 5, false), (3, 3, 2, true)] {
-        let tree = three_leaves(least, most)?;
-        assert!(rt; tree.nodes() == 4);
-        let fixing = Fixing::free(4);
-        let mut set = NodeSet::empty(4);
-        let found = best(&tree, &worked_weights(), &fixing, &mut scratch, &mut set);
+        let (found, nodes) = chosen(least, most)?.ok_or("nodes")?;
         assert_eq!(rt; found, Some(want), "choose {least} to {most}");
-        assert!(rt; set.len() == 4);
-        assert!(rt; set.has(0) && set.has(1), "choose {least} to {most}");
-        assert_eq!(rt; set.has(2), second, "choose {least} to {most}");
-        if least > 1 {
-            assert!(rt; set.has(3), "choose {least} to {most}");
-        }
+        // where one is enough, the leaf of gain 0 may be in or not
+        let third = nodes[3] || least == 1;
+        assert!(rt;
+            nodes[0] && nodes[1] && nodes[2] == second && third,
+            "choose {least} to {most}"
+        );
     }
     Ok(())
 }
 
-#[test]
-fn two_must_leaves_of_which_one_may_be_taken(rt: HostRuntime) -> Result<(), Fail> {
+/// One of two leaves.
+fn one_of_two() -> Result<Tree, TreeFault> {
     let mut maker = TreeMaker::new(1);
     maker.open_choose(1, 1, 0, 0)?;
     maker.leaf(NodeKind::Buy { good: 0, units: 1 }, 0, 0)?;
     maker.leaf(NodeKind::Buy { good: 0, units: 1 }, 0, 0)?;
     maker.close()?;
     let (tree, _bounds) = maker.finish()?;
-    let trees = [tree];
-    let mut fixings = Fixings::free(rt.alloc(), &trees)?;
+    Ok(tree)
+}
+
+/// Marks both nodes behind the root of the first tree as Must, and says whether it has them.
+fn mark_leaves(fixings: &mut Fixings) -> bool {
     for leaf in 1..3 {
-        assert!(rt; 0 < fixings.len());
-        assert!(rt; leaf < fixings.of(0).len());
+        if fixings.len() == 0 || fixings.of(0).len() <= leaf {
+            return false;
+        }
         fixings.mark(0, leaf, Mark::Must);
     }
-    let nodes = trees[0].nodes();
-    assert!(rt; 0 < fixings.len());
-    assert!(rt; fixings.of(0).len() == nodes);
+    true
+}
+
+/// The best value of a tree of three nodes under the marks of the first one, and whether the set
+/// is left with a node.
+fn best_under(tree: &Tree, fixings: &Fixings) -> Option<(Option<i128>, bool)> {
+    let nodes = tree.nodes();
+    if fixings.len() == 0 || fixings.of(0).len() != nodes {
+        return None;
+    }
     let mut set = set_of(nodes, 7);
-    let found = best(
-        &trees[0],
-        &Weights::zero(nodes),
-        fixings.of(0),
-        &mut Scratch::new(),
-        &mut set,
-    );
-    assert_eq!(rt; found, None);
-    assert!(rt; set.len() == 3);
-    assert!(rt; !set.has(0) && !set.has(1) && !set.has(2));
+    let weights = Weights::zero(nodes);
+    let found = best(tree, &weights, fixings.of(0), &mut Scratch::new(), &mut set);
+    Some((found, !set.is_empty()))
+}
+
+#[test]
+fn two_must_leaves_of_which_one_may_be_taken(rt: HostRuntime) -> Result<(), Fail> {
+    let trees = [one_of_two()?];
+    let mut fixings = Fixings::free(rt.alloc(), &trees)?;
+    assert!(rt; mark_leaves(&mut fixings));
+    assert_eq!(rt; best_under(&trees[0], &fixings), Some((None, false)));
     Ok(())
+}
+
+/// The greatest sale of each of two goods, of a tree that takes so many of two leaves that sell a
+/// unit of the first.
+fn sales(most: u16) -> Result<[i64; 2], TreeFault> {
+    let mut maker = TreeMaker::new(2);
+    maker.open_choose(0, most, 0, 0)?;
+    maker.leaf(NodeKind::Sell { good: 0, units: 1 }, 0, 0)?;
+    maker.leaf(NodeKind::Sell { good: 0, units: 1 }, 0, 0)?;
+    maker.close()?;
+    let (tree, _bounds) = maker.finish()?;
+    let mut scratch = Scratch::new();
+    Ok([
+        greatest_sale(&tree, 0, &mut scratch),
+        greatest_sale(&tree, 1, &mut scratch),
+    ])
 }
 
 #[test]
 fn sales_of_two_leaves(rt: HostRuntime) -> Result<(), Fail> {
-    let mut scratch = Scratch::new();
     for (most, want) in [(2, 2), (1, 1), (0, 0)] {
-        let mut maker = TreeMaker::new(2);
-        maker.open_choose(0, most, 0, 0)?;
-        maker.leaf(NodeKind::Sell { good: 0, units: 1 }, 0, 0)?;
-        maker.leaf(NodeKind::Sell { good: 0, units: 1 }, 0, 0)?;
-        maker.close()?;
-        let (tree, _bounds) = maker.finish()?;
-        assert_eq!(rt;
-            greatest_sale(&tree, 0, &mut scratch),
-            want,
-            "at most {most}"
-        );
-        assert_eq!(rt; greatest_sale(&tree, 1, &mut scratch), 0, "of another good");
+        assert!(rt; sales(most)? == [want, 0], "at most {most}");
     }
     Ok(())
 }

@@ -57,27 +57,62 @@ fn nothing(alloc: Global, trees: &[Tree]) -> Result<Incumbent, AllocError>
     Ok(Incumbent { sets, value: 0 })
 }
 
+/// The value of an incumbent that is offered the relaxed sets of the start, the least sum that is
+/// polished from there and the incumbent's value then, and how many candidates are picked.
+fn polished(
+    alloc: Global,
+    trees: &[Tree],
+    weights: &AllWeights,
+) -> Result<Option<[i128; 4]>, AllocError>
+    requires few { length trees.now ≡ 2 }
+    requires weights { AreWeightsOf trees.now weights.now }
+{
+    let mut kept = Kept::new(alloc, trees, weights, &[false])?;
+    if !is_live(&kept) {
+        return Ok(None);
+    }
+    let mut incumbent = nothing(alloc, trees)?;
+    incumbent.offer(&kept);
+    let offered = incumbent.value;
+    let mut relaxation = Relaxation::new(alloc, trees)?;
+    relaxation.look_at(trees, weights, kept.marks());
+    let from = kept.multipliers().copy();
+    let least = polish(&mut kept, &mut incumbent, &mut relaxation, &from, 500);
+    let candidates = pick(trees, kept.marks(), &relaxation).len() as i128;
+    Ok(Some([offered, least.total, incumbent.value, candidates]))
+}
+
+/// The least sum that is polished from the greatest multiplier of an exact good.
+fn polished_from_the_greatest(
+    alloc: Global,
+    trees: &[Tree],
+    weights: &AllWeights,
+) -> Result<Option<i128>, AllocError>
+    requires few { length trees.now ≡ 2 }
+    requires weights { AreWeightsOf trees.now weights.now }
+{
+    let mut kept = Kept::new(alloc, trees, weights, &[true])?;
+    kept.put_multiplier(0, 1 << 56);
+    if !is_live(&kept) {
+        return Ok(None);
+    }
+    let mut incumbent = nothing(alloc, trees)?;
+    let mut relaxation = Relaxation::new(alloc, trees)?;
+    relaxation.look_at(trees, weights, kept.marks());
+    let from = kept.multipliers().copy();
+    let least = polish(&mut kept, &mut incumbent, &mut relaxation, &from, 500);
+    Ok(Some(least.total))
+}
+
 #[test]
 fn a_small_market(rt: HostRuntime) -> Result<(), Fail> {
     let alloc = rt.alloc();
     let (seller, asked) = sells(-10)?;
     let (buyer, offered) = buys(20)?;
     let trees = [seller, buyer];
-    let bounds = [asked, offered];
-    let weights = lower(alloc, &trees, &bounds)?;
-    let mut kept = Kept::new(alloc, &trees, &weights, &[false])?;
-    assert!(rt; is_live(&kept));
-    let mut incumbent = nothing(alloc, &trees)?;
-    incumbent.offer(&kept);
-    assert_eq!(rt; incumbent.value, 0, "the buyer alone is not feasible");
-    let mut relaxation = Relaxation::new(alloc, &trees)?;
-    relaxation.look_at(&trees, &weights, kept.marks());
-    let from = kept.multipliers().copy();
-    let least = polish(&mut kept, &mut incumbent, &mut relaxation, &from, 500);
-    assert_eq!(rt; least.total, 640);
-    assert_eq!(rt; incumbent.value, 10);
-    let candidates = pick(&trees, kept.marks(), &relaxation);
-    assert_eq!(rt; candidates.len(), 2);
+    let weights = lower(alloc, &trees, &[asked, offered])?;
+    // the buyer alone, who is offered first, is not feasible
+    assert!(rt; polished(alloc, &trees, &weights)? == Some([0, 640, 10, 2]));
     Ok(())
 }
 
@@ -87,16 +122,7 @@ fn the_greatest_multiplier(rt: HostRuntime) -> Result<(), Fail> {
     let (seller, asked) = sells(-10)?;
     let (buyer, offered) = buys(20)?;
     let trees = [seller, buyer];
-    let bounds = [asked, offered];
-    let weights = lower(alloc, &trees, &bounds)?;
-    let mut kept = Kept::new(alloc, &trees, &weights, &[true])?;
-    kept.put_multiplier(0, 1 << 56);
-    assert!(rt; is_live(&kept));
-    let mut incumbent = nothing(alloc, &trees)?;
-    let mut relaxation = Relaxation::new(alloc, &trees)?;
-    relaxation.look_at(&trees, &weights, kept.marks());
-    let from = kept.multipliers().copy();
-    let least = polish(&mut kept, &mut incumbent, &mut relaxation, &from, 500);
-    assert_eq!(rt; least.total, 640);
+    let weights = lower(alloc, &trees, &[asked, offered])?;
+    assert!(rt; polished_from_the_greatest(alloc, &trees, &weights)? == Some(640));
     Ok(())
 }

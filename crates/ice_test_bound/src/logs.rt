@@ -190,6 +190,38 @@ fn judges_logs(rt: HostRuntime) -> Result<(), Fail> {
     Ok(())
 }
 
+/// Whether a walk is closed before it begins, behind a branch and in the end, and the fault of a
+/// leaf whose bound is above the target.
+fn walked(
+    alloc: Global,
+    trees: &[Tree],
+    weights: &AllWeights,
+    start: &Fixings,
+    desk: &mut Desk,
+) -> Result<Option<([bool; 3], LogFault)>, Fail>
+    requires few { length trees.now ≤ 40 }
+    requires nodes { sum (nodes_of trees.now) ≤ 2000 }
+    requires weights { AreWeightsOf trees.now weights.now }
+    requires few_start { length start.now ≤ 40 }
+    requires start { nodes_of start.now ≡ nodes_of trees.now }
+    requires marks { nodes_of desk.old.marks ≡ nodes_of trees.now }
+    requires exact { desk.old.room ≡ false ∷ [] }
+{
+    let mut walk = Walk::new(alloc, trees)?;
+    let before = walk.is_closed();
+    walk.begin(start);
+    let branch = Step::Branch { bidder: 0, node: 0 };
+    walk.step(trees, weights, 10, &branch, desk)?;
+    let behind = walk.is_closed();
+    walk.step(trees, weights, 10, &step(Plain::Leaf(640)), desk)?;
+    let low = step(Plain::Leaf(576));
+    let Err(fault) = walk.step(trees, weights, 9, &low, desk) else {
+        return Ok(None);
+    };
+    walk.step(trees, weights, 10, &step(Plain::Leaf(1280)), desk)?;
+    Ok(Some(([before, behind, walk.is_closed()], fault)))
+}
+
 #[test]
 fn walks(rt: HostRuntime) -> Result<(), Fail> {
     let alloc = rt.alloc();
@@ -199,24 +231,9 @@ fn walks(rt: HostRuntime) -> Result<(), Fail> {
     let weights = lower(alloc, &trees, &[asked, offered])?;
     let mut desk = desk(alloc, &trees)?;
     let start = free(alloc, &trees)?;
-    let mut walk = Walk::new(alloc, &trees)?;
-    assert!(rt; walk.is_closed());
-    walk.begin(&start);
-    walk.step(
-        &trees,
-        &weights,
-        10,
-        &Step::Branch { bidder: 0, node: 0 },
-        &mut desk,
-    )?;
-    assert!(rt; !walk.is_closed());
-    walk.step(&trees, &weights, 10, &step(Plain::Leaf(640)), &mut desk)?;
-    let low = step(Plain::Leaf(576));
-    let Err(fault) = walk.step(&trees, &weights, 9, &low, &mut desk) else {
-        panic!(rt; "the bound is above the target");
-    };
-    assert_eq!(rt; fault, LogFault::Above { step: 0, bound: 11 });
-    walk.step(&trees, &weights, 10, &step(Plain::Leaf(1280)), &mut desk)?;
-    assert!(rt; walk.is_closed());
+    let fault = LogFault::Above { step: 0, bound: 11 };
+    assert!(rt;
+        walked(alloc, &trees, &weights, &start, &mut desk)? == Some(([true, false, true], fault))
+    );
     Ok(())
 }

@@ -26,10 +26,13 @@ fn sells(units: u16, value: i64) -> Result<(Tree, Bounds), TreeFault>
 /// A tree of one leaf that buys a unit of the one good.
 fn buys(value: i64) -> Result<(Tree, Bounds), TreeFault>
     ensures bounds { IfOk result (λ r. AreBounds (length r.0) r.1) }
+    ensures node { IfOk result (λ r. 0 < length r.0) }
 {
     let mut maker = TreeMaker::new(1);
     maker.leaf(NodeKind::Buy { good: 0, units: 1 }, value, value)?;
-    maker.finish()
+    let (tree, bounds) = maker.finish()?;
+    let _nodes = tree.nodes();
+    Ok((tree, bounds))
 }
 
 /// The lower values as weights.
@@ -78,20 +81,66 @@ fn at(number: u16) -> Multipliers
     m
 }
 
+/// The multiplier that a sweep makes of 0, and that of one from 2,000 near a guess of 640.
+fn swept_and_near(
+    alloc: Global,
+    trees: &[Tree],
+    weights: &AllWeights,
+) -> Result<[i64; 2], AllocError>
+    requires few { length trees.now ≡ 2 }
+    requires weights { AreWeightsOf trees.now weights.now }
+{
+    let mut desk = desk(alloc, trees, &[false])?;
+    let free = free(alloc, trees)?;
+    let low = improve(trees, weights, &free, &at(0), &mut desk);
+    let near = improve_near(trees, weights, &free, &at(2000), &at(640), &mut desk);
+    Ok([low.get(0), near.get(0)])
+}
+
+/// The multiplier that a sweep makes of 7 where the buyer must buy and the seller may not sell.
+fn swept_without_units(
+    alloc: Global,
+    trees: &[Tree],
+    weights: &AllWeights,
+) -> Result<i64, AllocError>
+    requires few { length trees.now ≡ 2 }
+    requires seller { 0 < length (tree_of trees.now 0) }
+    requires buyer { 0 < length (tree_of trees.now 1) }
+    requires weights { AreWeightsOf trees.now weights.now }
+{
+    let mut desk = desk(alloc, trees, &[false])?;
+    let mut fixings = free(alloc, trees)?;
+    mark(trees, &mut fixings, 0, 0, Mark::Never);
+    mark(trees, &mut fixings, 1, 0, Mark::Must);
+    Ok(improve(trees, weights, &fixings, &at(7), &mut desk).get(0))
+}
+
+/// The multiplier that a sweep makes of this one where the seller must sell.
+fn swept_of_a_sale(
+    alloc: Global,
+    trees: &[Tree],
+    weights: &AllWeights,
+    exact: bool,
+    number: u16,
+) -> Result<i64, AllocError>
+    requires few { length trees.now ≡ 2 }
+    requires seller { 0 < length (tree_of trees.now 0) }
+    requires weights { AreWeightsOf trees.now weights.now }
+{
+    let mut desk = desk(alloc, trees, &[exact])?;
+    let mut fixings = free(alloc, trees)?;
+    mark(trees, &mut fixings, 0, 0, Mark::Must);
+    Ok(improve(trees, weights, &fixings, &at(number), &mut desk).get(0))
+}
+
 #[test]
 fn the_price_of_a_small_market(rt: HostRuntime) -> Result<(), Fail> {
     let alloc = rt.alloc();
     let (seller, asked) = sells(1, -10)?;
     let (buyer, offered) = buys(20)?;
     let trees = [seller, buyer];
-    let bounds = [asked, offered];
-    let weights = lower(alloc, &trees, &bounds)?;
-    let mut desk = desk(alloc, &trees, &[false])?;
-    let free = free(alloc, &trees)?;
-    let low = improve(&trees, &weights, &free, &at(0), &mut desk);
-    assert_eq!(rt; low.get(0), 640);
-    let near = improve_near(&trees, &weights, &free, &at(2000), &at(640), &mut desk);
-    assert_eq!(rt; near.get(0), 640);
+    let weights = lower(alloc, &trees, &[asked, offered])?;
+    assert!(rt; swept_and_near(alloc, &trees, &weights)? == [640, 640]);
     Ok(())
 }
 
@@ -101,14 +150,8 @@ fn a_side_that_asks_for_units(rt: HostRuntime) -> Result<(), Fail> {
     let (seller, asked) = sells(1, -10)?;
     let (buyer, offered) = buys(20)?;
     let trees = [seller, buyer];
-    let bounds = [asked, offered];
-    let weights = lower(alloc, &trees, &bounds)?;
-    let mut desk = desk(alloc, &trees, &[false])?;
-    let mut fixings = free(alloc, &trees)?;
-    mark(&trees, &mut fixings, 0, 0, Mark::Never);
-    mark(&trees, &mut fixings, 1, 0, Mark::Must);
-    let swept = improve(&trees, &weights, &fixings, &at(7), &mut desk);
-    assert_eq!(rt; swept.get(0), 1 << 56);
+    let weights = lower(alloc, &trees, &[asked, offered])?;
+    assert!(rt; swept_without_units(alloc, &trees, &weights)? == 1 << 56);
     Ok(())
 }
 
@@ -118,16 +161,9 @@ fn a_negative_price_of_an_exact_good(rt: HostRuntime) -> Result<(), Fail> {
     let (seller, asked) = sells(1, -10)?;
     let (buyer, offered) = buys(-5)?;
     let trees = [seller, buyer];
-    let bounds = [asked, offered];
-    let weights = lower(alloc, &trees, &bounds)?;
-    let mut exact = desk(alloc, &trees, &[true])?;
-    let mut plain = desk(alloc, &trees, &[false])?;
-    let mut fixings = free(alloc, &trees)?;
-    mark(&trees, &mut fixings, 0, 0, Mark::Must);
-    let swept = improve(&trees, &weights, &fixings, &at(0), &mut exact);
-    assert_eq!(rt; swept.get(0), -320);
-    let swept = improve(&trees, &weights, &fixings, &at(5), &mut plain);
-    assert_eq!(rt; swept.get(0), 0);
+    let weights = lower(alloc, &trees, &[asked, offered])?;
+    assert!(rt; swept_of_a_sale(alloc, &trees, &weights, true, 0)? == -320);
+    assert!(rt; swept_of_a_sale(alloc, &trees, &weights, false, 5)? == 0);
     Ok(())
 }
 
