@@ -2,7 +2,18 @@
 //! proved but their form. A search that follows one spends no branch on finding it.
 #![tactic(auto)]
 
+mod below;
+mod counting;
 mod from_log;
+mod idle;
+mod node_set;
 mod plan;
+mod prune;
+mod pulling;
+mod sides;
+mod walk;
 
+pub use idle::drop_idle;
 pub use plan::{Plan, Side, Split};
+pub use pulling::pull;
+pub use sides::{Bounds, Marks, Seen, Sides, Tries};
