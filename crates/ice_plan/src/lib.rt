@@ -6,7 +6,9 @@ mod below;
 mod counting;
 mod from_log;
 mod idle;
+mod making;
 mod node_set;
+mod parts;
 mod plan;
 mod prune;
 mod pulling;
@@ -14,6 +16,7 @@ mod sides;
 mod walk;
 
 pub use idle::drop_idle;
+pub use making::make;
 pub use plan::{Plan, Side, Split};
 pub use pulling::pull;
 pub use sides::{Bounds, Marks, Seen, Sides, Tries};
