@@ -1,5 +1,5 @@
-//! Tests of best sets, bounds, sweeps, logs and heuristics. They stand apart so that the crates
-//! they try are not proved again with them.
+//! Tests of best sets, bounds, sweeps, logs, heuristics and plans. They stand apart so that the
+//! crates they try are not proved again with them.
 #![tactic(auto)]
 
 #[cfg(test)]
@@ -10,5 +10,7 @@ mod bounds;
 mod heuristics;
 #[cfg(test)]
 mod logs;
+#[cfg(test)]
+mod plans;
 #[cfg(test)]
 mod sweeps;
