@@ -240,10 +240,21 @@ opened() {
     echo "open after round $round${regret:+, regret $regret}: wants round $((round + 1))"
 }
 
+# How much more than a value may be possible, in tenths of a per cent rounded up; nothing where that says nothing.
+gap() {
+    LC_ALL=C awk -v least="$1" -v most="$2" 'BEGIN {
+        if (least <= 0) exit
+        tenths = 1000 * (most - least) / least
+        whole = int(tenths)
+        if (whole < tenths) whole++
+        printf ", a gap of %.1f %%", whole / 10
+    }'
+}
+
 spent() {
     local least most
     least=$(field spent 2) most=$(field spent 3)
-    echo "the branches of the settings are used up${most:+: what was found is worth $least, and nothing is worth more than $most}"
+    echo "the branches of the settings are used up${most:+: what was found is worth $least, and nothing is worth more than $most$(gap "$least" "$most")}"
 }
 
 # What a journal that isn't closed came to, by its last line.

@@ -63,7 +63,9 @@ class Words(unittest.TestCase):
         self.assertEqual(self.told(CLOSED, 0, "run", "m", "r1"), "closed after round 1: regret 0, surplus 1/3")
         self.assertEqual(self.told(CLOSED, 0, "run", "m", "r1", "r 2", "r3"), "closed after round 1: regret 0, surplus 1/3; not read: r\\ 2 r3")
         spent = "settle 0\nspent 50 65\nset 1\nend spent\n"
-        self.assertEqual(self.told(spent, 4, "run", "m"), "the branches of the settings are used up: what was found is worth 50, and nothing is worth more than 65")
+        self.assertEqual(self.told(spent, 4, "run", "m"), "the branches of the settings are used up: what was found is worth 50, and nothing is worth more than 65, a gap of 30.0 %")
+        self.assertIn("more than 3259, a gap of 0.1 %", self.told(spent.replace("50 65", "3258 3259"), 4, "run", "m"))
+        self.assertTrue(self.told(spent.replace("50 65", "0 65"), 4, "run", "m").endswith("nothing is worth more than 65"))
         self.assertEqual(self.told("limit accuracy rows 0 1\nend limit\n", 5, "run", "m"), "the pricing came to a limit: no prices are offered")
         self.assertEqual(self.told("limit fairness den 0 1\nend limit\n", 5, "fair", "m"), "the search for fair prices came to a limit: none are told")
 

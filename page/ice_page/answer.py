@@ -89,8 +89,16 @@ def spent_words(view: View) -> str:
     )
     return (
         f"{few} in the search <code>{group.seeks}</code>: it found {found}, "
-        f"where at most {most} is possible"
+        f"where at most {most} is possible{gap(group.value or 0, group.bound or 0)}"
     )
+
+
+def gap(value: int, bound: int) -> str:
+    """How much more than a value may be possible, in tenths of a per cent rounded up."""
+    if value <= 0:
+        return ""
+    tenths = -(1000 * (value - bound) // value)
+    return f", a gap of {tenths // 10}.{tenths % 10} %"
 
 
 def checked(view: View) -> Fact:
