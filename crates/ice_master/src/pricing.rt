@@ -38,6 +38,18 @@ impl Master {
         multipliers
     }
 
+    /// The multipliers at which the last solve ended, each the greatest number of 64ths that isn't
+    /// above it.
+    pub fn floors(&self) -> [i64; 32] {
+        let multipliers = self.lawful_multipliers();
+        let mut floors = [0; 32];
+        for good in 0..self.market.goods {
+            let number = usize::from(good % 16);
+            floors[number] = self.scale.floor_64ths(multipliers[number]);
+        }
+        floors
+    }
+
     /// The bound at the multipliers. The best sets that gain are noted.
     pub(crate) fn price(&mut self) -> Seen {
         let multipliers = self.lawful_multipliers();

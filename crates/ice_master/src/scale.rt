@@ -62,6 +62,11 @@ impl Scale {
         self.whole_64ths(amount, half)
     }
 
+    /// The greatest number of 64ths that doesn't pass an amount.
+    pub(crate) fn floor_64ths(self, amount: i64) -> i64 {
+        self.whole_64ths(amount, 0)
+    }
+
     /// The least number of 64ths that an amount doesn't pass.
     pub(crate) fn covering_64ths(self, amount: i64) -> i64 {
         let rest = 1_i128.wrapping_shl(self.shift).wrapping_sub(1);
