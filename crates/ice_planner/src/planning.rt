@@ -1,0 +1,139 @@
+//! Plans of a search.
+ghost use Rattle.std.specs.Prelude.{◌≤◌, length};
+ghost use Rattle.ice_defs.specs.Conditions.{AreWeightsOf, AreFixingsOf};
+
+use crate::guide::Guide;
+use crate::marking::Marking;
+use crate::planner::Planner;
+use crate::points::{MOST_GOODS, Points};
+use ice_best::Fixings;
+use ice_bound::Multipliers;
+use ice_master::Master;
+use ice_plan::{Plan, drop_idle, make, pull};
+use ice_refute::{Log, Step};
+use ice_tree::{AllWeights, Assignment, Tree};
+use std::alloc::{AllocError, Global};
+
+/// A plan is made smaller in at most so many turns ..
+const TURNS: u8 = 4;
+
+/// .. and no more where one leaves out less than this part of the splits.
+const GAIN: usize = 25;
+
+/// A plan of a search with what was found on the way.
+#[derive(Drop)]
+pub struct Outline {
+    /// The plan; none where it would have had too many splits.
+    pub plan: Plan,
+    /// What finds multipliers for the search.
+    pub guide: Option<Guide>,
+    /// An assignment that came up, or empty sets.
+    pub finds: Option<Assignment>,
+}
+
+impl Outline {
+    /// That of a search that isn't planned.
+    pub fn none(alloc: Global) -> Outline {
+        Outline {
+            plan: Plan::new(alloc),
+            guide: None,
+            finds: None,
+        }
+    }
+}
+
+/// Whether a market of so many goods is planned at all.
+pub fn is_planned(goods: u8) -> bool {
+    goods <= MOST_GOODS
+}
+
+/// The numbers of multipliers.
+fn numbers_of(m: &Multipliers) -> [i64; 32] {
+    let mut numbers = [0; 32];
+    for good in 0..m.len() {
+        numbers[usize::from(good)] = m.get(good);
+    }
+    numbers
+}
+
+/// Keeps the multipliers of a log's leaves by the numbers of its steps.
+fn keep_leaves(points: &mut Points, log: &Log) -> Result<(), AllocError> {
+    for step in log.steps() {
+        let numbers = match step {
+            Step::Leaf { m } => numbers_of(m),
+            _ => [0; 32],
+        };
+        let _number = points.keep(&numbers)?;
+    }
+    Ok(())
+}
+
+/// The plan that a log follows, whose leaves are kept; an empty one where there is no log.
+fn seed_of(alloc: Global, points: &mut Points, log: Option<&Log>) -> Result<Plan, AllocError> {
+    match log {
+        Some(log) => {
+            keep_leaves(points, log)?;
+            Plan::from_log(alloc, log)
+        }
+        None => Ok(Plan::new(alloc)),
+    }
+}
+
+/// The plan, made smaller in some turns.
+fn smaller(alloc: Global, plan: Plan, planner: &mut Planner) -> Result<Plan, AllocError> {
+    let mut plan = plan;
+    for _turn in 0..TURNS {
+        let before = plan.len();
+        let pulled = pull(alloc, &plan, planner)?;
+        plan = drop_idle(alloc, &pulled, planner)?;
+        let gained = before.saturating_sub(plan.len());
+        if gained.saturating_mul(GAIN) <= before {
+            break;
+        }
+    }
+    Ok(plan)
+}
+
+/// A plan of the search that begins with these marks for an assignment above a value, with at most
+/// so many splits. The log of a search that may be alike is followed first.
+pub fn plan_search(
+    alloc: Global,
+    trees: &[Tree],
+    weights: &AllWeights,
+    exact: &[bool],
+    start: &Fixings,
+    value: i128,
+    log: Option<&Log>,
+    most: usize,
+) -> Result<Outline, AllocError>
+    requires few { length trees.now ≤ 40 }
+    requires weights { AreWeightsOf trees.now weights.now }
+    requires start { AreFixingsOf trees.now start.now }
+{
+    let master = Box::new(alloc, Master::new(alloc, trees, weights, exact)?)?;
+    let marking = Marking::new(alloc, trees, start)?;
+    let mut points = Points::new(alloc);
+    let seed = seed_of(alloc, &mut points, log)?;
+    let mut planner = Planner {
+        alloc,
+        weights,
+        exact,
+        marking,
+        master,
+        points,
+        finds: Assignment::empty(alloc, trees)?,
+        value,
+        looks: 0,
+    };
+    let plan = match make(alloc, &mut planner, &seed, most)? {
+        Some(plan) => smaller(alloc, plan, &mut planner)?,
+        None => Plan::new(alloc),
+    };
+    Ok(Outline {
+        plan,
+        guide: Some(Guide {
+            master: planner.master,
+        }),
+        finds: Some(planner.finds),
+    })
+}
