@@ -15,6 +15,8 @@ use crate::sweep::Bounded;
 use crate::workspace::Workspace;
 use ice_best::Mark;
 use ice_bound::Multipliers;
+use ice_plan::Plan;
+use ice_planner::Guide;
 use ice_search_log::Part;
 use ice_subgradient::Incumbent;
 use ice_tree::Assignment;
@@ -52,12 +54,15 @@ fn root(bounded: Bounded) -> Part
 
 impl<'a> Progress<'a> {
     /// A search with one part, the start, which is polished from the multipliers that are given.
-    /// The candidates are offered where they are feasible and meet the start.
+    /// The candidates are offered where they are feasible and meet the start. It follows the
+    /// plan.
     pub(crate) fn begin(
         alloc: Global,
         problem: Problem<'a>,
         from: &Multipliers,
         candidates: &[Assignment],
+        plan: Plan,
+        guide: Option<Guide>,
     ) -> Result<Progress<'a>, AllocError>
         requires { AreMultipliersOf problem.exact from.now }
         ensures instance { IfOk result (λ p. p.instance ≡ problem.entry) }
@@ -67,7 +72,7 @@ impl<'a> Progress<'a> {
         for candidate in candidates {
             consider(&problem, candidate, &mut incumbent);
         }
-        let mut space = Workspace::new(alloc, problem)?;
+        let mut space = Workspace::new(alloc, problem, guide)?;
         let Polished {
             bounded,
             candidates: nodes,
@@ -78,6 +83,7 @@ impl<'a> Progress<'a> {
         hints.push(Hint {
             near: Multipliers::zero(0),
             candidates: nodes,
+            place: plan.root(),
         })?;
         let mut open_parts = Vec::new(alloc);
         open_parts.push(0)?;
@@ -87,6 +93,7 @@ impl<'a> Progress<'a> {
             parts,
             hints,
             open_parts,
+            plan,
         })
     }
 }

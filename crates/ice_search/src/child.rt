@@ -1,5 +1,5 @@
 //! The children of the side that is looked at.
-ghost use Rattle.std.specs.Prelude.{◌≡◌, ◌<◌, length, pos, ◌+ℤ◌, ◌*ℤ◌, ◌≤ℤ◌, ◌<ℤ◌};
+ghost use Rattle.std.specs.Prelude.{◌≡◌, ◌<◌, ◌≤◌, length, pos, ◌+ℤ◌, ◌*ℤ◌, ◌≤ℤ◌, ◌<ℤ◌};
 ghost use Rattle.ice_defs.specs.Log.{IsFreeNode};
 ghost use Rattle.ice_defs.specs.Steps.{with_mark};
 ghost use Rattle.ice_defs.specs.Sweep.{IsLive};
@@ -8,10 +8,12 @@ ghost use Rattle.ice_search.specs.Workspace.{IsPolishedAt};
 
 use crate::sweep::Bounded;
 use crate::workspace::Workspace;
-use ice_best::Mark;
+use ice_best::{Fixings, Mark};
 use ice_bound::{Multipliers, floor_64th};
+use ice_planner::{Guide, Near};
 use ice_relaxation::{Candidate, Candidates, pick};
 use ice_subgradient::{Evaluated, Incumbent, most_promising, polish, repeat};
+use ice_tree::Tree;
 
 /// So many steps are taken at a child.
 pub(crate) const CHILD_STEPS: u16 = 60;
@@ -32,6 +34,24 @@ fn bounded(evaluated: Evaluated) -> Bounded
     Bounded {
         m: evaluated.m,
         key: floor_64th(evaluated.total),
+    }
+}
+
+/// Multipliers near the dual of the side of these marks, where there is a guide.
+fn guided(
+    guide: &mut Option<Guide>,
+    trees: &[Tree],
+    marks: &Fixings,
+    goods: u8,
+    value: i128,
+) -> Option<Near>
+    requires few { length trees.now ≤ 40 }
+    requires marks { AreFixingsOf trees.now marks.now }
+    requires goods { goods ≤ 32 }
+{
+    match guide {
+        Some(guide) => Some(guide.near(trees, marks, goods, value)),
+        None => None,
     }
 }
 
@@ -130,6 +150,49 @@ impl<'a> Workspace<'a> {
         );
     }
 
+    /// Multipliers near the dual of the side that is looked at, where there is a guide.
+    fn near(&mut self, value: i128) -> Option<Near>
+        ensures { self.new ≡ self.old }
+    {
+        let trees = self.problem.trees();
+        let goods = self.problem.goods();
+        guided(&mut self.guide, trees, self.kept.marks(), goods, value)
+    }
+
+    /// Few steps from multipliers that are near the dual. What comes up is offered.
+    fn polish_near(&mut self, near: Near, incumbent: &mut Incumbent) -> Polished
+        requires live { IsLive self.old.instance.trees self.old.side }
+        requires sets { length incumbent.old.sets ≡ length self.old.instance.trees }
+        ensures instance { self.new.instance ≡ self.old.instance }
+        ensures side { self.new.side ≡ self.old.side }
+        ensures polished { IsPolishedAt self.old.instance self.old.side incumbent.old
+            incumbent.new result.bounded }
+        ensures sets { length incumbent.new.sets ≡ length self.old.instance.trees }
+    {
+        let polished = self.polish(&near.m, incumbent, near.steps);
+        Polished {
+            bounded: polished.bounded,
+            candidates: near.candidates,
+        }
+    }
+
+    /// Few steps from multipliers near the dual, where there is a guide, and else as many as are
+    /// given from these multipliers. What comes up is offered.
+    fn polish_anew(&mut self, from: &Multipliers, incumbent: &mut Incumbent, steps: u16) -> Polished
+        requires live { IsLive self.old.instance.trees self.old.side }
+        requires sets { length incumbent.old.sets ≡ length self.old.instance.trees }
+        ensures instance { self.new.instance ≡ self.old.instance }
+        ensures side { self.new.side ≡ self.old.side }
+        ensures polished { IsPolishedAt self.old.instance self.old.side incumbent.old
+            incumbent.new result.bounded }
+        ensures sets { length incumbent.new.sets ≡ length self.old.instance.trees }
+    {
+        match self.near(incumbent.value) {
+            Some(near) => self.polish_near(near, incumbent),
+            None => self.polish(from, incumbent, steps),
+        }
+    }
+
     /// Steps at a child, which is the side now, unless a trial has taken the steps already.
     fn polish_marked(
         &mut self,
@@ -152,7 +215,7 @@ impl<'a> Workspace<'a> {
             return self.repeat(mark, incumbent);
         }
         self.look_at_tree(candidate.bidder);
-        self.polish(from, incumbent, steps)
+        self.polish_anew(from, incumbent, steps)
     }
 
     /// Looks at a child for some steps from the multipliers that are given.

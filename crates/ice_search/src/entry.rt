@@ -1,5 +1,5 @@
 //! The calls of a search.
-ghost use Rattle.std.specs.Prelude.{◌≡◌, ◌+◌, ◌^◌, ◌<◌, ◌≤◌, ◌∷◌, List, IfOk, IfErr};
+ghost use Rattle.std.specs.Prelude.{◌≡◌, ◌+◌, ◌^◌, ◌<◌, ◌≤◌, ◌∷◌, List, length, IfOk, IfErr};
 ghost use Rattle.ice_defs.specs.Exchange.{trees_of, exact_of};
 ghost use Rattle.ice_defs.specs.Steps.{Step as PlainStep, branch_count};
 ghost use Rattle.ice_defs.specs.Trade.{IsFeasible, MeetsAll, IsBest, IsBestOfAll};
@@ -8,12 +8,15 @@ ghost use Rattle.ice_refute.specs.Code.{step_of};
 ghost use Rattle.ice_search.specs.Instance.{instance_of, empty_search};
 ghost use Rattle.ice_search.specs.Results.{IsFoundBy, IsEnd};
 
+use crate::outline::{TRIED, is_tried_first, outline_of};
 use crate::problem::Problem;
 use crate::progress::Progress;
 use crate::results::{Found, SearchEnd};
 use crate::run::{Ended, run};
 use ice_best::Fixings;
 use ice_bound::Multipliers;
+use ice_plan::Plan;
+use ice_planner::Outline;
 use ice_refute::{Log, Step};
 use ice_trade::Exchange;
 use ice_tree::{AllWeights, Assignment};
@@ -43,6 +46,30 @@ fn count_branches(log: &Log) -> u32
     count
 }
 
+/// Goes on with a search that begins to its end.
+fn go_on(alloc: Global, begun: Progress, branches: &mut u32) -> Result<Found, SearchEnd>
+    requires parts { length begun.parts ≡ 1 }
+    requires branches { branches.old ≤ 50000 }
+    ensures found { IfOk result (IsFoundBy begun.entry.instance) }
+    ensures branches { IfOk result (λ f. branches.new + branch_count f.log ≡ branches.old) }
+    ensures end { IfErr result (IsEnd begun.entry.instance branches.old branches.new) }
+{
+    let mut progress = begun;
+    let mut left = *branches;
+    match run(alloc, &mut progress, &mut left)? {
+        Ended::Whole => {
+            let found = progress.found(alloc)?;
+            *branches -= count_branches(&found.log);
+            Ok(found)
+        }
+        Ended::Spent { number, node } => {
+            let spent = progress.spent(alloc, number, node)?;
+            *branches = 0;
+            Err(SearchEnd::Spent(spent))
+        }
+    }
+}
+
 /// What searches before leave to a search. It changes the time, which best assignment is found, the
 /// log, and whether the branches suffice.
 #[derive(Drop)]
@@ -51,6 +78,117 @@ pub struct Known<'a> {
     pub from: &'a Multipliers,
     /// Assignments that are looked at where they are feasible and meet the start.
     pub candidates: &'a [Assignment],
+    /// The log of a search that may be alike.
+    pub log: Option<&'a Log>,
+}
+
+/// A search by a plan, where one is made, with an assignment that a try has found.
+fn search_planned(
+    alloc: Global,
+    exchange: &Exchange,
+    weights: &AllWeights,
+    start: &Fixings,
+    first: &Assignment,
+    known: &Known,
+    tried: &Option<Assignment>,
+    branches: &mut u32,
+) -> Result<Found, SearchEnd>
+    requires weights { AreWeightsOf (trees_of exchange.now) weights.now }
+    requires start { AreFixingsOf (trees_of exchange.now) start.now }
+    requires feasible { IsFeasible (trees_of exchange.now) (exact_of exchange.now) first.now }
+    requires meets { MeetsAll first.now start.now }
+    requires from { AreMultipliersOf (exact_of exchange.now) known.now.from.now }
+    requires branches { branches.old ≤ 50000 }
+    ensures found { IfOk result
+        (IsFoundBy (instance_of exchange.now weights.now start.now first.now)) }
+    ensures branches { IfOk result (λ f. branches.new + branch_count f.log ≡ branches.old) }
+    ensures end { IfErr result
+        (IsEnd (instance_of exchange.now weights.now start.now first.now) branches.old
+        branches.new) }
+{
+    let problem = Problem::new(exchange, weights, start, first);
+    let Outline { plan, guide, finds } = outline_of(alloc, &problem, known, tried, *branches)?;
+    let candidates = known.candidates;
+    let mut progress = Progress::begin(alloc, problem, known.from, candidates, plan, guide)?;
+    progress.offer_some(tried);
+    progress.offer_some(&finds);
+    go_on(alloc, progress, branches)
+}
+
+/// A search that is tried with few of its branches first, and planned where they don't suffice.
+fn try_first(
+    alloc: Global,
+    exchange: &Exchange,
+    weights: &AllWeights,
+    start: &Fixings,
+    first: &Assignment,
+    known: &Known,
+    branches: &mut u32,
+) -> Result<Found, SearchEnd>
+    requires weights { AreWeightsOf (trees_of exchange.now) weights.now }
+    requires start { AreFixingsOf (trees_of exchange.now) start.now }
+    requires feasible { IsFeasible (trees_of exchange.now) (exact_of exchange.now) first.now }
+    requires meets { MeetsAll first.now start.now }
+    requires from { AreMultipliersOf (exact_of exchange.now) known.now.from.now }
+    requires more { 500 < branches.old }
+    requires branches { branches.old ≤ 50000 }
+    ensures found { IfOk result
+        (IsFoundBy (instance_of exchange.now weights.now start.now first.now)) }
+    ensures branches { IfOk result (λ f. branches.new + branch_count f.log ≡ branches.old) }
+    ensures end { IfErr result
+        (IsEnd (instance_of exchange.now weights.now start.now first.now) branches.old
+        branches.new) }
+{
+    let problem = Problem::new(exchange, weights, start, first);
+    let none = Plan::new(alloc);
+    let progress = Progress::begin(alloc, problem, known.from, known.candidates, none, None)?;
+    let mut left = TRIED;
+    match go_on(alloc, progress, &mut left) {
+        Ok(found) => {
+            *branches -= TRIED - left;
+            Ok(found)
+        }
+        Err(SearchEnd::NoMemory) => Err(SearchEnd::NoMemory),
+        Err(SearchEnd::Spent(spent)) => {
+            let tried = Some(spent.into_found());
+            search_planned(
+                alloc, exchange, weights, start, first, known, &tried, branches,
+            )
+        }
+    }
+}
+
+/// A search that is tried first where that may do, and else planned.
+fn search_in_turn(
+    alloc: Global,
+    exchange: &Exchange,
+    weights: &AllWeights,
+    start: &Fixings,
+    first: &Assignment,
+    known: &Known,
+    branches: &mut u32,
+) -> Result<Found, SearchEnd>
+    requires weights { AreWeightsOf (trees_of exchange.now) weights.now }
+    requires start { AreFixingsOf (trees_of exchange.now) start.now }
+    requires feasible { IsFeasible (trees_of exchange.now) (exact_of exchange.now) first.now }
+    requires meets { MeetsAll first.now start.now }
+    requires from { AreMultipliersOf (exact_of exchange.now) known.now.from.now }
+    requires branches { branches.old ≤ 50000 }
+    // On success
+    ensures found { IfOk result
+        (IsFoundBy (instance_of exchange.now weights.now start.now first.now)) }
+    ensures branches { IfOk result (λ f. branches.new + branch_count f.log ≡ branches.old) }
+    // On failure
+    ensures end { IfErr result
+        (IsEnd (instance_of exchange.now weights.now start.now first.now) branches.old
+        branches.new) }
+{
+    if is_tried_first(exchange.goods(), known, *branches) {
+        return try_first(alloc, exchange, weights, start, first, known, branches);
+    }
+    search_planned(
+        alloc, exchange, weights, start, first, known, &None, branches,
+    )
 }
 
 /// `search` with what searches before left.
@@ -81,21 +219,7 @@ pub fn search_from(
         (IsEnd (instance_of exchange.now weights.now start.now first.now) branches.old
         branches.new) }
 {
-    let problem = Problem::new(exchange, weights, start, first);
-    let mut progress = Progress::begin(alloc, problem, known.from, known.candidates)?;
-    let mut left = *branches;
-    match run(alloc, &mut progress, &mut left)? {
-        Ended::Whole => {
-            let found = progress.found(alloc)?;
-            *branches -= count_branches(&found.log);
-            Ok(found)
-        }
-        Ended::Spent { number, node } => {
-            let spent = progress.spent(alloc, number, node)?;
-            *branches = 0;
-            Err(SearchEnd::Spent(spent))
-        }
-    }
+    search_in_turn(alloc, exchange, weights, start, first, known, branches)
 }
 
 /// The best feasible assignment that meets the start, with a log that refutes every greater one.
@@ -136,10 +260,41 @@ pub fn search(
         (IsEnd (instance_of exchange.now weights.now start.now first.now) branches.old
         branches.new) }
 {
+    search_alike(alloc, exchange, weights, start, first, None, branches)
+}
+
+/// `search`, where the log of a search may be known that is alike.
+pub fn search_alike(
+    alloc: Global,
+    exchange: &Exchange,
+    weights: &AllWeights,
+    start: &Fixings,
+    first: &Assignment,
+    log: Option<&Log>,
+    branches: &mut u32,
+) -> Result<Found, SearchEnd>
+    requires weights { AreWeightsOf (trees_of exchange.now) weights.now }
+    requires start { AreFixingsOf (trees_of exchange.now) start.now }
+    requires feasible { IsFeasible (trees_of exchange.now) (exact_of exchange.now) first.now }
+    requires meets { MeetsAll first.now start.now }
+    requires branches { branches.old ≤ 50000 }
+    // On success
+    ensures found { IfOk result
+        (IsFoundBy (instance_of exchange.now weights.now start.now first.now)) }
+    ensures best { IfOk result
+        (λ f. IsBest (trees_of exchange.now) (exact_of exchange.now) weights.now start.now
+        f.value) }
+    ensures branches { IfOk result (λ f. branches.new + branch_count f.log ≡ branches.old) }
+    // On failure
+    ensures end { IfErr result
+        (IsEnd (instance_of exchange.now weights.now start.now first.now) branches.old
+        branches.new) }
+{
     let zeros = Multipliers::zero(exchange.goods());
     let known = Known {
         from: &zeros,
         candidates: &[],
+        log,
     };
     search_from(alloc, exchange, weights, start, first, &known, branches)
 }

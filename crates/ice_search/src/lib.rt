@@ -11,6 +11,7 @@ mod finish;
 mod frontier;
 mod hints;
 mod node;
+mod outline;
 mod parts;
 mod problem;
 mod progress;
@@ -21,5 +22,5 @@ mod sweep;
 mod workspace;
 
 pub use candidates::is_feasible;
-pub use entry::{Known, search, search_anew, search_from};
+pub use entry::{Known, search, search_alike, search_anew, search_from};
 pub use results::{Found, SearchEnd, Spent};

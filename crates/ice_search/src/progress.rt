@@ -10,18 +10,20 @@ ghost use Rattle.ice_search.specs.State.{unswept_count, LooksAt};
 
 use crate::child::CHILD_STEPS;
 use crate::frontier::{greatest, open_children, take_out};
-use crate::hints::{Hint, keep_near, most_promising, near, push_hints};
+use crate::hints::{Hint, keep_near, most_promising, near, places_below, push_hints};
 use crate::parts::{fate_of, lower, push_children};
 use crate::workspace::Workspace;
 use ice_best::Mark;
+use ice_plan::Plan;
 use ice_relaxation::Candidate;
 use ice_search_log::Part;
 use ice_subgradient::Incumbent;
+use ice_tree::Assignment;
 use std::alloc::{AllocError, Global};
 use std::marker::Model;
 
-/// A search as it goes on: its parts with a hint for each, the best assignment so far, and the open
-/// parts.
+/// A search as it goes on: its parts with a hint for each, the best assignment so far, the open
+/// parts, and the plan that it follows.
 #[derive(Drop)]
 pub(crate) struct Progress<'a> {
     pub(crate) space: Workspace<'a>,
@@ -29,6 +31,7 @@ pub(crate) struct Progress<'a> {
     pub(crate) parts: Vec<Part>,
     pub(crate) hints: Vec<Hint>,
     pub(crate) open_parts: Vec<u32>,
+    pub(crate) plan: Plan,
 }
 
 impl<'a> Model for Progress<'a> {
@@ -96,7 +99,13 @@ impl<'a> Progress<'a> {
         ensures same { self.new ≡ self.old }
     {
         let value = self.incumbent.value;
-        if let Some(candidate) = most_promising(&self.hints, number, &mut self.space, value) {
+        if let Some(candidate) = most_promising(
+            &self.hints,
+            &self.plan,
+            number,
+            &mut self.space,
+            value,
+        ) {
             if self.space.splits(candidate) {
                 return Some(candidate);
             }
@@ -118,6 +127,18 @@ impl<'a> Progress<'a> {
             .dive_from(&self.parts, &self.hints, number, &from, &mut finds);
         self.space.consider(&finds.sets, &mut self.incumbent);
         Ok(())
+    }
+
+    /// Takes over an assignment, where there is one that is feasible, meets the start and is worth
+    /// more than the best so far. The parts stay.
+    pub(crate) fn offer_some(&mut self, sets: &Option<Assignment>)
+        ensures instance { self.new.instance ≡ self.old.instance }
+        ensures parts { self.new.parts ≡ self.old.parts }
+    {
+        let Some(sets) = sets else {
+            return;
+        };
+        self.space.consider(sets, &mut self.incumbent);
     }
 
     /// Closes a swept part that is looked at and has no node to be split at.
@@ -171,7 +192,14 @@ impl<'a> Progress<'a> {
         let must_fate = fate_of(&must.bounded, &self.incumbent);
         let never_fate = fate_of(&never.bounded, &self.incumbent);
         open_children(&mut self.open_parts, place, first, must_fate, never_fate);
-        push_hints(&mut self.hints, number, must.candidates, never.candidates);
+        let places = places_below(&self.hints, &self.plan, number, &self.space, node);
+        push_hints(
+            &mut self.hints,
+            number,
+            places,
+            must.candidates,
+            never.candidates,
+        );
         push_children(&mut self.parts, number, node, must.bounded, never.bounded);
         Ok(())
     }

@@ -1,4 +1,5 @@
 //! What a search gives.
+ghost use Rattle.std.specs.Prelude.{◌≡◌};
 
 use ice_refute::Log;
 use ice_tree::Assignment;
@@ -37,6 +38,21 @@ impl Drop for Spent {
             bound: _,
             log: _,
         } = self;
+    }
+}
+
+impl Spent {
+    /// The assignment alone.
+    pub(crate) fn into_found(self) -> Assignment
+        ensures { result ≡ self.found }
+    {
+        let Spent {
+            found,
+            value: _,
+            bound: _,
+            log: _,
+        } = self;
+        found
     }
 }
 

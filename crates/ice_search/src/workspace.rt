@@ -1,17 +1,21 @@
 //! The workspace of a search: the side that is looked at, with its kept bounds, and the room that
 //! sweeps need.
 ghost use Rattle.std.specs.Prelude.{◌≡◌, ◌<◌, length, IfOk, List, Bool};
-ghost use Rattle.ice_defs.specs.Conditions.{AreMultipliersOf};
+ghost use Rattle.ice_defs.specs.Conditions.{AreFixingsOf, AreMultipliersOf};
 ghost use Rattle.ice_search_log.specs.Parts.{side_at};
 ghost use Rattle.ice_search_log.specs.Code.{parts_of};
 ghost use Rattle.ice_search.specs.Instance.{IsSearchOf};
 
 use crate::problem::Problem;
 use crate::sides::put_side;
+use ice_best::{Fixings, Mark};
 use ice_bound::{Desk, Kept, Multipliers};
-use ice_relaxation::Relaxation;
+use ice_plan::Marks;
+use ice_planner::{Decided, Guide};
+use ice_relaxation::{Candidate, Relaxation};
 use ice_search_log::Part;
 use ice_subgradient::Trial;
+use ice_tree::Tree;
 use std::alloc::{AllocError, Global};
 use std::marker::Model;
 
@@ -25,6 +29,8 @@ pub(crate) struct Workspace<'a> {
     pub(crate) relaxation: Box<Relaxation>,
     /// What the last trial at this side showed of the children of the node that it chose.
     pub(crate) trial: Box<Trial>,
+    /// What finds multipliers at the sides of a search that is planned.
+    pub(crate) guide: Option<Guide>,
 }
 
 // By hand, so that each exit that drops one has one call to prove, and not all its parts.
@@ -36,6 +42,7 @@ impl Drop for Workspace<'_> {
             desk: _,
             relaxation: _,
             trial: _,
+            guide: _,
         } = self;
     }
 }
@@ -62,9 +69,26 @@ fn multipliers_for(part: &Part) -> Multipliers
     }
 }
 
+/// The mark of a node, where the marks of its tree decide it, else the one that it has.
+fn mark_under(trees: &[Tree], marks: &Fixings, node: Candidate) -> Mark
+    requires { AreFixingsOf trees.now marks.now }
+{
+    let place = usize::from(node.bidder);
+    if place >= trees.len() || node.node >= trees[place].nodes() {
+        return Mark::Never;
+    }
+    let mut decided = Decided::new();
+    decided.fill(&trees[place], marks.of(node.bidder));
+    decided.mark_of(node.node)
+}
+
 impl<'a> Workspace<'a> {
     /// A workspace that looks at the start.
-    pub(crate) fn new(alloc: Global, problem: Problem<'a>) -> Result<Workspace<'a>, AllocError>
+    pub(crate) fn new(
+        alloc: Global,
+        problem: Problem<'a>,
+        guide: Option<Guide>,
+    ) -> Result<Workspace<'a>, AllocError>
         ensures instance { IfOk result (λ w. w.instance ≡ problem.entry) }
         ensures side { IfOk result (λ w. w.side ≡ problem.entry.start) }
     {
@@ -82,6 +106,7 @@ impl<'a> Workspace<'a> {
             desk,
             relaxation,
             trial: Box::new(alloc, Trial::none())?,
+            guide,
         })
     }
 
@@ -102,5 +127,11 @@ impl<'a> Workspace<'a> {
             self.kept.marks(),
         );
         self.trial.forget();
+    }
+}
+
+impl Marks for Workspace<'_> {
+    fn mark_of(&self, node: Candidate) -> Mark {
+        mark_under(self.problem.trees(), self.kept.marks(), node)
     }
 }

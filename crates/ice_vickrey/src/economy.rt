@@ -120,6 +120,7 @@ impl<'a> Economy<'a> {
         let known = Known {
             from: &self.from,
             candidates: &candidates,
+            log: None,
         };
         let weights = &self.weights;
         let empty = &self.empty;

@@ -1,0 +1,10 @@
+use Rattle.std.proofs.Common.{sym, subst}
+use Rattle.ice_defs.specs.Sweep.{IsLive}
+use Rattle.ice_search.specs.Workspace.{Looking}
+use Rattle.ice_search.proofs.workspace.Workspace.polish_anew.Goals as goal
+
+pub polish_near-requires-clause-live : goal.polish_near-requires-clause-live
+polish_near-requires-clause-live c = subst (λ (l : Looking). IsLive l.instance.trees l.side) (sym c.near.ensures) c.requires.live
+
+pub polish-requires-clause-live : goal.polish-requires-clause-live
+polish-requires-clause-live c = subst (λ (l : Looking). IsLive l.instance.trees l.side) (sym c.near.ensures) c.requires.live
