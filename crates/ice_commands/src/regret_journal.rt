@@ -61,6 +61,7 @@ fn write_rival<K: Sink>(
         exchange,
         exchange.bounds(),
         &found.best,
+        Some(&found.log),
         &mut branches,
     ) {
         Ok(rival) => ended(put_ending(exchange, &rival, out), Status::Done),

@@ -24,7 +24,14 @@ pub fn searched(alloc: Global, exchange: &Exchange) -> Result<String, AllocError
         Ok(found) => found,
         Err(end) => return unended(alloc, end),
     };
-    let regret = match regret(alloc, exchange, bounds, &found.best, &mut left) {
+    let regret = match regret(
+        alloc,
+        exchange,
+        bounds,
+        &found.best,
+        Some(&found.log),
+        &mut left,
+    ) {
         Ok(regret) => regret,
         Err(end) => return unended(alloc, end),
     };

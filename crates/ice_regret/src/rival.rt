@@ -9,14 +9,38 @@ ghost use Rattle.ice_regret.specs.Regretted.{IsRegretOf, rival_search};
 
 use crate::lead::Regret;
 use ice_best::Fixings;
-use ice_search::{SearchEnd, search};
+use ice_refute::Log;
+use ice_search::{SearchEnd, search_alike};
 use ice_trade::Exchange;
 use ice_tree::{AllWeights, Assignment, Bounds};
 use std::alloc::Global;
 
+/// Whether each lower value is the upper one, so that values can't be perturbed.
+fn are_points(bounds: &[Bounds]) -> bool {
+    bounds.iter().all(|of_one| is_point(of_one))
+}
+
+/// Whether each lower value of a bidder is the upper one.
+fn is_point(bounds: &Bounds) -> bool {
+    for node in 0..bounds.len() {
+        if bounds.lo(node) != bounds.hi(node) {
+            return false;
+        }
+    }
+    true
+}
+
+/// The log, where values can't be perturbed.
+fn where_points<'a>(log: Option<&'a Log>, bounds: &[Bounds]) -> Option<&'a Log> {
+    if are_points(bounds) { log } else { None }
+}
+
 /// The regret of a feasible assignment inside bounds: the search at perturbed values begins with
 /// the assignment itself. No feasible trade is worth more than that of the assignment by more than
 /// the regret, whatever the true values inside the bounds are, fractions included.
+///
+/// The log may be that of the search that found the assignment at lower values. It changes the
+/// time, which rival is found, the log of that, and whether the branches suffice.
 ///
 /// The branches fall by the log's branch steps. Errors are those of `search`. There are at most
 /// 50,000 branches.
@@ -25,6 +49,7 @@ pub fn regret(
     exchange: &Exchange,
     bounds: &[Bounds],
     chosen: &Assignment,
+    log: Option<&Log>,
     branches: &mut u32,
 ) -> Result<Regret, SearchEnd>
     requires bounds { AreBoundsOf (trees_of exchange.now) bounds.now }
@@ -39,7 +64,8 @@ pub fn regret(
     let mut weights = AllWeights::new(alloc, trees)?;
     weights.fill_perturbed(bounds, chosen);
     let start = Fixings::free(alloc, trees)?;
-    let found = search(alloc, exchange, &weights, &start, chosen, branches)?;
+    let log = where_points(log, bounds);
+    let found = search_alike(alloc, exchange, &weights, &start, chosen, log, branches)?;
     let value = found.best.value(trees, &weights);
     let amount = value - chosen.lower_value(bounds);
     Ok(Regret {

@@ -210,6 +210,7 @@ impl Session {
             &self.exchange,
             self.judge.bounds(),
             &best.best,
+            Some(&best.log),
             &mut left,
         ) {
             Ok(regret) => regret,

@@ -35,7 +35,14 @@ fn settle(alloc: Global, exchange: &Exchange) -> Result<Settlement, Fail> {
         return Err("the best assignment is not feasible")?;
     }
     let mut left = 200;
-    match regret(alloc, exchange, exchange.bounds(), &best.best, &mut left) {
+    match regret(
+        alloc,
+        exchange,
+        exchange.bounds(),
+        &best.best,
+        None,
+        &mut left,
+    ) {
         Ok(regret) => Ok(Settlement {
             value: best.value,
             amount: regret.amount,

@@ -13,6 +13,7 @@ use crate::hints::{candidates, multipliers_of};
 use crate::marginal::Marginal;
 use ice_best::{Fixings, Mark};
 use ice_bound::Multipliers;
+use ice_refute::Log;
 use ice_search::{Found, Known, SearchEnd, search_from};
 use ice_trade::Exchange;
 use ice_tree::{AllWeights, Assignment, Bounds};
@@ -25,6 +26,7 @@ pub(crate) struct Economy<'a> {
     exchange: &'a Exchange,
     bounds: &'a [Bounds],
     best: &'a Assignment,
+    log: &'a Log,
     total: i128,
     weights: AllWeights,
     empty: Assignment,
@@ -38,6 +40,7 @@ impl Drop for Economy<'_> {
             exchange: _,
             bounds: _,
             best: _,
+            log: _,
             total: _,
             weights: _,
             empty: _,
@@ -82,6 +85,7 @@ impl<'a> Economy<'a> {
             exchange,
             bounds,
             best: &best.best,
+            log: &best.log,
             total: best.best.lower_value(bounds),
             weights,
             empty,
@@ -120,7 +124,7 @@ impl<'a> Economy<'a> {
         let known = Known {
             from: &self.from,
             candidates: &candidates,
-            log: None,
+            log: Some(self.log),
         };
         let weights = &self.weights;
         let empty = &self.empty;

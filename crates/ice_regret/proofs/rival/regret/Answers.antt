@@ -17,12 +17,12 @@ use Rattle.ice_defs.proofs.Starts.{meets_free_side}
 use Rattle.ice_regret.proofs.Rivals.{rival_gives_regret}
 use Rattle.ice_regret.proofs.rival.regret.Goals as goal
 
-pub search-requires-clause-weights : goal.search-requires-clause-weights
-search-requires-clause-weights c =
+pub search_alike-requires-clause-weights : goal.search_alike-requires-clause-weights
+search_alike-requires-clause-weights c =
     subst (AreWeightsOf (trees_of c.args.exchange.now)) (sym c.fill_perturbed.ensures.value) (perturbed_modest c.args.chosen.now (trees_of c.args.exchange.now) c.args.bounds.now c.requires.bounds)
 
-pub search-requires-clause-meets : goal.search-requires-clause-meets
-search-requires-clause-meets c =
+pub search_alike-requires-clause-meets : goal.search_alike-requires-clause-meets
+search_alike-requires-clause-meets c =
     let start_is : c.in_ok-start.start ≡ free_side (trees_of c.args.exchange.now) = c.in_ok-start.ensures ∙ ap free_side c.trees-trees.ensures.value in
     subst (MeetsAll c.args.chosen.now) (sym start_is) (meets_free_side (trees_of c.args.exchange.now) c.args.chosen.now)
 
