@@ -12,6 +12,7 @@ mod parts;
 mod plan;
 mod prune;
 mod pulling;
+mod rebuilding;
 mod sides;
 mod walk;
 
@@ -19,4 +20,5 @@ pub use idle::drop_idle;
 pub use making::make;
 pub use plan::{Plan, Side, Split};
 pub use pulling::pull;
+pub use rebuilding::rebuild;
 pub use sides::{Bounds, Marks, Seen, Sides, Tries};

@@ -9,7 +9,7 @@ use crate::points::{MOST_GOODS, Points};
 use ice_best::Fixings;
 use ice_bound::Multipliers;
 use ice_master::Master;
-use ice_plan::{Plan, drop_idle, make, pull};
+use ice_plan::{Plan, drop_idle, make, pull, rebuild};
 use ice_refute::{Log, Step};
 use ice_tree::{AllWeights, Assignment, Tree};
 use std::alloc::{AllocError, Global};
@@ -19,6 +19,9 @@ const TURNS: u8 = 4;
 
 /// .. and no more where one leaves out less than this part of the splits.
 const GAIN: usize = 25;
+
+/// Of a plan that follows no log, trees of so many splits are made anew, and then those of so many.
+const REBUILT: [usize; 2] = [16, 64];
 
 /// A plan of a search with what was found on the way.
 #[derive(Drop)]
@@ -94,6 +97,32 @@ fn smaller(alloc: Global, plan: Plan, planner: &mut Planner) -> Result<Plan, All
     Ok(plan)
 }
 
+/// The plan, with small trees of it made anew.
+fn rebuilt(alloc: Global, plan: Plan, planner: &mut Planner) -> Result<Plan, AllocError> {
+    let mut plan = plan;
+    for most in REBUILT {
+        let rebuilt = rebuild(alloc, &plan, planner, most)?;
+        let pulled = pull(alloc, &rebuilt, planner)?;
+        plan = drop_idle(alloc, &pulled, planner)?;
+    }
+    Ok(plan)
+}
+
+/// The plan, made smaller. More is spent on one that follows no log, since others will follow its
+/// log.
+fn made_smaller(
+    alloc: Global,
+    plan: Plan,
+    planner: &mut Planner,
+    log: Option<&Log>,
+) -> Result<Plan, AllocError> {
+    let plan = smaller(alloc, plan, planner)?;
+    if log.is_some() {
+        return Ok(plan);
+    }
+    rebuilt(alloc, plan, planner)
+}
+
 /// A plan of the search that begins with these marks for an assignment above a value, with at most
 /// so many splits. The log of a search that may be alike is followed first.
 pub fn plan_search(
@@ -126,7 +155,7 @@ pub fn plan_search(
         looks: 0,
     };
     let plan = match make(alloc, &mut planner, &seed, most)? {
-        Some(plan) => smaller(alloc, plan, &mut planner)?,
+        Some(plan) => made_smaller(alloc, plan, &mut planner, log)?,
         None => Plan::new(alloc),
     };
     Ok(Outline {
