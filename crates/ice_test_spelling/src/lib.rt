@@ -1,18 +1,6 @@
-//! Tests of the spellings of records: each record with the least and the greatest that each of its
-//! fields may be, and with what no field may be. What is read is written again as the same text.
+//! Tests of what records are read as. How they are spelt, with each field at its limits and past
+//! them, is tried over the built program.
 #![tactic(auto)]
 
 #[cfg(test)]
-mod cases;
-#[cfg(test)]
-mod counts;
-#[cfg(test)]
-mod fields;
-#[cfg(test)]
 mod meanings;
-#[cfg(test)]
-mod records;
-#[cfg(test)]
-mod samples;
-#[cfg(test)]
-mod texts;
