@@ -18,14 +18,3 @@ fn one_cut_for_three(rt: HostRuntime) {
     let payments = are(paid.payments.as_slice(), &[(-5, 2), (1, 2), (2, 1)]);
     assert!(rt; cut && discounts && payments);
 }
-
-#[test]
-fn nothing_to_cut(rt: HostRuntime) {
-    let Ok(paid) = threshold(rt.alloc(), &[10, 0, 0], &[0, 0, 0], 10) else {
-        panic!(rt; "want of memory");
-    };
-    let cut = are(&[paid.cut, paid.surplus], &[(0, 1), (10, 1)]);
-    let discounts = are(paid.discounts.as_slice(), &[(0, 1), (0, 1), (0, 1)]);
-    let payments = are(paid.payments.as_slice(), &[(10, 1), (0, 1), (0, 1)]);
-    assert!(rt; cut && discounts && payments);
-}
