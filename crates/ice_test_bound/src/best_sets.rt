@@ -1,7 +1,7 @@
-//! Worked values, and a comparison with all sets of small trees.
+//! A comparison of best sets with all sets of small trees.
 ghost use Rattle.std.specs.Prelude.{◌≡◌, ◌<◌, ◌≤◌, length};
 
-use ice_best::{Fixing, Fixings, Mark, Scratch, best, greatest_sale};
+use ice_best::{Fixing, Mark, Scratch, best};
 use ice_defs::NodeKind;
 use ice_tree::{NodeSet, Tree, TreeFault, TreeMaker, Weights};
 use std::test::Fail;
@@ -24,18 +24,6 @@ impl Draw {
             .wrapping_add(1_442_695_040_888_963_407);
         ((self.state >> 33) % u64::from(bound)) as u16
     }
-}
-
-/// A choose node over three leaves.
-fn three_leaves(least: u16, most: u16) -> Result<Tree, TreeFault> {
-    let mut maker = TreeMaker::new(3);
-    maker.open_choose(least, most, 0, 0)?;
-    for good in 0..3 {
-        maker.leaf(NodeKind::Buy { good, units: 1 }, 0, 0)?;
-    }
-    maker.close()?;
-    let (tree, _bounds) = maker.finish()?;
-    Ok(tree)
 }
 
 /// A root over one to three children, of which the first two may be choose nodes over one or two
@@ -86,16 +74,6 @@ fn drawn_weights(draw: &mut Draw, nodes: u16) -> Weights
         let weight = draw.below(11) as i8;
         put_weight(&mut weights, node, weight - 5);
     }
-    weights
-}
-
-/// Weights 0, 5, -3 and 0.
-fn worked_weights() -> Weights
-    ensures { length result ≡ 4 }
-{
-    let mut weights = Weights::zero(4);
-    put_weight(&mut weights, 1, 5);
-    put_weight(&mut weights, 2, -3);
     weights
 }
 
@@ -189,109 +167,5 @@ fn best_is_the_greatest_of_all_sets(rt: HostRuntime) -> Result<(), Fail> {
         }
     }
     assert!(rt; 0 < none && none < 200, "{none} trees have no open set");
-    Ok(())
-}
-
-/// The best value of three leaves of which so many are taken, and the nodes of the set.
-fn chosen(least: u16, most: u16) -> Result<Option<(Option<i128>, [bool; 4])>, TreeFault> {
-    let tree = three_leaves(least, most)?;
-    if tree.nodes() != 4 {
-        return Ok(None);
-    }
-    let mut set = NodeSet::empty(4);
-    let fixing = Fixing::free(4);
-    let found = best(
-        &tree,
-        &worked_weights(),
-        &fixing,
-        &mut Scratch::new(),
-        &mut set,
-    );
-    if set.len() != 4 {
-        return Ok(None);
-    }
-    Ok(Some((found, [set.has(0), set.has(1), set.has(2), set.has(3)])))
-}
-
-#[test]
-fn choices_among_gains_of_5_and_minus_3_and_0(rt: HostRuntime) -> Result<(), Fail> {
-    for (least, most, want, second) in [(1, 3, 5, false), (2, 2, 5, false), (3, 3, 2, true)] {
-        let (found, nodes) = chosen(least, most)?.ok_or("nodes")?;
-        assert_eq!(rt; found, Some(want), "choose {least} to {most}");
-        // where one is enough, the leaf of gain 0 may be in or not
-        let third = nodes[3] || least == 1;
-        assert!(rt;
-            nodes[0] && nodes[1] && nodes[2] == second && third,
-            "choose {least} to {most}"
-        );
-    }
-    Ok(())
-}
-
-/// One of two leaves.
-fn one_of_two() -> Result<Tree, TreeFault> {
-    let mut maker = TreeMaker::new(1);
-    maker.open_choose(1, 1, 0, 0)?;
-    maker.leaf(NodeKind::Buy { good: 0, units: 1 }, 0, 0)?;
-    maker.leaf(NodeKind::Buy { good: 0, units: 1 }, 0, 0)?;
-    maker.close()?;
-    let (tree, _bounds) = maker.finish()?;
-    Ok(tree)
-}
-
-/// Marks both nodes behind the root of the first tree as Must, and says whether it has them.
-fn mark_leaves(fixings: &mut Fixings) -> bool {
-    for leaf in 1..3 {
-        if fixings.len() == 0 || fixings.of(0).len() <= leaf {
-            return false;
-        }
-        fixings.mark(0, leaf, Mark::Must);
-    }
-    true
-}
-
-/// The best value of a tree of three nodes under the marks of the first one, and whether the set
-/// is left with a node.
-fn best_under(tree: &Tree, fixings: &Fixings) -> Option<(Option<i128>, bool)> {
-    let nodes = tree.nodes();
-    if fixings.len() == 0 || fixings.of(0).len() != nodes {
-        return None;
-    }
-    let mut set = set_of(nodes, 7);
-    let weights = Weights::zero(nodes);
-    let found = best(tree, &weights, fixings.of(0), &mut Scratch::new(), &mut set);
-    Some((found, !set.is_empty()))
-}
-
-#[test]
-fn two_must_leaves_of_which_one_may_be_taken(rt: HostRuntime) -> Result<(), Fail> {
-    let trees = [one_of_two()?];
-    let mut fixings = Fixings::free(rt.alloc(), &trees)?;
-    assert!(rt; mark_leaves(&mut fixings));
-    assert_eq!(rt; best_under(&trees[0], &fixings), Some((None, false)));
-    Ok(())
-}
-
-/// The greatest sale of each of two goods, of a tree that takes so many of two leaves that sell a
-/// unit of the first.
-fn sales(most: u16) -> Result<[i64; 2], TreeFault> {
-    let mut maker = TreeMaker::new(2);
-    maker.open_choose(0, most, 0, 0)?;
-    maker.leaf(NodeKind::Sell { good: 0, units: 1 }, 0, 0)?;
-    maker.leaf(NodeKind::Sell { good: 0, units: 1 }, 0, 0)?;
-    maker.close()?;
-    let (tree, _bounds) = maker.finish()?;
-    let mut scratch = Scratch::new();
-    Ok([
-        greatest_sale(&tree, 0, &mut scratch),
-        greatest_sale(&tree, 1, &mut scratch),
-    ])
-}
-
-#[test]
-fn sales_of_two_leaves(rt: HostRuntime) -> Result<(), Fail> {
-    for (most, want) in [(2, 2), (1, 1), (0, 0)] {
-        assert!(rt; sales(most)? == [want, 0], "at most {most}");
-    }
     Ok(())
 }

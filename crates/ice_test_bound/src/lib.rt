@@ -1,11 +1,9 @@
-//! Tests of best sets, bounds, sweeps, logs, heuristics, duals and plans. They stand apart so that
-//! the crates they try are not proved again with them.
+//! Tests of best sets, sweeps, logs, heuristics, duals and plans. They stand apart so that the
+//! crates they try are not proved again with them. Bounds are tried by logs, as rows of `check`.
 #![tactic(auto)]
 
 #[cfg(test)]
 mod best_sets;
-#[cfg(test)]
-mod bounds;
 #[cfg(test)]
 mod duals;
 #[cfg(test)]

@@ -1,5 +1,5 @@
 //! Logs of a small market: a seller of a unit at -10 and a buyer of it at 20, whose best trade is
-//! worth 10.
+//! worth 10. How a log is walked step by step is shown by rows of `check`.
 ghost use Rattle.std.specs.Prelude.{◌≡◌, ◌<◌, ◌≤◌, [], ◌∷◌, length, sum, false, IfOk};
 ghost use Rattle.std.specs.List.{AllByRecursion};
 ghost use Rattle.ice_defs.specs.Lawful.{AreBounds};
@@ -9,7 +9,7 @@ ghost use Rattle.ice_refute.specs.Waiting.{nodes_of};
 
 use ice_best::Fixings;
 use ice_bound::{Desk, Multipliers};
-use ice_refute::{Log, LogFault, Step, Walk, check_log};
+use ice_refute::{Log, LogFault, Step, check_log};
 use ice_tree::{AllWeights, Bounds, NodeKind, Tree, TreeFault, TreeMaker};
 use std::alloc::{AllocError, Global};
 use std::process::Abort;
@@ -187,53 +187,5 @@ fn judges_logs(rt: HostRuntime) -> Result<(), Fail> {
         ),
     ];
     judge_all(&rt, alloc, &trees, &weights, &start, &mut desk, &cases)?;
-    Ok(())
-}
-
-/// Whether a walk is closed before it begins, behind a branch and in the end, and the fault of a
-/// leaf whose bound is above the target.
-fn walked(
-    alloc: Global,
-    trees: &[Tree],
-    weights: &AllWeights,
-    start: &Fixings,
-    desk: &mut Desk,
-) -> Result<Option<([bool; 3], LogFault)>, Fail>
-    requires few { length trees.now ≤ 40 }
-    requires nodes { sum (nodes_of trees.now) ≤ 2000 }
-    requires weights { AreWeightsOf trees.now weights.now }
-    requires few_start { length start.now ≤ 40 }
-    requires start { nodes_of start.now ≡ nodes_of trees.now }
-    requires marks { nodes_of desk.old.marks ≡ nodes_of trees.now }
-    requires exact { desk.old.room ≡ false ∷ [] }
-{
-    let mut walk = Walk::new(alloc, trees)?;
-    let before = walk.is_closed();
-    walk.begin(start);
-    let branch = Step::Branch { bidder: 0, node: 0 };
-    walk.step(trees, weights, 10, &branch, desk)?;
-    let behind = walk.is_closed();
-    walk.step(trees, weights, 10, &step(Plain::Leaf(640)), desk)?;
-    let low = step(Plain::Leaf(576));
-    let Err(fault) = walk.step(trees, weights, 9, &low, desk) else {
-        return Ok(None);
-    };
-    walk.step(trees, weights, 10, &step(Plain::Leaf(1280)), desk)?;
-    Ok(Some(([before, behind, walk.is_closed()], fault)))
-}
-
-#[test]
-fn walks(rt: HostRuntime) -> Result<(), Fail> {
-    let alloc = rt.alloc();
-    let (seller, asked) = sells(-10)?;
-    let (buyer, offered) = buys(20)?;
-    let trees = [seller, buyer];
-    let weights = lower(alloc, &trees, &[asked, offered])?;
-    let mut desk = desk(alloc, &trees)?;
-    let start = free(alloc, &trees)?;
-    let fault = LogFault::Above { step: 0, bound: 11 };
-    assert!(rt;
-        walked(alloc, &trees, &weights, &start, &mut desk)? == Some(([true, false, true], fault))
-    );
     Ok(())
 }
