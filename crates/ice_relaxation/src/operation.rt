@@ -68,12 +68,9 @@ pub(crate) enum Above {
 pub(crate) struct Operation {
     /// What the node is worth, with what is bound to it, in 64ths.
     pub(crate) weight: i64,
-    /// A bit for each good that leaves at its node or below it buy or sell.
-    pub(crate) goods: u32,
     /// The number of the node.
     pub(crate) node: u8,
     pub(crate) work: Work,
-    pub(crate) above: Above,
 }
 
 /// What a leaf buys, and less than nothing where it sells.
@@ -87,10 +84,8 @@ impl Operation {
     /// That of no node yet.
     pub(crate) const BLANK: Operation = Operation {
         weight: 0,
-        goods: 0,
         node: 0,
         work: Work::Row(Row { first: 0, end: 0 }),
-        above: Above::Nothing,
     };
 }
 

@@ -94,7 +94,7 @@ impl Operations {
     /// A bit for each good of which units may be bought or sold.
     pub(crate) fn goods(&self) -> u32 {
         match self.plan.root() {
-            Some(root) => self.plan.operation(root).goods,
+            Some(root) => self.plan.goods(root),
             None => 0,
         }
     }
@@ -159,7 +159,7 @@ impl Operations {
         let mut share = Share::new(fixed, offers, least, is_optional);
         for place in choice.offered..choice.end {
             let number = self.plan.operand(place);
-            if self.plan.operation(number).goods & bit_of(good) == 0 {
+            if self.plan.goods(number) & bit_of(good) == 0 {
                 share.add_rest(self.outcome.value(number));
             } else {
                 profile.add_line(self.line(number, good));

@@ -123,7 +123,7 @@ impl Outcome {
         if value == before {
             return None;
         }
-        match plan.operation(number).above {
+        match plan.above(number) {
             Above::Nothing => None,
             Above::Along(above) => Some(above),
             Above::Offered(above) => {
@@ -217,17 +217,21 @@ impl Outcome {
 
     /// Takes the best of the offered operands that adds more than this, and says what is added.
     fn take_best(&mut self, plan: &Plan, number: Number, choice: Choice, more_than: i64) -> i64 {
-        let mut taken = Taken::Nothing;
+        let mut best = Number::FIRST;
         let mut value = more_than;
         for place in choice.offered..choice.end {
             let operand = plan.operand(place);
             let other = self.value(operand);
             if other > value {
                 value = other;
-                taken = Taken::Best(operand);
+                best = operand;
             }
         }
-        self.taken[number.place()] = taken;
+        self.taken[number.place()] = if value > more_than {
+            Taken::Best(best)
+        } else {
+            Taken::Nothing
+        };
         value
     }
 

@@ -14,6 +14,10 @@ use ice_tree::{NodeKind, Tree};
 pub(crate) struct Plan {
     list: [Operation; 256],
     count: u8,
+    /// For each operation, a bit for each good that leaves at its node or below it buy or sell.
+    goods: [u32; 256],
+    /// For each operation, the one above it.
+    above: [Above; 256],
     /// How many of them are rows.
     rows: u8,
     /// For each good, the rows that have it.
@@ -58,6 +62,8 @@ impl Plan {
         Plan {
             list: [Operation::BLANK; 256],
             count: 0,
+            goods: [0; 256],
+            above: [Above::Nothing; 256],
             rows: 0,
             rows_of: [NumberSet::EMPTY; 32],
             operands: [Number::FIRST; 256],
@@ -107,6 +113,7 @@ impl Plan {
     fn add(&mut self, operation: Operation) -> Number {
         let number = self.next_number();
         self.list[number.place()] = operation;
+        self.above[number.place()] = Above::Nothing;
         self.count = self.count.saturating_add(1);
         number
     }
@@ -136,10 +143,8 @@ impl Plan {
         let end = self.leaf_count;
         Operation {
             weight: in_64ths(open.worth),
-            goods,
             node: node as u8,
             work: Work::Row(Row { first, end }),
-            above: Above::Nothing,
         }
     }
 
@@ -158,6 +163,7 @@ impl Plan {
     /// Notes for each of these goods that the row that is made has it.
     fn note_row(&mut self, goods: u32) {
         let row = self.next_number();
+        self.goods[row.place()] = goods;
         let mut left = goods;
         for _good in 0..goods.count_ones() {
             let good = left.trailing_zeros() % 32;
@@ -183,9 +189,9 @@ impl Plan {
         let offered = self.operand_count;
         self.add_offered(tree, openness, node, numbers);
         let end = self.operand_count;
+        self.goods[self.next_number().place()] = self.goods_of(along, end);
         Operation {
             weight: in_64ths(open.worth),
-            goods: self.goods_of(along, end),
             node: node as u8,
             work: Work::Choice(Choice {
                 rule: rule_of(&open, end.saturating_sub(offered)),
@@ -193,7 +199,6 @@ impl Plan {
                 offered,
                 end,
             }),
-            above: Above::Nothing,
         }
     }
 
@@ -231,14 +236,14 @@ impl Plan {
     fn add_operand(&mut self, operand: Number, above: Above) {
         self.operands[usize::from(self.operand_count)] = operand;
         self.operand_count = self.operand_count.saturating_add(1);
-        self.list[operand.place()].above = above;
+        self.above[operand.place()] = above;
     }
 
     /// The goods of the operands at these places.
     fn goods_of(&self, first: u8, end: u8) -> u32 {
         let mut goods = 0;
         for place in first..end {
-            goods |= self.operation(self.operand(place)).goods;
+            goods |= self.goods(self.operand(place));
         }
         goods
     }
@@ -270,6 +275,16 @@ impl Plan {
     /// An operation.
     pub(crate) fn operation(&self, number: Number) -> &Operation {
         &self.list[number.place()]
+    }
+
+    /// A bit for each good that leaves at an operation's node or below it buy or sell.
+    pub(crate) fn goods(&self, number: Number) -> u32 {
+        self.goods[number.place()]
+    }
+
+    /// The operation above one.
+    pub(crate) fn above(&self, number: Number) -> Above {
+        self.above[number.place()]
     }
 
     /// The rows that have a good.
