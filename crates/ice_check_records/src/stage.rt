@@ -69,7 +69,8 @@ impl Stage {
     }
 
     /// Takes a record up to the one that ends the exchange. Where memory runs out, no more records
-    /// are taken.
+    /// are taken. Never inlined, since each record would pay for the size of its locals.
+    #[inline(never)]
     fn describe(&mut self, alloc: Global, number: u64, line: &Line) -> Result<(), AllocError>
         requires before { is_ready_stage self.old ≡ false }
         requires within { IsAtLine number self.old }
