@@ -1,5 +1,5 @@
 -- What a search gives, as it is in the definitions.
-use Rattle.std.specs.Prelude.{ℕ, ◌≤◌, ◌≡◌, length, List}
+use Rattle.std.specs.Prelude.{ℕ, ◌≡◌, length, List}
 use Rattle.std.specs.List.{AllByRecursion}
 use Rattle.ice_defs.specs.Session.{Proved}
 use Rattle.ice_defs.specs.Steps.{Step, branch_count}
@@ -34,7 +34,7 @@ pub record IsSpentBy (x : Instance) (used : ℕ) (s : declared.Spent) : Type 0 w
   pub written : AreWritten (length x.exact) s.log
   pub branches : branch_count s.log ≡ used
 
--- a search ends early with all branches spent, or by want of memory
+-- a search ends early with all branches spent, or by want of memory, which leaves them as they were
 abbrev pub IsEnd : Instance → ℕ → ℕ → ends.SearchEnd → Type 0
 IsEnd x old new (variants.Spent s) = IsSpentBy x old s × (new ≡ 0)
-IsEnd x old new variants.NoMemory = new ≤ old
+IsEnd x old new variants.NoMemory = new ≡ old

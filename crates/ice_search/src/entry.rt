@@ -227,7 +227,7 @@ pub fn search_from(
 ///
 /// `Spent` comes only where all branches were used: then no branch is left, and the log refutes
 /// what is above its bound, which is above the value that was found. `NoMemory` may come at any
-/// time, and leaves no more branches than there were.
+/// time, and leaves the branches as they were.
 ///
 /// Each branch step of a log is earned: both its sides are live, and the bound that one sweep gives
 /// of the side that it splits is above the first assignment's value and no less than the best. The
