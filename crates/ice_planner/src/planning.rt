@@ -20,8 +20,12 @@ const TURNS: u8 = 4;
 /// .. and no more where one leaves out less than this part of the splits.
 const GAIN: usize = 25;
 
-/// Of a plan that follows no log, trees of so many splits are made anew, and then those of so many.
+/// Of a plan that many may follow, trees of so many splits are made anew, and then those of so
+/// many.
 const REBUILT: [usize; 2] = [16, 64];
+
+/// Many may follow the log of a search where a market has so many bidders.
+const MANY: usize = 10;
 
 /// A plan of a search with what was found on the way.
 #[derive(Drop)]
@@ -108,19 +112,24 @@ fn rebuilt(alloc: Global, plan: Plan, planner: &mut Planner) -> Result<Plan, All
     Ok(plan)
 }
 
-/// The plan, made smaller. More is spent on one that follows no log, since others will follow its
-/// log.
+/// The plan, made smaller. More is spent on one that many may follow.
 fn made_smaller(
     alloc: Global,
     plan: Plan,
     planner: &mut Planner,
-    log: Option<&Log>,
+    followed: bool,
 ) -> Result<Plan, AllocError> {
     let plan = smaller(alloc, plan, planner)?;
-    if log.is_some() {
-        return Ok(plan);
+    if followed {
+        return rebuilt(alloc, plan, planner);
     }
-    rebuilt(alloc, plan, planner)
+    Ok(plan)
+}
+
+/// Whether many searches may follow the log of one that follows none: in a market of many bidders
+/// those without each of them do.
+fn is_followed_by_many(bidders: usize, log: Option<&Log>) -> bool {
+    bidders >= MANY && log.is_none()
 }
 
 /// A plan of the search that begins with these marks for an assignment above a value, with at most
@@ -154,8 +163,9 @@ pub fn plan_search(
         value,
         looks: 0,
     };
+    let followed = is_followed_by_many(trees.len(), log);
     let plan = match make(alloc, &mut planner, &seed, most)? {
-        Some(plan) => made_smaller(alloc, plan, &mut planner, log)?,
+        Some(plan) => made_smaller(alloc, plan, &mut planner, followed)?,
         None => Plan::new(alloc),
     };
     Ok(Outline {
