@@ -1,5 +1,5 @@
 -- From the best assignment at perturbed values to the regret.
-use Rattle.std.proofs.Common.{◌≡◌, sym, subst, List, length, ℤ, ◌-ℤ◌}
+use Rattle.std.proofs.Common.{◌≡◌, sym, subst, List, length, ◌-ℤ◌}
 use Rattle.ice_defs.specs.Trade.{Assignment, IsFeasible, total_value, IsBest, IsBestOfAll}
 use Rattle.ice_defs.specs.Bounds.{Bounds}
 use Rattle.ice_defs.specs.Group.{free_side}
