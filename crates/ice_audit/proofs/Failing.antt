@@ -1,6 +1,6 @@
 -- What a line that fails or passes makes of a state of the audit.
 use Rattle.std.proofs.Common.{◌≡◌, ◌≢◌, suc, ◌<◌, length, sym, ap, ◌∙◌, arith}
-use Rattle.std.specs.Prelude.{Option, Some, None, option_map, IsSomeAnd}
+use Rattle.std.specs.Prelude.{Some, None, option_map, IsSomeAnd}
 use Rattle.std.proofs.lemmas.Option.{none-some}
 use Rattle.ice_defs.specs.declared.SatRule.{SatRule}
 use Rattle.ice_defs.specs.declared.SatRule.TheVariants.{Parent, Few, Many}

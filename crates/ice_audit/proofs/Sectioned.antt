@@ -1,7 +1,6 @@
 -- Lines up to the first settlement, and what is kept behind them.
-use Rattle.std.proofs.Common.{◌≡◌, ◌≢◌, ℕ, suc, zero, Bool, true, false, cond, List, [], ◌∷◌, length, map, replicate, slice_index_or, refl, sym, ap, ◌∙◌, subst, inl, inr, Result, Ok, Err}
+use Rattle.std.proofs.Common.{◌≡◌, ℕ, suc, zero, Bool, true, false, cond, List, [], ◌∷◌, length, map, replicate, slice_index_or, refl, sym, ap, ◌∙◌, subst, inl, inr, Result, Ok, Err}
 use Rattle.std.specs.Prelude.{Option, Some, None, option_map, IfSome}
-use Rattle.std.specs.Str.{bytes_eq}
 use Rattle.std.proofs.lemmas.Bool.{false≢true}
 use Rattle.ice_defs.proofs.Naming.{same-bytes_eq}
 use Rattle.ice_defs.specs.Tree.{Tree}
@@ -26,9 +25,7 @@ use Rattle.ice_statement_laws.specs.Texts.{payment_or}
 use Rattle.ice_statement_laws.proofs.Walking.{quiet}
 use Rattle.ice_statement_laws.proofs.Beginning.{IsNamed, phase_next, complete_ends, before_goes}
 use Rattle.ice_audit.specs.declared.auditor.OwnSection.{OwnSection}
-use Rattle.ice_audit.specs.declared.auditor.Auditor.{Auditor}
 use Rattle.ice_audit.specs.declared.auditor.Auditor.TheVariants as so_far
-use Rattle.ice_audit.specs.declared.auditor.Stop.{Stop}
 use Rattle.ice_audit.specs.declared.auditor.Stop.TheVariants.{NoMemory}
 use Rattle.ice_audit.specs.declared.next.Next.{Next}
 use Rattle.ice_audit.specs.declared.next.Next.TheVariants as next

@@ -24,7 +24,6 @@ use Rattle.ice_verdicts.proofs.Starting.{priced_round}
 use Rattle.ice_statement_laws.specs.Statement.{StatementLine, shown, kept, offered}
 use Rattle.ice_statement_laws.specs.Audit.{at_regret, at_kept, at_offered, at_prices, at_round, at_threshold, AuditState, bidder_at, settings_at, goods_at, move_to, to_line, spot_next, audit_next, stated_set, IsRefused, AreUnlawful, HasUnlawfulPrices}
 use Rattle.ice_statement_laws.proofs.Walking.{quiet}
-use Rattle.ice_audit.specs.declared.next.Next.{Next}
 use Rattle.ice_audit.specs.declared.next.Next.TheVariants as next
 use Rattle.ice_audit.specs.declared.settlements.Settlements.{Settlements}
 use Rattle.ice_check_offer.specs.Broken.{IsBroken}

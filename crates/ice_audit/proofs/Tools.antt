@@ -5,11 +5,10 @@ use Rattle.std.specs.List.{position}
 use Rattle.std.specs.Str.{bytes_eq}
 use Rattle.ice_defs.specs.Trade.{tree_of, set_of}
 use Rattle.ice_defs.specs.Set.{NodeSet}
-use Rattle.ice_defs.specs.Round.{Standing}
 use Rattle.ice_defs.specs.Exchange.{Bidder, Exchange}
 use Rattle.ice_journal_laws.specs.declared.rule.Rule.{Rule}
 use Rattle.ice_section.specs.Section.{exchange_in}
-use Rattle.ice_verdicts.specs.Judges.{Round, bidder_named}
+use Rattle.ice_verdicts.specs.Judges.{bidder_named}
 use Rattle.ice_statement_laws.specs.Statement.{StatementLine}
 use Rattle.ice_statement_laws.specs.Audit.{Spot, AuditState, no_bidder, bidder_at, move_to}
 use Rattle.ice_audit.specs.declared.next.Next.{Next}

@@ -8,7 +8,6 @@ use Rattle.ice_journal.specs.Records as line
 use Rattle.ice_section.specs.Section.{no_section}
 use Rattle.ice_section.specs.declared.faults.SectionFault.{SectionFault}
 use Rattle.ice_section.specs.declared.faults.SectionFault.TheVariants as fault
-use Rattle.ice_journal_laws.specs.declared.rule.Rule.{Rule}
 use Rattle.ice_journal_laws.specs.declared.rule.Rule.TheVariants as rule
 use Rattle.ice_journal_laws.specs.Checks.{Failure}
 use Rattle.ice_statement_laws.specs.Statement.{StatementLine}

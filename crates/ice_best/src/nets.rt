@@ -1,5 +1,5 @@
 //! What the nodes of a tree are worth beside what their units cost.
-ghost use Rattle.std.specs.Prelude.{◌≡◌, ◌*◌, ◌^◌, ◌<◌, ◌≤◌, length, slice_set, pos, neg_ℤ, ◌-ℤ◌, ◌*ℤ◌, ◌≤ℤ◌};
+ghost use Rattle.std.specs.Prelude.{◌≡◌, ◌^◌, ◌<◌, ◌≤◌, length, slice_set, pos, neg_ℤ, ◌-ℤ◌, ◌*ℤ◌, ◌≤ℤ◌};
 ghost use Rattle.ice_defs.specs.Set.{IsSmall};
 ghost use Rattle.ice_defs.specs.Lawful.{IsLimitedKind};
 ghost use Rattle.ice_best.specs.Nets.{rate_of, AreRates, AreAtMostTrillion, node_cost, node_net, AreNetWeights};

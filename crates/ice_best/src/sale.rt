@@ -1,5 +1,5 @@
 //! The greatest sale of a good.
-ghost use Rattle.std.specs.Prelude.{◌≡◌, ◌<◌, ◌≤◌, ℕ, ℤ, pos, neg_ℤ, ◌≤ℤ◌, length};
+ghost use Rattle.std.specs.Prelude.{◌≡◌, ◌<◌, ℕ, pos, neg_ℤ, ◌≤ℤ◌, length};
 ghost use Rattle.ice_defs.specs.Tree.{kind_of};
 ghost use Rattle.ice_defs.specs.Set.{NodeSet as Nodes, IsSatisfied, leaf_units, units, weight_of};
 ghost use Rattle.ice_defs.specs.Greatest.{IsGreatest};

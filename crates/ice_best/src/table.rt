@@ -1,6 +1,6 @@
 //! The table of a tree: what each node adds where it is inside. It is filled once, and renewed
 //! where a weight or a mark changes.
-ghost use Rattle.std.specs.Prelude.{◌≡◌, ◌<◌, ◌≤◌, ◌&&◌, length, replicate, false, ℤ, IsTrue, IfSome, IfNone, if◌then◌else◌, pos, ◌≤ℤ◌};
+ghost use Rattle.std.specs.Prelude.{◌≡◌, ◌<◌, ◌≤◌, length, replicate, false, ℤ, IsTrue, IfSome, IfNone, if◌then◌else◌, pos, ◌≤ℤ◌};
 ghost use Rattle.ice_defs.specs.Tree.{Tree as Nodes};
 ghost use Rattle.ice_defs.specs.Set.{NodeSet as Set, Weights as NodeWeights, has, value, IsSmall};
 ghost use Rattle.ice_defs.specs.Fixing.{Fixing as Marks};

@@ -1,5 +1,5 @@
 //! The net of a set at prices, and the greatest one.
-ghost use Rattle.std.specs.Prelude.{◌≡◌, ◌*◌, ◌^◌, ◌≤◌, length, pos, neg_ℤ, ◌≤ℤ◌};
+ghost use Rattle.std.specs.Prelude.{◌≡◌, ◌*◌, ◌^◌, length, pos, neg_ℤ, ◌≤ℤ◌};
 ghost use Rattle.ice_defs.specs.Rules.{net_at};
 ghost use Rattle.ice_best.specs.Nets.{AreAtMostTrillion, AreNetWeights};
 ghost use Rattle.ice_best_at_prices.specs.Net.{IsBestAtPrices};

@@ -1,5 +1,5 @@
 //! Bounds of one list of trees that are kept at hand while marks and multipliers change.
-ghost use Rattle.std.specs.Prelude.{◌≡◌, ℕ, ◌*◌, ◌^◌, ◌<◌, ◌≤◌, length, map, replicate, slice_set, pos, ℤ, ◌≤ℤ◌, IfOk, IsTrue, ◌↔◌};
+ghost use Rattle.std.specs.Prelude.{◌≡◌, ℕ, ◌<◌, ◌≤◌, length, map, replicate, slice_set, pos, ℤ, ◌≤ℤ◌, IfOk, IsTrue, ◌↔◌};
 ghost use Rattle.ice_defs.specs.declared.Mark.TheVariants.{Free};
 ghost use Rattle.ice_defs.specs.Bound.{IsNetSum};
 ghost use Rattle.ice_defs.specs.Sweep.{IsLive};

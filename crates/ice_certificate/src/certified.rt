@@ -1,5 +1,5 @@
 //! Whether the sums of a certificate's rows pass its test.
-ghost use Rattle.std.specs.Prelude.{◌≡◌, ◌≤◌, ◌<◌, ◌*◌, ◌^◌, ◌↔◌, IsTrue, unsigned_abs, pos, neg_ℤ, ◌≤ℤ◌, ◌*ℤ◌, ◌-ℤ◌};
+ghost use Rattle.std.specs.Prelude.{◌≡◌, ◌≤◌, ◌<◌, ◌^◌, ◌↔◌, IsTrue, unsigned_abs, pos, neg_ℤ, ◌≤ℤ◌, ◌*ℤ◌, ◌-ℤ◌};
 ghost use Rattle.std.specs.Int.{int_max};
 ghost use Rattle.ice_defs.specs.Pricing.{top_of};
 ghost use Rattle.ice_row_laws.specs.Sums.{SumsPassAccuracy, SumsPassBalance, wanted_in};

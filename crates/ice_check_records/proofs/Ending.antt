@@ -4,7 +4,6 @@ use Rattle.std.proofs.Common.{◌≡◌, ◌≢◌, ◌<◌, ◌-ℤ◌, ℕ, su
 use Rattle.std.specs.Prelude.{int_le, Some, None, Result, Ok, Err}
 use Rattle.std.proofs.lemmas.Bool.{eqb-false, or_parts, false≢true}
 use Rattle.arrayvec.specs.ArrayVec.{ArrayVec}
-use Rattle.ice_defs.specs.declared.Group.{Group}
 use Rattle.ice_defs.specs.declared.Group.TheVariants.{Assign, Final, Provisional, Without}
 use Rattle.ice_defs.specs.Bounds.{Bounds}
 use Rattle.ice_defs.specs.Fraction.{whole}

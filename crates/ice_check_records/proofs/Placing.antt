@@ -5,7 +5,6 @@ use Rattle.std.proofs.lemmas.Bool.{cases_order}
 use Rattle.std.proofs.lemmas.List.{get_or-set_other, get_or-set_same, get_or-map, length-set, length-map, length-replicate, length-take-le}
 use Rattle.ice_defs.specs.Tree.{Tree}
 use Rattle.ice_defs.specs.Set.{NodeSet, IsSatisfied}
-use Rattle.ice_defs.specs.SetFault.{set_fault}
 use Rattle.ice_defs.specs.Trade.{Assignment, tree_of, set_of}
 use Rattle.ice_defs.specs.Exchange.{Exchange, trees_of}
 use Rattle.ice_defs.specs.declared.Group.{Group}

@@ -1,5 +1,5 @@
 -- What a record makes of a journal behind its exchange.
-use Rattle.std.specs.Prelude.{ℕ, suc, ◌-◌, ◌≡◌, ◌≢◌, ◌==◌, Bool, if◌then◌else◌, IsTrue, List, [], ◌∷◌, length, ℤ}
+use Rattle.std.specs.Prelude.{ℕ, suc, ◌-◌, ◌≡◌, ◌≢◌, ◌==◌, Bool, if◌then◌else◌, IsTrue, [], ◌∷◌, length, ℤ}
 use Rattle.std.specs.Prelude.{Option, Some, None, Result, Ok, Err}
 use Rattle.ice_defs.specs.declared.Group.{Group}
 use Rattle.ice_defs.specs.declared.Group.TheVariants.{Assign, Final, Provisional, Without}

@@ -1,5 +1,5 @@
 //! Whether prices are fair.
-ghost use Rattle.std.specs.Prelude.{◌≡◌, ◌≤◌, ◌^◌, length, IsTrue, pos, ◌≤ℤ◌};
+ghost use Rattle.std.specs.Prelude.{◌≡◌, ◌^◌, length, IsTrue, pos, ◌≤ℤ◌};
 ghost use Rattle.ice_fair.specs.Found.{PassesAll};
 ghost use Rattle.ice_fair.specs.Tested.{PassesNearness, PassesPriceTests};
 ghost use Rattle.ice_fair_stage.specs.Certified.{IsFairLimited};

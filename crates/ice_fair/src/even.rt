@@ -1,5 +1,5 @@
 //! Whether the two sides of the fairness test are even.
-ghost use Rattle.std.specs.Prelude.{◌≡◌, ◌<◌, ◌≤◌, ◌^◌, ◌*◌, IsTrue, IfSome, IfNone, pos, neg_ℤ, ◌≤ℤ◌, ◌+ℤ◌, ◌-ℤ◌, ◌*ℤ◌};
+ghost use Rattle.std.specs.Prelude.{◌≡◌, ◌^◌, ◌*◌, IsTrue, IfSome, IfNone, pos, neg_ℤ, ◌≤ℤ◌, ◌+ℤ◌, ◌-ℤ◌, ◌*ℤ◌};
 ghost use Rattle.ice_fair.specs.Sides.{AreEven};
 
 /// The product of two numbers that aren't below 0. None exactly where it is too large.

@@ -1,5 +1,5 @@
 //! The fairness test.
-ghost use Rattle.std.specs.Prelude.{◌≡◌, ◌<◌, ◌≤◌, ◌+◌, ◌^◌, IsTrue, length, sum_by, pos, ◌≤ℤ◌, ◌*ℤ◌};
+ghost use Rattle.std.specs.Prelude.{◌≡◌, ◌≤◌, ◌+◌, ◌^◌, IsTrue, length, sum_by, pos, ◌≤ℤ◌, ◌*ℤ◌};
 ghost use Rattle.ice_row_laws.specs.Sizes.{IsSizedWithin};
 ghost use Rattle.std.specs.List.{AllByRecursion};
 ghost use Rattle.ice_fair.specs.Tested.{IsTested, numbers_of};

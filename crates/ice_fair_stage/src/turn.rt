@@ -1,5 +1,5 @@
 //! The turns of the fairness stage.
-ghost use Rattle.std.specs.Prelude.{◌<◌, ◌≤◌, ◌^◌, length, IfOk, IfErr};
+ghost use Rattle.std.specs.Prelude.{◌≤◌, ◌^◌, length, IfOk, IfErr};
 ghost use Rattle.ice_defs.specs.Fraction.{fraction_at};
 ghost use Rattle.ice_fair_stage.specs.Certified.{weights_at};
 ghost use Rattle.ice_fair_stage.specs.Stages.{IsState, IsSolved};

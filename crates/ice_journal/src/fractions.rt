@@ -1,5 +1,5 @@
 //! Fractions in lowest terms, read.
-ghost use Rattle.std.specs.Prelude.{◌≡◌, ◌<◌, ◌++◌, ◌∷◌, IsTrue, ◌↔◌, MatchOption, Contains, option_map, unsigned_abs};
+ghost use Rattle.std.specs.Prelude.{◌≡◌, ◌++◌, ◌∷◌, IsTrue, ◌↔◌, MatchOption, Contains, option_map};
 ghost use Rattle.std.specs.Int.{IsGcd};
 ghost use Rattle.ice_journal.specs.Reading.{Finds};
 ghost use Rattle.ice_journal.specs.Ranges.{IsFractionField};

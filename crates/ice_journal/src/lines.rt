@@ -1,5 +1,5 @@
 //! The records of the lines of bytes.
-ghost use Rattle.std.specs.Prelude.{◌≡◌, ◌<◌, ◌++◌, length, IfOk, IfErr, Ok, Err, map};
+ghost use Rattle.std.specs.Prelude.{◌≡◌, ◌<◌, ◌++◌, length, IfOk, IfErr, Ok, map};
 ghost use Rattle.ice_journal.specs.Journal.{IsJournalOf};
 ghost use Rattle.ice_journal.specs.Lines.{record_of};
 ghost use Rattle.ice_journal.specs.Ends.{EndsAt, IsBadLine};

@@ -1,5 +1,5 @@
 //! Fields that are lists to the end of a record, read.
-ghost use Rattle.std.specs.Prelude.{◌<◌, ◌≤◌, ◌∷◌, List, length, map, decimal, option_map};
+ghost use Rattle.std.specs.Prelude.{◌≤◌, ◌∷◌, length, map, decimal, option_map};
 ghost use Rattle.std.specs.Fmt.{signed_decimal};
 ghost use Rattle.std.specs.List.{AllByRecursion, flat_map};
 ghost use Rattle.ice_defs.specs.Exchange.{IsBetween};

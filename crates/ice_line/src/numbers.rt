@@ -1,5 +1,5 @@
 //! Numbers, by their one decimal spelling.
-ghost use Rattle.std.specs.Prelude.{◌≡◌, ℕ, ◌+◌, ◌*◌, ◌^◌, ◌<◌, ◌≤◌, List, [], ◌∷◌, ◌++◌, decimal, ℤ, ◌≤ℤ◌, unsigned_abs, FitsSigned, MatchOption};
+ghost use Rattle.std.specs.Prelude.{◌≡◌, ℕ, ◌+◌, ◌^◌, ◌<◌, ◌≤◌, List, [], ◌∷◌, ◌++◌, decimal, ◌≤ℤ◌, unsigned_abs, FitsSigned, MatchOption};
 ghost use Rattle.std.specs.Int.{IsInRange, w128};
 ghost use Rattle.std.specs.Fmt.{signed_decimal};
 ghost use Rattle.ice_line.specs.Reading.{Reads};

@@ -1,5 +1,5 @@
 //! The lines of bytes.
-ghost use Rattle.std.specs.Prelude.{◌≡◌, ℕ, ◌<◌, ◌&&◌, [], Contains, MatchOption};
+ghost use Rattle.std.specs.Prelude.{◌≡◌, ℕ, Contains, MatchOption};
 ghost use Rattle.std.specs.List.{list_all};
 ghost use Rattle.ice_line.specs.Lines.{is_line_byte, BeginsWithLine, NextLine};
 

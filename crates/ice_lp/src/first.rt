@@ -1,5 +1,5 @@
 //! The first dictionary of a program.
-ghost use Rattle.std.specs.Prelude.{◌≡◌, ◌<◌, ◌+◌, length, map, slice_index_or, pos, neg_ℤ, All, IfOk};
+ghost use Rattle.std.specs.Prelude.{◌≡◌, ◌<◌, length, map, slice_index_or, pos, neg_ℤ, All, IfOk};
 ghost use Rattle.ice_defs.specs.Sum.{numbers_below};
 ghost use Rattle.ice_defs.specs.Fraction.{whole};
 ghost use Rattle.ice_defs.specs.Dictionary.{first_left, first_dictionary};

@@ -1,5 +1,5 @@
 //! What the end of a trace says.
-ghost use Rattle.std.specs.Prelude.{◌≡◌, ◌+◌, ◌<◌, ◌≤◌, ◌==◌, map, find, position, Some, None, MatchOption, IfOk};
+ghost use Rattle.std.specs.Prelude.{◌≡◌, ◌+◌, ◌≤◌, ◌==◌, map, find, position, Some, None, MatchOption, IfOk};
 ghost use Rattle.ice_defs.specs.Sum.{numbers_below};
 ghost use Rattle.ice_defs.specs.Fraction.{fraction_at, negated};
 ghost use Rattle.ice_defs.specs.Trace.{constant_of, objective_of, mix_entry};

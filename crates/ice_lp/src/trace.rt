@@ -1,5 +1,5 @@
 //! The trace of a program.
-ghost use Rattle.std.specs.Prelude.{◌≡◌, ◌<◌, ◌≤◌, ◌+◌, ◌-◌, IfOk, IfErr};
+ghost use Rattle.std.specs.Prelude.{◌≡◌, ◌≤◌, ◌+◌, ◌-◌, IfOk, IfErr};
 ghost use Rattle.ice_defs.specs.Dictionary.{choice};
 ghost use Rattle.ice_defs.specs.Trace.{end_from, trace_end};
 ghost use Rattle.ice_program_laws.specs.Solutions.{IsDictionary};

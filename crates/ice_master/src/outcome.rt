@@ -1,5 +1,4 @@
 //! What the operations of a tree come to at multipliers, and the set that is worth most.
-ghost use Rattle.std.specs.Prelude.{◌<◌};
 
 use crate::column::Column;
 use crate::form::Form;

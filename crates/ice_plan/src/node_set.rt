@@ -1,5 +1,4 @@
 //! Sets of nodes, and how often nodes are split.
-ghost use Rattle.std.specs.Prelude.{◌<◌};
 
 use ice_relaxation::Candidate;
 use std::alloc::{AllocError, Global};

@@ -1,5 +1,5 @@
 //! Multipliers near the duals of sides that a search looks at.
-ghost use Rattle.std.specs.Prelude.{◌<◌, ◌≤◌, length};
+ghost use Rattle.std.specs.Prelude.{◌≤◌, length};
 ghost use Rattle.ice_defs.specs.Conditions.{AreFixingsOf};
 
 use crate::planner::closing;

@@ -1,5 +1,5 @@
 //! A side: the marks of all trees, and what they decide.
-ghost use Rattle.std.specs.Prelude.{◌≡◌, ◌<◌, ◌≤◌, length, IfOk};
+ghost use Rattle.std.specs.Prelude.{◌≡◌, ◌≤◌, length, IfOk};
 ghost use Rattle.ice_defs.specs.Conditions.{AreFixingsOf};
 
 use crate::decided::Decided;

@@ -1,5 +1,5 @@
 //! Assignments that come up while a plan is made.
-ghost use Rattle.std.specs.Prelude.{◌≡◌, ◌<◌, ◌≤◌, length};
+ghost use Rattle.std.specs.Prelude.{◌≡◌, ◌≤◌, length};
 ghost use Rattle.ice_defs.specs.Conditions.{AreWeightsOf};
 
 use crate::marking::Marking;

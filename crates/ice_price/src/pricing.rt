@@ -1,5 +1,5 @@
 //! Prices of an exchange for the provisional sets of its bidders.
-ghost use Rattle.std.specs.Prelude.{◌≡◌, ◌<◌, length, IfOk, IfErr, IfSome, IsTrue};
+ghost use Rattle.std.specs.Prelude.{◌≡◌, length, IfOk, IfErr, IfSome, IsTrue};
 ghost use Rattle.ice_defs.specs.Exchange.{trees_of};
 ghost use Rattle.ice_defs.specs.Weighing.{weighted_weights};
 ghost use Rattle.ice_row_laws.specs.Laws.{AreSatisfied};

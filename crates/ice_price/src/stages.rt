@@ -1,5 +1,5 @@
 //! Where a pricing run stands, apart from its pool.
-ghost use Rattle.std.specs.Prelude.{vec_len, All, IfOk, ◌+◌, ◌≡◌, ◌*◌, ◌≤◌, ◌^◌, pos, neg_ℤ, ◌≤ℤ◌, ℤ};
+ghost use Rattle.std.specs.Prelude.{vec_len, All, IfOk, ◌+◌, ◌≡◌, ◌*◌, ◌≤◌, ◌^◌, pos, neg_ℤ, ◌≤ℤ◌};
 ghost use Rattle.ice_defs.specs.Fraction.{Equals, IsFraction};
 ghost use Rattle.ice_defs.specs.PricingRun.{StageAt as RunStageAt, first_stage};
 ghost use Rattle.ice_lp.specs.Limits.{IsNumber};

@@ -1,5 +1,5 @@
 -- Tallies of rows, and the tests that they decide.
-use Rattle.std.proofs.Common.{ℕ, suc, ◌≡◌, ◌≤◌, ◌+◌, ◌++◌, [], ◌∷◌, List, length, ℤ, refl, arith}
+use Rattle.std.proofs.Common.{ℕ, suc, ◌≡◌, ◌≤◌, ◌++◌, [], ◌∷◌, List, ℤ, refl, arith}
 use Rattle.std.proofs.lemmas.List.{length-append}
 use Rattle.ice_defs.specs.Prices.{Prices}
 use Rattle.ice_defs.specs.Rows.{Row, IsRow, PassesAccuracy, PassesBalance}

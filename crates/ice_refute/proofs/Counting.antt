@@ -5,7 +5,7 @@ use Rattle.ice_defs.specs.declared.Mark.TheVariants.{Must, Never}
 use Rattle.ice_defs.specs.Tree.{Tree}
 use Rattle.ice_defs.specs.Set.{Weights}
 use Rattle.ice_defs.specs.Trade.{fixing_of}
-use Rattle.ice_defs.specs.Steps.{Step, branch, Side, with_mark, branch_count}
+use Rattle.ice_defs.specs.Steps.{Step, Side, with_mark, branch_count}
 use Rattle.ice_defs.specs.Log.{IsFreeNode, Reads, branches, is_dead_leaf, closes, is_dead}
 use Rattle.ice_defs.specs.Conditions.{AreFixingsOf}
 use Rattle.ice_bound.proofs.Fixings.{marked_fixings}

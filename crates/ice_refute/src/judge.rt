@@ -1,5 +1,5 @@
 //! Whether a step passes at its side.
-ghost use Rattle.std.specs.Prelude.{◌≡◌, ◌<◌, ◌≤◌, ◌↔◌, length, IsTrue, OnOk, IfErr};
+ghost use Rattle.std.specs.Prelude.{◌≡◌, ◌≤◌, ◌↔◌, length, IsTrue, OnOk, IfErr};
 ghost use Rattle.ice_defs.specs.Log.{HasWrongSign, IsFreeNode, IsDeadBidder};
 ghost use Rattle.ice_defs.specs.Steps.{leaf};
 ghost use Rattle.ice_defs.specs.Conditions.{AreWeightsOf, AreFixingsOf};

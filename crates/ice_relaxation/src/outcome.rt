@@ -1,5 +1,4 @@
 //! What the operations of a tree come to at multipliers.
-ghost use Rattle.std.specs.Prelude.{◌<◌};
 
 use crate::number::Number;
 use crate::operation::{Above, Choice, Row, Rule, Work};

@@ -1,5 +1,5 @@
 -- The profiles that decide: the ends of the bounds, and their centre.
-use Rattle.std.specs.Prelude.{ℕ, ◌<◌, ◌≡◌, if◌then◌else◌, length, ℤ, ◌+ℤ◌}
+use Rattle.std.specs.Prelude.{ℕ, ◌<◌, ◌≡◌, if◌then◌else◌, length, ◌+ℤ◌}
 use Rattle.ice_defs.specs.Set.{NodeSet, has, Weights, weight_of}
 use Rattle.ice_defs.specs.Bounds.{Bounds}
 

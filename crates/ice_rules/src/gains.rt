@@ -1,5 +1,5 @@
 //! What other satisfied sets gain over a set.
-ghost use Rattle.std.specs.Prelude.{◌≡◌, ◌*◌, ◌^◌, ◌<◌, ◌≤◌, ◌↔◌, length, IsTrue, ℤ, pos, ◌≤ℤ◌, ◌<ℤ◌};
+ghost use Rattle.std.specs.Prelude.{◌≡◌, ◌*◌, ◌^◌, ◌↔◌, length, IsTrue, ℤ, pos, ◌≤ℤ◌, ◌<ℤ◌};
 ghost use Rattle.ice_defs.specs.Set.{IsSatisfied};
 ghost use Rattle.ice_defs.specs.Rules.{IsLoss, IsBestThroughout, IsAhead, GainsMore};
 ghost use Rattle.ice_rules.specs.Centre.{IsAsGoodAsAny};

@@ -1,5 +1,5 @@
 //! The two activity rules.
-ghost use Rattle.std.specs.Prelude.{◌≡◌, ◌<◌, ◌≤◌, ◌↔◌, ◌*◌, ◌^◌, length, IsTrue, pos, neg_ℤ, ◌-ℤ◌, ◌*ℤ◌, ◌≤ℤ◌};
+ghost use Rattle.std.specs.Prelude.{◌≡◌, ◌↔◌, ◌*◌, ◌^◌, length, IsTrue, pos, neg_ℤ, ◌-ℤ◌, ◌*ℤ◌, ◌≤ℤ◌};
 ghost use Rattle.ice_defs.specs.Set.{IsSatisfied};
 ghost use Rattle.ice_defs.specs.Rules.{IsMrpar, Improves};
 

@@ -1,5 +1,5 @@
 //! Exchange files in line form.
-ghost use Rattle.std.specs.Prelude.{◌≡◌, ◌+◌, ◌<◌, ◌^◌, suc, [], ◌∷◌, List, IfOk, IfErr, OnOk, Ok as Found};
+ghost use Rattle.std.specs.Prelude.{◌≡◌, ◌<◌, ◌^◌, suc, [], ◌∷◌, List, IfOk, IfErr, OnOk, Ok as Found};
 ghost use Rattle.ice_journal.specs.Records.{Record};
 ghost use Rattle.ice_journal.specs.Lines.{record_of};
 ghost use Rattle.ice_journal.specs.Ranges.{IsRecord};

@@ -1,5 +1,5 @@
 //! The section of a journal or file that describes its exchange.
-ghost use Rattle.std.specs.Prelude.{◌≡◌, ◌==◌, ◌<◌, ◌≤◌, [], length, IsTrue, OnOk, OnErr, IfOk, IfErr, Ok as Found, None};
+ghost use Rattle.std.specs.Prelude.{◌≡◌, ◌<◌, ◌≤◌, [], length, IsTrue, OnOk, OnErr, IfOk, IfErr, Ok as Found, None};
 ghost use Rattle.ice_defs.specs.Exchange.{AreSettings};
 ghost use Rattle.ice_defs.specs.Lawful.{IsExchange};
 ghost use Rattle.ice_defs.specs.Making.{good_refusal, bidder_refusal};

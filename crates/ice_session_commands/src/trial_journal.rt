@@ -1,5 +1,5 @@
 //! The journal of a generated session that a search or a pricing ended.
-ghost use Rattle.std.specs.Prelude.{◌++◌, length, IfSome, Option, Some};
+ghost use Rattle.std.specs.Prelude.{◌++◌, length, IfSome, Some};
 ghost use Rattle.std.specs.List.{flat_map};
 ghost use Rattle.ice_defs.specs.Exchange.{exact_of};
 ghost use Rattle.ice_edge.specs.Puts.{IsPut};

@@ -1,5 +1,5 @@
 //! What is known of one bidder while the records of a journal are read.
-ghost use Rattle.std.specs.Prelude.{◌≡◌, ◌+◌, ◌-◌, ◌<◌, ◌≤◌, ◌^◌, ◌==◌};
+ghost use Rattle.std.specs.Prelude.{◌≡◌, ◌+◌, ◌-◌, ◌<◌, ◌≤◌, ◌^◌};
 ghost use Rattle.std.specs.Str.{bytes_eq};
 ghost use Rattle.ice_journal.specs.Lines.{record_of};
 ghost use Rattle.ice_statement_laws.specs.Gathering.{gathering, gathering_after, with_bidder, with_set};

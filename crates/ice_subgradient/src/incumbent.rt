@@ -1,5 +1,5 @@
 //! The best assignment that is known, with its value.
-ghost use Rattle.std.specs.Prelude.{◌≡◌, ◌<◌, ◌↔◌, length, IsTrue};
+ghost use Rattle.std.specs.Prelude.{◌≡◌, ◌↔◌, length, IsTrue};
 ghost use Rattle.ice_defs.specs.Sweep.{IsLive};
 ghost use Rattle.ice_defs.specs.Trade.{total_value};
 ghost use Rattle.ice_tree.specs.Units.{AreTotalUnits};

@@ -1,5 +1,5 @@
 //! Multipliers at which the sum of the greatest nets is small.
-ghost use Rattle.std.specs.Prelude.{◌≡◌, ◌<◌, ◌≤◌, ◌^◌, length, false, ℤ, pos, neg_ℤ, ◌≤ℤ◌, ◌<ℤ◌};
+ghost use Rattle.std.specs.Prelude.{◌≡◌, ◌^◌, length, false, pos, neg_ℤ, ◌≤ℤ◌, ◌<ℤ◌};
 ghost use Rattle.ice_defs.specs.Bound.{IsNetSum};
 ghost use Rattle.ice_defs.specs.Sweep.{IsLive};
 ghost use Rattle.ice_defs.specs.Trade.{total_value};

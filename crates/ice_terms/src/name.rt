@@ -1,5 +1,5 @@
 //! Names of goods and bidders.
-ghost use Rattle.std.specs.Prelude.{◌≡◌, ℕ, ◌<◌};
+ghost use Rattle.std.specs.Prelude.{◌≡◌, ℕ};
 ghost use Rattle.std.specs.List.{list_all};
 ghost use Rattle.ice_defs.specs.Name.{is_name_byte};
 ghost use Rattle.ice_terms.specs.Terms.{IsName};

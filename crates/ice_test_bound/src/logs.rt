@@ -1,6 +1,6 @@
 //! Logs of a small market: a seller of a unit at -10 and a buyer of it at 20, whose best trade is
 //! worth 10. How a log is walked step by step is shown by rows of `check`.
-ghost use Rattle.std.specs.Prelude.{◌≡◌, ◌<◌, ◌≤◌, [], ◌∷◌, length, sum, false, IfOk};
+ghost use Rattle.std.specs.Prelude.{◌≡◌, ◌≤◌, [], ◌∷◌, length, sum, false, IfOk};
 ghost use Rattle.std.specs.List.{AllByRecursion};
 ghost use Rattle.ice_defs.specs.Lawful.{AreBounds};
 ghost use Rattle.ice_defs.specs.Conditions.{AreWeightsOf, AreBoundsOf};

@@ -1,5 +1,5 @@
 //! Whether a tree may sell more than is owned.
-ghost use Rattle.std.specs.Prelude.{◌≡◌, ◌≤◌, ◌<◌, None, Some, MatchOption, length};
+ghost use Rattle.std.specs.Prelude.{◌≡◌, ◌≤◌, None, Some, MatchOption, length};
 ghost use Rattle.ice_defs.specs.Making.{over_sale};
 ghost use Rattle.ice_defs.specs.Sale.{greatest_sale as most_sold};
 

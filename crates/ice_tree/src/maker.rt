@@ -1,5 +1,5 @@
 //! The maker of a tree.
-ghost use Rattle.std.specs.Prelude.{◌≡◌, ◌<◌, ◌≤◌, ◌&&◌, ◌↔◌, length, Some, None, option_map, OnOk, OnErr, IsTrue, IsOk, IfOk, IfErr};
+ghost use Rattle.std.specs.Prelude.{◌≡◌, ◌<◌, ◌≤◌, ◌&&◌, ◌↔◌, length, option_map, OnOk, OnErr, IsTrue, IsOk, IfOk, IfErr};
 ghost use Rattle.ice_defs.specs.Making.{innermost, is_value, is_lawful_kind, node_refusal, draft_refusal, no_tree, with_node, with_open, is_complete};
 ghost use Rattle.ice_defs.specs.Lawful.{IsLimitedTree, AreBounds};
 ghost use Rattle.ice_tree.specs.Fault.{tree_fault_number, RefusedBy};

@@ -1,5 +1,5 @@
 //! The nodes of a tree that is being made, one row for each.
-ghost use Rattle.std.specs.Prelude.{◌≡◌, ◌<◌, ◌+◌, ◌++◌, [], ◌∷◌, length, slice_index};
+ghost use Rattle.std.specs.Prelude.{◌≡◌, ◌<◌, ◌++◌, [], ◌∷◌, length, slice_index};
 ghost use Rattle.ice_tree.specs.Making.{one_child_more};
 
 use arrayvec::ArrayVec;

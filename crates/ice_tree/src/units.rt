@@ -1,5 +1,5 @@
 //! What a set buys and sells.
-ghost use Rattle.std.specs.Prelude.{◌≡◌, ℕ, ◌<◌, ◌≤◌, ℤ, pos, neg_ℤ, ◌+ℤ◌, ◌≤ℤ◌};
+ghost use Rattle.std.specs.Prelude.{◌≡◌, ℕ, ◌<◌, ℤ, pos, neg_ℤ, ◌+ℤ◌, ◌≤ℤ◌};
 ghost use Rattle.ice_defs.specs.Set.{weight_of, leaf_units};
 ghost use Rattle.ice_defs.specs.Lawful.{IsLimitedKind};
 ghost use Rattle.ice_tree.specs.Units.{AreWithin};

@@ -1,5 +1,5 @@
 //! Fractions over one denominator.
-ghost use Rattle.std.specs.Prelude.{◌≡◌, ◌<◌, ◌≤◌, ◌*◌, ◌^◌, length, map, IfSome, IfNone, pos, neg_ℤ, ◌≤ℤ◌};
+ghost use Rattle.std.specs.Prelude.{◌≡◌, ◌<◌, ◌≤◌, ◌^◌, length, map, IfSome, IfNone, pos, neg_ℤ, ◌≤ℤ◌};
 ghost use Rattle.std.specs.List.{AllByRecursion};
 ghost use Rattle.ice_defs.specs.Fraction.{IsFraction, Equals};
 ghost use Rattle.ice_defs.specs.PricingRun.{lcm, common_den, num_over};

@@ -1,5 +1,5 @@
 //! Weights of a certificate: duals times a factor, over one denominator.
-ghost use Rattle.std.specs.Prelude.{◌≡◌, ◌<◌, ◌≤◌, ◌*◌, ◌^◌, length, unsigned_abs, Any, IfOk, IfErr, IfSome, IfNone, pos, ◌≤ℤ◌, ◌<ℤ◌};
+ghost use Rattle.std.specs.Prelude.{◌≡◌, ◌≤◌, ◌*◌, ◌^◌, length, unsigned_abs, Any, IfOk, IfErr, IfSome, IfNone, pos, ◌≤ℤ◌, ◌<ℤ◌};
 ghost use Rattle.std.specs.List.{AllByRecursion};
 ghost use Rattle.ice_defs.specs.Fraction.{IsFraction, AtMost, whole, times};
 ghost use Rattle.ice_defs.specs.Program.{AreNonNegative};

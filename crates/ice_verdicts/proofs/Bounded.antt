@@ -1,5 +1,5 @@
 -- The bounds of a round are bounds of the exchange's trees.
-use Rattle.std.proofs.Common.{length, ◌∙◌, sym, arith}
+use Rattle.std.proofs.Common.{◌∙◌, sym, arith}
 use Rattle.ice_defs.specs.Exchange.{Exchange, trees_of}
 use Rattle.ice_defs.specs.Conditions.{AreBoundsOf}
 use Rattle.ice_trade.proofs.Weighted.{length-trees}

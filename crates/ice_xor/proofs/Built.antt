@@ -1,11 +1,10 @@
 -- A tree of packages that is built node by node.
-use Rattle.std.proofs.Common.{ℕ, suc, ◌+◌, ◌<◌, ◌≤◌, ◌≡◌, Bool, true, false, cond, ◌&&◌, leb, ltb, min, List, [], ◌∷◌, ◌++◌, length, map, get_or, replicate, Option, Some, None, ℤ, pos, refl, sym, ap, ◌∙◌, arith, length-append}
+use Rattle.std.proofs.Common.{ℕ, suc, ◌+◌, ◌<◌, ◌≤◌, ◌≡◌, Bool, true, false, cond, ◌&&◌, leb, ltb, min, List, [], ◌∷◌, ◌++◌, length, map, replicate, Option, Some, None, ℤ, pos, refl, sym, ap, ◌∙◌, arith, length-append}
 use Rattle.std.proofs.lemmas.Bool.{ne_eqb}
 use Rattle.std.proofs.lemmas.Bool.Decides.{nat_tests}
 use Rattle.std.proofs.lemmas.List.{append_assoc, append-nil, length-replicate, replicate-append-replicate, map-append}
 use Rattle.std.proofs.Math.Seq.{get_or-append_seam}
 use Rattle.ice_defs.specs.declared.Node.{Node}
-use Rattle.ice_defs.specs.declared.NodeKind.{NodeKind}
 use Rattle.ice_defs.specs.declared.NodeKind.TheVariants.{Choose}
 use Rattle.ice_defs.specs.Tree.{Tree, no_node, kind_of, children_of}
 use Rattle.ice_defs.specs.Making.{TreeDraft, with_node, with_open, innermost, node_refusal, draft_refusal, close_refusal}
@@ -17,7 +16,7 @@ use Rattle.ice_xor.specs.Translating.{depth_of, or_later, nodes_refusal, tree_re
 use Rattle.ice_xor.specs.Building.{IsUnderRoot, package_values, package_refusal, with_package}
 use Rattle.ice_xor.proofs.PackageNodes.{leaf, leaves, length-leaves, length-packages}
 use Rattle.ice_xor.proofs.Spreading.{AreBefore, before_leaves, not_at}
-use Rattle.ice_xor.proofs.Children.{under, children-under, under-append, under-none, under-leaves, under-root}
+use Rattle.ice_xor.proofs.Children.{children-under, under-append, under-none, under-leaves, under-root}
 use Rattle.ice_xor.proofs.NodesRefused.{nodes_refusal-append, nodes-few, depth-package, depth-leaf, open-refusal}
 
 abbrev pub zeros : List GoodUnits → List ℤ

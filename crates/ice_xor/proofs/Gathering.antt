@@ -1,5 +1,5 @@
 -- What a satisfied set takes of each package: all of it or nothing.
-use Rattle.std.proofs.Common.{ℕ, suc, ◌+◌, ◌-◌, ◌<◌, ◌≤◌, ◌≡◌, Bool, true, false, List, [], ◌∷◌, ◌++◌, length, replicate, take, drop, IsTrue, refl, sym, ap, ◌∙◌, subst, arith, length-append}
+use Rattle.std.proofs.Common.{ℕ, suc, ◌+◌, ◌<◌, ◌≤◌, ◌≡◌, Bool, true, false, List, [], ◌∷◌, ◌++◌, length, replicate, take, drop, IsTrue, refl, sym, ap, ◌∙◌, subst, arith, length-append}
 use Rattle.std.specs.List.{AllByRecursion}
 use Rattle.std.proofs.lemmas.List.{append_assoc, take-append-drop, length-take-le, length-drop}
 use Rattle.ice_defs.specs.declared.Node.{Node}
@@ -7,7 +7,7 @@ use Rattle.ice_defs.specs.Tree.{Tree}
 use Rattle.ice_defs.specs.Set.{NodeSet, has, children_inside, IsWithin, IsSatisfied}
 use Rattle.ice_xor.specs.FlatBids.{Package, package_nodes, packages_nodes}
 use Rattle.ice_xor.proofs.Paired.{inside}
-use Rattle.ice_xor.proofs.PackageNodes.{leaves, head, spread_set, length-packages}
+use Rattle.ice_xor.proofs.PackageNodes.{spread_set, length-packages}
 use Rattle.ice_xor.proofs.Spreading.{AreBefore, under_package, longer, before-package, moved, at_head, at_leaf, has-head, has-leaf}
 
 -- ---- sets that are all or nothing

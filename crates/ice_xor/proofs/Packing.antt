@@ -1,5 +1,5 @@
 -- How far a package, and a tree of packages, is built: the state of each loop.
-use Rattle.std.proofs.Common.{ℕ, suc, ◌+◌, ◌<◌, ◌≤◌, ◌≡◌, min, List, [], ◌∷◌, ◌++◌, length, take, drop, get_or, Some, None, pos, refl, sym, ap, ◌∙◌, subst, arith, add-one, drop-cons}
+use Rattle.std.proofs.Common.{ℕ, suc, ◌+◌, ◌<◌, ◌≤◌, ◌≡◌, min, [], ◌∷◌, ◌++◌, length, take, drop, get_or, Some, None, pos, refl, sym, ap, ◌∙◌, subst, arith, add-one, drop-cons}
 use Rattle.std.proofs.lemmas.List.{take_more, drop_all, take_all, length-take-le}
 use Rattle.ice_defs.specs.declared.NodeKind.TheVariants.{Choose}
 use Rattle.ice_defs.specs.Making.{TreeDraft, with_node, with_open, node_refusal, draft_refusal}

@@ -1,5 +1,5 @@
 //! An exchange of flat bids.
-ghost use Rattle.std.specs.Prelude.{◌≡◌, ◌<◌, length};
+ghost use Rattle.std.specs.Prelude.{◌≡◌, length};
 ghost use Rattle.ice_xor.specs.Lawful.{IsFlatExchange};
 
 use crate::bidders::FlatBidder;

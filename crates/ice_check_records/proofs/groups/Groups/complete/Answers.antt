@@ -1,6 +1,5 @@
 use Rattle.std.proofs.Common.{sym, subst}
 use Rattle.ice_defs.specs.declared.Group.{Group}
-use Rattle.ice_defs.specs.declared.Group.TheVariants.{Final}
 use Rattle.ice_check_records.specs.Groups.{HasOpen}
 use Rattle.ice_check_records.specs.Taking.{LeavesGroup}
 use Rattle.ice_check_records.proofs.Logged.{final_left}

@@ -2,7 +2,7 @@ use Rattle.std.proofs.Common.{rules, List, ℤ, refl, subst}
 use Rattle.std.proofs.lemmas.Int.{to_z-of_z}
 use Rattle.std.proofs.lemmas.Result.{err_from_is_err_and}
 use mir.Syntax.{w64}
-use mir.Val.{SFits, to_z, of_z}
+use mir.Val.{SFits}
 use Rattle.ice_journal.specs.Lines.{record_of}
 use Rattle.ice_check_charge.specs.Charging.{PassesCut, FailsCut}
 use Rattle.ice_check_records.specs.declared.next.Next.TheVariants as coming

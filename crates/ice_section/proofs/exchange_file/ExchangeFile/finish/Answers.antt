@@ -3,7 +3,6 @@ use Rattle.std.proofs.Math.Numerals.{add-one}
 use Rattle.std.proofs.lemmas.Bool.{cond-false}
 use Rattle.ice_defs.specs.FileFault.{at_line}
 use Rattle.ice_section.specs.declared.exchange_file.SoFar.{SoFar}
-use Rattle.ice_section.specs.declared.exchange_file.SoFar.TheVariants.{Failed}
 use Rattle.ice_section.specs.Section.{may_end}
 use Rattle.ice_section.specs.FileSteps.{exchange_after}
 use Rattle.ice_section.specs.FileStates.{exchange_so_far, IsNumbered}

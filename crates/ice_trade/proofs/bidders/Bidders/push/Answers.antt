@@ -1,4 +1,4 @@
-use Rattle.std.proofs.Common.{rules, arith, ◌≡◌, ◌<◌, ◌+◌, ◌++◌, ◌∷◌, [], ◌∙◌, ap, length}
+use Rattle.std.proofs.Common.{rules, arith, ◌≡◌, ◌<◌, ◌++◌, ◌∷◌, [], ◌∙◌, ap, length}
 use Rattle.std.proofs.lemmas.List.{length_push}
 use Rattle.ice_defs.specs.Making.{node_count}
 use Rattle.ice_trade.specs.Names.{NameList}
