@@ -13,4 +13,4 @@ mod tally;
 
 pub use decided::Decided;
 pub use guide::{Guide, Near};
-pub use planning::{Outline, is_planned, plan_search};
+pub use planning::{Outline, Sought, is_planned, plan_search};

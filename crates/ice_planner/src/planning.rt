@@ -20,12 +20,49 @@ const TURNS: u8 = 4;
 /// .. and no more where one leaves out less than this part of the splits.
 const GAIN: usize = 25;
 
-/// Of a plan that many may follow, trees of so many splits are made anew, and then those of so
-/// many.
+/// Where more is spent on a plan, trees of so many splits are made anew, and then those of so many.
 const REBUILT: [usize; 2] = [16, 64];
 
 /// Many may follow the log of a search where a market has so many bidders.
 const MANY: usize = 10;
+
+/// A plan may have so many splits for each branch that is left ..
+const SPLITS: usize = 4;
+
+/// .. and so many more.
+const SPARE: usize = 10_000;
+
+/// What a plan is made for: a search.
+#[derive(Drop)]
+pub struct Sought<'a> {
+    /// An assignment above this value is sought.
+    pub value: i128,
+    /// The log of a search that may be alike, which is followed first.
+    pub log: Option<&'a Log>,
+    /// So many branches are left.
+    pub branches: u32,
+}
+
+impl Sought<'_> {
+    /// So many splits a plan may have.
+    fn most_splits(&self) -> usize {
+        let branches = self.branches as usize;
+        branches.saturating_mul(SPLITS).saturating_add(SPARE)
+    }
+
+    /// Whether the searches without each of so many bidders may follow the log of a plan of so many
+    /// splits: it follows none itself, and as many for half of them are left.
+    fn may_be_followed(&self, bidders: usize, splits: usize) -> bool {
+        let half = splits.saturating_mul(bidders / 2);
+        self.log.is_none() && bidders >= MANY && half <= self.branches as usize
+    }
+
+    /// Whether a plan has more splits than branches are left, and by no more than a quarter.
+    fn is_nearly_enough(&self, splits: usize) -> bool {
+        let branches = self.branches as usize;
+        branches < splits && splits.saturating_sub(branches) <= branches / 4
+    }
+}
 
 /// A plan of a search with what was found on the way.
 #[derive(Drop)]
@@ -112,37 +149,32 @@ fn rebuilt(alloc: Global, plan: Plan, planner: &mut Planner) -> Result<Plan, All
     Ok(plan)
 }
 
-/// The plan, made smaller. More is spent on one that many may follow.
+/// The plan, made smaller. More is spent where many may follow it, or where it has a few splits too
+/// many.
 fn made_smaller(
     alloc: Global,
     plan: Plan,
     planner: &mut Planner,
-    followed: bool,
+    sought: &Sought,
+    bidders: usize,
 ) -> Result<Plan, AllocError> {
     let plan = smaller(alloc, plan, planner)?;
-    if followed {
+    let splits = plan.len();
+    if sought.may_be_followed(bidders, splits) || sought.is_nearly_enough(splits) {
         return rebuilt(alloc, plan, planner);
     }
     Ok(plan)
 }
 
-/// Whether many searches may follow the log of one that follows none: in a market of many bidders
-/// those without each of them do.
-fn is_followed_by_many(bidders: usize, log: Option<&Log>) -> bool {
-    bidders >= MANY && log.is_none()
-}
-
-/// A plan of the search that begins with these marks for an assignment above a value, with at most
-/// so many splits. The log of a search that may be alike is followed first.
+/// A plan of a search that begins with these marks. It has at most four splits for each branch that
+/// is left, and 10,000 more.
 pub fn plan_search(
     alloc: Global,
     trees: &[Tree],
     weights: &AllWeights,
     exact: &[bool],
     start: &Fixings,
-    value: i128,
-    log: Option<&Log>,
-    most: usize,
+    sought: &Sought,
 ) -> Result<Outline, AllocError>
     requires few { length trees.now ≤ 40 }
     requires weights { AreWeightsOf trees.now weights.now }
@@ -151,7 +183,7 @@ pub fn plan_search(
     let master = Box::new(alloc, Master::new(alloc, trees, weights, exact)?)?;
     let marking = Marking::new(alloc, trees, start)?;
     let mut points = Points::new(alloc);
-    let seed = seed_of(alloc, &mut points, log)?;
+    let seed = seed_of(alloc, &mut points, sought.log)?;
     let mut planner = Planner {
         alloc,
         weights,
@@ -160,12 +192,11 @@ pub fn plan_search(
         master,
         points,
         finds: Assignment::empty(alloc, trees)?,
-        value,
+        value: sought.value,
         looks: 0,
     };
-    let followed = is_followed_by_many(trees.len(), log);
-    let plan = match make(alloc, &mut planner, &seed, most)? {
-        Some(plan) => made_smaller(alloc, plan, &mut planner, followed)?,
+    let plan = match make(alloc, &mut planner, &seed, sought.most_splits())? {
+        Some(plan) => made_smaller(alloc, plan, &mut planner, sought, trees.len())?,
         None => Plan::new(alloc),
     };
     Ok(Outline {

@@ -85,28 +85,17 @@ pub struct Known<'a> {
 /// A search by a plan, where one is made, with an assignment that a try has found.
 fn search_planned(
     alloc: Global,
-    exchange: &Exchange,
-    weights: &AllWeights,
-    start: &Fixings,
-    first: &Assignment,
+    problem: Problem,
     known: &Known,
     tried: &Option<Assignment>,
     branches: &mut u32,
 ) -> Result<Found, SearchEnd>
-    requires weights { AreWeightsOf (trees_of exchange.now) weights.now }
-    requires start { AreFixingsOf (trees_of exchange.now) start.now }
-    requires feasible { IsFeasible (trees_of exchange.now) (exact_of exchange.now) first.now }
-    requires meets { MeetsAll first.now start.now }
-    requires from { AreMultipliersOf (exact_of exchange.now) known.now.from.now }
+    requires from { AreMultipliersOf problem.exact known.now.from.now }
     requires branches { branches.old ≤ 50000 }
-    ensures found { IfOk result
-        (IsFoundBy (instance_of exchange.now weights.now start.now first.now)) }
+    ensures found { IfOk result (IsFoundBy problem.entry) }
     ensures branches { IfOk result (λ f. branches.new + branch_count f.log ≡ branches.old) }
-    ensures end { IfErr result
-        (IsEnd (instance_of exchange.now weights.now start.now first.now) branches.old
-        branches.new) }
+    ensures end { IfErr result (IsEnd problem.entry branches.old branches.new) }
 {
-    let problem = Problem::new(exchange, weights, start, first);
     let Outline { plan, guide, finds } = outline_of(alloc, &problem, known, tried, *branches)?;
     let candidates = known.candidates;
     let mut progress = Progress::begin(alloc, problem, known.from, candidates, plan, guide)?;
@@ -151,9 +140,8 @@ fn try_first(
         Err(SearchEnd::NoMemory) => Err(SearchEnd::NoMemory),
         Err(SearchEnd::Spent(spent)) => {
             let tried = Some(spent.into_found());
-            search_planned(
-                alloc, exchange, weights, start, first, known, &tried, branches,
-            )
+            let problem = Problem::new(exchange, weights, start, first);
+            search_planned(alloc, problem, known, &tried, branches)
         }
     }
 }
@@ -186,9 +174,8 @@ fn search_in_turn(
     if is_tried_first(exchange.goods(), known, *branches) {
         return try_first(alloc, exchange, weights, start, first, known, branches);
     }
-    search_planned(
-        alloc, exchange, weights, start, first, known, &None, branches,
-    )
+    let problem = Problem::new(exchange, weights, start, first);
+    search_planned(alloc, problem, known, &None, branches)
 }
 
 /// `search` with what searches before left.

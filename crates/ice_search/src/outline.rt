@@ -3,19 +3,13 @@ ghost use Rattle.std.specs.Prelude.{◌<◌, IsTrue};
 
 use crate::entry::Known;
 use crate::problem::Problem;
-use ice_planner::{Outline, is_planned, plan_search};
+use ice_planner::{Outline, Sought, is_planned, plan_search};
 use ice_refute::Log;
 use ice_tree::Assignment;
 use std::alloc::{AllocError, Global};
 
 /// A search is planned that has not closed after so many branches, or whose log may be longer.
 pub(crate) const TRIED: u32 = 500;
-
-/// A plan may have so many splits for each branch that is left ..
-const SPLITS: usize = 4;
-
-/// .. and so many more.
-const SPARE: usize = 10_000;
 
 /// Whether a log may be long enough to plan by it at once.
 fn is_long(log: Option<&Log>) -> bool {
@@ -47,19 +41,18 @@ pub(crate) fn outline_of(
     if !is_planned(problem.goods()) || branches <= TRIED {
         return Ok(Outline::none(alloc));
     }
-    let value = best_worth(problem, known.candidates, finds);
-    let most = SPLITS
-        .saturating_mul(branches as usize)
-        .saturating_add(SPARE);
+    let sought = Sought {
+        value: best_worth(problem, known.candidates, finds),
+        log: known.log,
+        branches,
+    };
     plan_search(
         alloc,
         problem.trees(),
         problem.weights(),
         problem.exact(),
         problem.start,
-        value,
-        known.log,
-        most,
+        &sought,
     )
 }
 
