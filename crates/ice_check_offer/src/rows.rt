@@ -108,6 +108,7 @@ impl Offer {
         requires kept { IsKept exchange.now self.old }
         requires weights { weights.now
             ≡ weighted_weights exchange.now.settings.weight self.old.judge.bounds }
+        // What it leaves
         ensures same { self.new ≡ record self.old { tally = self.new.tally } }
         ensures count { self.new.tally.count ≡ suc self.old.tally.count }
         ensures taken { (rows : List Row)

@@ -223,12 +223,14 @@ fn pivot_left(
         (fraction_at row.coeffs entering.place).num ≢ pos 0 }
     requires same_length { let row = slice_index_or left.old leaving no_left in
         AreLong (length row.coeffs) leaving left.old }
+    // On success
     ensures row { let row = slice_index_or left.old leaving no_left in
         IfOk result (λ new. pivot_row entering row ≡ Some new) }
     ensures same_length { let row = slice_index_or left.old leaving no_left in
         IfOk result (λ new. length new.coeffs ≡ length row.coeffs) }
     ensures made { IfOk result (λ new. all_of (new_left leaving entering.place new 0 left.old)
         ≡ Some (slice_set left.new leaving new)) }
+    // On failure
     ensures wide { IfErr result (λ _. IsWideLeft left.old leaving entering) }
 {
     let empty = LeftRow {

@@ -71,9 +71,12 @@ fn first_that_holds(
     requires hi_nodes { length hi.now ≡ length at.now.tree.now }
     requires lo_values { IsTrue (list_all is_value lo.now) }
     requires hi_values { IsTrue (list_all is_value hi.now) }
+    // What comes of it
     ensures judged { IsVerdict at.now improve lo.now hi.now (verdict_of result) }
+    // On acceptance
     ensures accepted { IfOk result (λ new. new ≡ values lo.now hi.now) }
     ensures bounds { IfOk result (AreBounds (length at.now.tree.now)) }
+    // On refusal
     ensures refused { IfErr result (λ refused. is_acceptance refused ≡ false) }
 {
     let _nodes = at.tree.nodes();
@@ -123,10 +126,14 @@ pub fn judge(
     requires hi_nodes { length hi.now ≡ length at.now.tree.now }
     requires lo_values { IsTrue (list_all is_value lo.now) }
     requires hi_values { IsTrue (list_all is_value hi.now) }
+    // What comes of it
     ensures judged { IsVerdict at.now improve lo.now hi.now (verdict_of result) }
+    // On acceptance
     ensures accepted { IfOk result (λ new. new ≡ values lo.now hi.now) }
     ensures bounds { IfOk result (AreBounds (length at.now.tree.now)) }
+    // On refusal
     ensures refused { IfErr result (λ refused. is_acceptance refused ≡ false) }
+    // Where each interval is a point
     ensures exact { hi.now ≡ lo.now → IsInside 1 at.now.bounds.now lo.now → verdict_of result
         ≡ Verdict.Accepted }
 {

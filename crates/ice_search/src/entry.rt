@@ -121,9 +121,11 @@ fn try_first(
     requires from { AreMultipliersOf (exact_of exchange.now) known.now.from.now }
     requires more { 500 < branches.old }
     requires branches { branches.old ≤ 50000 }
+    // On success
     ensures found { IfOk result
         (IsFoundBy (instance_of exchange.now weights.now start.now first.now)) }
     ensures branches { IfOk result (λ f. branches.new + branch_count f.log ≡ branches.old) }
+    // On failure
     ensures end { IfErr result
         (IsEnd (instance_of exchange.now weights.now start.now first.now) branches.old
         branches.new) }

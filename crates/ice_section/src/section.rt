@@ -78,9 +78,11 @@ fn add_bidder(maker: &mut ExchangeMaker, draft: Draft) -> Result<(), SectionFaul
     requires some { 0 < length draft.draft.bidder.tree }
     requires count { length draft.draft.bidder.own ≡ length maker.old.goods }
     requires own { AllByRecursion (λ amount. amount ≤ 1000000) draft.draft.bidder.own }
+    // On success
     ensures made { OnOk result
         ((bidder_refusal (length maker.old.goods) maker.old.bidders draft.draft.bidder ≡ None)
         × (maker.new ≡ with_bidder maker.old draft.draft.bidder)) }
+    // On refusal
     ensures refused { IfErr result
         (IsMakerRefusal (bidder_refusal (length maker.old.goods) maker.old.bidders
         draft.draft.bidder)) }

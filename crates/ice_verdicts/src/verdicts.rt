@@ -56,13 +56,16 @@ impl Judge {
         requires hi_nodes { length hi.now ≡ length (tree_of (trees_of exchange.now) bidder) }
         requires lo_values { IsTrue (list_all is_value lo.now) }
         requires hi_values { IsTrue (list_all is_value hi.now) }
+        // What comes of it
         ensures judged { (name : List ℕ)
             → IsJudged (tree_of (trees_of exchange.now) bidder) self.now.prices
             exchange.now.settings.improve (set_of self.now.sets bidder)
             (bounds_of self.now.bounds bidder)
             (stated_bounds (submission_of name lo.now hi.now)) (verdict_of result) }
+        // On acceptance
         ensures accepted { IfOk result (λ new. new ≡ values lo.now hi.now) }
         ensures bounds { IfOk result (AreBounds (length (tree_of (trees_of exchange.now) bidder))) }
+        // On refusal
         ensures refused { IfErr result (λ refused. is_acceptance refused ≡ false) }
     {
         let at = Standing {
@@ -87,10 +90,13 @@ impl Judge {
         requires bidder { bidder < length exchange.now.bidders }
         requires lo_values { IsTrue (list_all is_value lo.now) }
         requires hi_values { IsTrue (list_all is_value hi.now) }
+        // What comes of it
         ensures judged { (name : List ℕ) → IsVerdictOf exchange.now self.now (Some bidder)
             (submission_of name lo.now hi.now) (verdict_of result) }
+        // On acceptance
         ensures accepted { IfOk result (λ new. new ≡ values lo.now hi.now) }
         ensures bounds { IfOk result (AreBounds (length (tree_of (trees_of exchange.now) bidder))) }
+        // On refusal
         ensures refused { IfErr result (λ refused. is_acceptance refused ≡ false) }
     {
         if self.is_marked(bidder) {
@@ -137,12 +143,14 @@ impl Judge {
         requires round { IsRoundOf exchange.now self.old }
         requires lo_values { IsTrue (list_all is_value lo.now) }
         requires hi_values { IsTrue (list_all is_value hi.now) }
+        // What comes of it
         ensures verdict { IsVerdictIn exchange.now self.old (submission_of name.now lo.now hi.now)
             result }
         ensures next { (judged : List Judged) → IsAfter exchange.now judged self.old
             → IsNextVerdict self.old.prices exchange.now.settings.improve
             (bidders_in exchange.now self.old) judged (submission_of name.now lo.now hi.now)
             result }
+        // What it leaves
         ensures changed { self.new ≡ round_after exchange.now self.old (record {
           submission = submission_of name.now lo.now hi.now;
           verdict = result;

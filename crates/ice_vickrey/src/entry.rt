@@ -57,9 +57,11 @@ pub fn discounts(
     requires best { IsBestOfAll (trees_of exchange.now) (exact_of exchange.now)
         (lower_weights bounds.now) best.now.value }
     requires branches { branches.old ≤ 50000 }
+    // On success
     ensures marginals { let e = economy_at exchange.now bounds.now best.now.value in
         IfOk result (λ ms. AreMarginals e ms.items) }
     ensures branches { IfOk result (λ ms. branches.new + branches_of ms.items ≡ branches.old) }
+    // On failure
     ensures end { let e = economy_at exchange.now bounds.now best.now.value in
         IfErr result (IsDiscountEnd e branches.old branches.new) }
 {
