@@ -52,12 +52,22 @@ pub enum GivenUp {
 }
 
 impl From<AllocError> for GivenUp {
+    ghost use Rattle.std.specs.Prelude.{◌≡◌};
+    ghost use Rattle.ice_cutting_planes.specs.declared.work.GivenUp.{GivenUp};
+
+    ghost from_gives = { λ _ e. e ≡ GivenUp.NoMemory };
+
     fn from(_: AllocError) -> GivenUp {
         GivenUp::NoMemory
     }
 }
 
 impl<T: Drop> From<AllocFailed<T>> for GivenUp {
+    ghost use Rattle.std.specs.Prelude.{◌≡◌};
+    ghost use Rattle.ice_cutting_planes.specs.declared.work.GivenUp.{GivenUp};
+
+    ghost from_gives = { λ _ e. e ≡ GivenUp.NoMemory };
+
     fn from(_failed: AllocFailed<T>) -> GivenUp {
         GivenUp::NoMemory
     }
