@@ -1,14 +1,11 @@
 //! The lines of a statement, read.
 ghost use Rattle.std.specs.Prelude.{◌≡◌, ◌≢◌, ◌++◌, ℕ, List, codes, option_map, MatchOption};
 ghost use Rattle.ice_line.specs.Reading.{Reads};
-ghost use Rattle.ice_journal.specs.Reading.{Finds};
-ghost use Rattle.ice_journal.specs.Ranges.{IsBits};
-ghost use Rattle.ice_journal.specs.Spelling.{bits, bit_byte};
 ghost use Rattle.ice_statement_laws.specs.Statement.{statement_text};
 ghost use Rattle.ice_statement_laws.specs.Texts.{IsLine};
 ghost use Rattle.ice_audit.specs.Lines.{line_of, FindsOwn};
 
-use ice_journal::{Line, read_record};
+use ice_journal::{Line, node_bits, read_record};
 use ice_set::NodeSet;
 use ice_terms::Name;
 
@@ -25,31 +22,6 @@ pub(crate) enum StatementLine {
     Offered(NodeSet),
     /// `end statement`.
     Ended,
-}
-
-/// The bit of a character.
-fn bit(byte: u8) -> Option<bool>
-    ensures { Finds result (λ _. Unit {0}) bit_byte byte }
-{
-    match byte {
-        b'0' => Some(false),
-        b'1' => Some(true),
-        _ => None,
-    }
-}
-
-/// A set, one character per node.
-fn node_bits(field: &[u8]) -> Option<NodeSet>
-    ensures { Finds result IsBits bits field.now }
-{
-    if field.is_empty() || field.len() > 200 {
-        return None;
-    }
-    let mut set = NodeSet::empty(field.len() as u16);
-    for (node, byte) in field.iter().enumerate() {
-        set.put(node as u16, bit(*byte)?);
-    }
-    Some(set)
 }
 
 /// What stands behind this word and its space.

@@ -4,6 +4,7 @@
 mod fractions;
 mod items;
 mod laws;
+mod limits;
 mod line;
 mod lines;
 mod lists;
@@ -17,6 +18,7 @@ mod write_fields;
 mod write_log;
 mod write_session;
 
+pub use items::node_bits;
 pub use laws::{bytes_tell_journals, packed_journals_come_back, texts_tell_records};
 pub use line::{Change, EndWord, Kind, Line, LowestFraction, Version};
 pub use lines::{BadLine, LinesEnd, next_record, read_lines};

@@ -142,12 +142,13 @@ pub enum Line {
     },
     /// `prices D N ..`.
     Prices(Prices),
-    /// `accuracy X D`: a violation from 0 to 2^100 over a denominator from 1 to 2^32.
+    /// `accuracy X D`: a violation from 0 to 2^100 over the denominator of the prices, and the
+    /// certificate's denominator from 1 to 2^32.
     Accuracy {
         violation: i128,
         den: u64,
     },
-    /// `balance D`: from 1 to 2^32.
+    /// `balance D`: the certificate's denominator from 1 to 2^32.
     Balance {
         den: u64,
     },
@@ -182,7 +183,7 @@ pub enum Line {
         value: i64,
         bound: i128,
     },
-    /// `limit STAGE KIND X D`, with the limits of `Accuracy`.
+    /// `limit STAGE KIND X D`: a violation from 0 to 2^100 over a denominator from 1 to 2^32.
     Limit {
         stage: PricingStage,
         kind: LimitKind,

@@ -8,8 +8,10 @@ ghost use Rattle.ice_journal.specs.Ranges.{HasLength, IsValue, Ascends, IsChange
 ghost use Rattle.ice_journal.specs.Spelling.{counted, change_fields, submission_fields};
 ghost use Rattle.ice_journal.specs.Lines.{change_of, changes_of, submission_of};
 
+use crate::limits::MULTIPLIER;
 use crate::line::Change;
 use arrayvec::ArrayVec;
+use ice_defs::GREATEST_VALUE;
 use ice_line::{Fields, integer, natural};
 use ice_terms::Name;
 
@@ -52,7 +54,7 @@ fn counted_values(fields: &mut Fields<'_>) -> Option<ArrayVec<i32, 200>>
     let count = natural(fields.next()?, 0, 200)?;
     let mut values = ArrayVec::new();
     while (values.len() as u64) < count {
-        let value = integer(fields.next()?, -1_000_000_000, 1_000_000_000)?;
+        let value = integer(fields.next()?, -GREATEST_VALUE, GREATEST_VALUE)?;
         values.push(value as i32);
     }
     Some(values)
@@ -76,11 +78,7 @@ fn one_change(fields: &mut Fields<'_>, least: u64) -> Option<Change>
     ensures { ReadsFront (option_map change_of result) (λ change. (least ≤ change.good) × IsChange change) change_fields fields.old fields.new }
 {
     let good = natural(fields.next()?, least, 31)? as u8;
-    let multiplier = integer(
-        fields.next()?,
-        -72_057_594_037_927_936,
-        72_057_594_037_927_936,
-    )?;
+    let multiplier = integer(fields.next()?, -MULTIPLIER, MULTIPLIER)?;
     Some(Change { good, multiplier })
 }
 

@@ -2,17 +2,12 @@
 ghost use Rattle.std.specs.Prelude.{◌∷◌, [], codes};
 ghost use Rattle.ice_journal.specs.Reading.{FindsAfter};
 
+use crate::limits::{DEN, MULTIPLIER, TOTAL};
 use crate::line::Line;
 use crate::lists::{changes, integers, submission};
 use crate::rows;
 use ice_defs::NodeKind;
 use ice_line::Fields;
-
-const TOTAL: i64 = 400_000_000_000_000;
-
-const MULTIPLIER: i64 = 72_057_594_037_927_936;
-
-const DEN: u64 = 4_294_967_296;
 
 /// The record of these fields behind `ice`.
 pub fn ice_record(fields: Fields<'_>) -> Option<Line>

@@ -13,20 +13,14 @@ use crate::items::{
     bound_number, file_place, journal_kind, last_word, limit_kind, node_bits, pricing_stage,
     version, violation_number,
 };
+use crate::limits::{DEN, TOTAL};
 use crate::line::{EndWord, Kind, LowestFraction, Version};
 use crate::lists::{amounts, integers};
 use arrayvec::ArrayVec;
-use ice_defs::{LimitKind, PricingStage, Verdict};
+use ice_defs::{GREATEST_VALUE, LimitKind, PricingStage, Verdict};
 use ice_line::{Fields, integer, natural};
 use ice_set::NodeSet;
 use ice_terms::{Name, Prices, Settings};
-
-// The greatest size of a value of a node and of a total, and the greatest denominator.
-const VALUE: i64 = 1_000_000_000;
-
-const TOTAL: i64 = 400_000_000_000_000;
-
-const DEN: u64 = 4_294_967_296;
 
 /// One number from `least` to `most`.
 pub fn one_natural(mut fields: Fields<'_>, least: u64, most: u64) -> Option<u64>
@@ -123,8 +117,8 @@ pub fn choose(mut fields: Fields<'_>) -> Option<(u16, u16, u16, i64, i64)>
     let least = natural(fields.next()?, 0, 199)? as u16;
     let most = natural(fields.next()?, 0, 199)? as u16;
     let children = natural(fields.next()?, 0, 199)? as u16;
-    let lo = integer(fields.next()?, -VALUE, VALUE)?;
-    let hi = integer(fields.next()?, -VALUE, VALUE)?;
+    let lo = integer(fields.next()?, -GREATEST_VALUE, GREATEST_VALUE)?;
+    let hi = integer(fields.next()?, -GREATEST_VALUE, GREATEST_VALUE)?;
     if !fields.is_end() {
         return None;
     }
@@ -137,8 +131,8 @@ pub fn leaf(mut fields: Fields<'_>) -> Option<(u8, u16, i64, i64)>
 {
     let good = natural(fields.next()?, 0, 31)? as u8;
     let units = natural(fields.next()?, 1, 1000)? as u16;
-    let lo = integer(fields.next()?, -VALUE, VALUE)?;
-    let hi = integer(fields.next()?, -VALUE, VALUE)?;
+    let lo = integer(fields.next()?, -GREATEST_VALUE, GREATEST_VALUE)?;
+    let hi = integer(fields.next()?, -GREATEST_VALUE, GREATEST_VALUE)?;
     if !fields.is_end() {
         return None;
     }
