@@ -81,7 +81,7 @@ impl Plan {
 
 /// The tree at a side of what was made of a plan, where it has no more splits than the plan; else
 /// the plan once more.
-pub(crate) fn smaller(
+pub(crate) fn no_larger(
     alloc: Global,
     made: &Plan,
     side: Side,

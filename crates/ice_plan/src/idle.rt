@@ -1,7 +1,7 @@
 //! Splits that their subtrees can do without.
 ghost use Rattle.std.specs.Prelude.{◌≤◌, length, IfOk};
 
-use crate::below::smaller;
+use crate::below::no_larger;
 use crate::plan::{Plan, Side, Split, pop_side};
 use crate::sides::Sides;
 use crate::walk::{Event, Walk};
@@ -90,5 +90,5 @@ pub fn drop_idle<S: Sides>(alloc: Global, plan: &Plan, sides: &mut S) -> Result<
         }
     }
     walk.leave_all(sides);
-    smaller(alloc, &made, pop_side(&mut done), plan)
+    no_larger(alloc, &made, pop_side(&mut done), plan)
 }

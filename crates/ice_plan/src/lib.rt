@@ -1,5 +1,6 @@
 //! Plans of a search: finished trees of splits, made on a relaxation alone, of which nothing is
-//! proved but their form. A search that follows one spends no branch on finding it.
+//! proved but their form, how many splits they have at most, and that a log's has the log's nodes.
+//! A search that follows one spends no branch on finding it.
 #![tactic(auto)]
 
 mod below;

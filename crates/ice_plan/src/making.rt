@@ -128,8 +128,8 @@ fn within(plan: Plan, most: usize) -> Option<Plan>
     if plan.len() <= most { Some(plan) } else { None }
 }
 
-/// A plan of the side that is looked at: a part of the greatest bound is split, until no bound is
-/// above the target. It follows another plan as far as that goes, and else tries up to eight nodes
+/// A plan of the side that is looked at: a part of the greatest bound is split, until each bound is
+/// below the target. It follows another plan as far as that goes, and else tries up to eight nodes
 /// at each part. None where that takes more than `most` splits. The marks stay.
 pub fn make<S: Bounds>(
     alloc: Global,

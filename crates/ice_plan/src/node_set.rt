@@ -69,13 +69,13 @@ impl NodeSet {
         both
     }
 
-    /// The nodes that are in one and not in the other.
-    pub(crate) fn either(&self, other: &NodeSet) -> NodeSet {
-        let mut either = NodeSet::EMPTY;
+    /// The nodes that are in just one of both.
+    pub(crate) fn in_one(&self, other: &NodeSet) -> NodeSet {
+        let mut in_one = NodeSet::EMPTY;
         for place in 0..WORDS {
-            either.words[place] = self.words[place] ^ other.words[place];
+            in_one.words[place] = self.words[place] ^ other.words[place];
         }
-        either
+        in_one
     }
 }
 

@@ -134,9 +134,12 @@ impl<B: Drop> Parts<B> {
         let mut one = one;
         let mut other = other;
         for _part in 0..self.parts.len() {
+            if one == other {
+                break;
+            }
             if one > other {
                 one = self.above(one);
-            } else if other > one {
+            } else {
                 other = self.above(other);
             }
         }

@@ -139,7 +139,7 @@ impl Plan {
 
     /// Takes all splits off but the first ones, so many.
     #[tactic(auto, using(crate::proofs::Behind::behind_take))]
-    pub fn truncate(&mut self, splits: usize)
+    pub(crate) fn truncate(&mut self, splits: usize)
         ensures { length self.new ≤ splits }
     {
         self.splits.truncate(splits);

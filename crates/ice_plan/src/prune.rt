@@ -5,7 +5,7 @@ use crate::sides::Sides;
 use crate::walk::{Event, Walk};
 use std::alloc::{AllocError, Global};
 
-/// A tree under way: what is pruned, how many splits more it may have, and the sides that are done.
+/// A tree under way: how many splits more it may have, and the sides that are done.
 #[derive(Drop)]
 struct Pruned {
     left: usize,
@@ -47,26 +47,35 @@ impl Pruned {
     }
 }
 
-/// Takes the next task of a walk. None where it has ended or was broken off, and then whether it
-/// has ended.
+/// Where a walk is behind a task.
+enum Went {
+    /// It goes on.
+    On,
+    /// It has ended.
+    ToEnd,
+    /// It would take one split too many.
+    TooFar,
+}
+
+/// Takes the next task of a walk.
 fn step<S: Sides>(
     pruned: &mut Pruned,
     walk: &mut Walk,
     plan: &mut Plan,
     sides: &mut S,
-) -> Result<Option<bool>, AllocError> {
+) -> Result<Went, AllocError> {
     match walk.next(plan, sides)? {
-        Event::End => return Ok(Some(true)),
+        Event::End => return Ok(Went::ToEnd),
         Event::Between => {}
         Event::Leaf(number) => pruned.done.push(Side::Leaf(number))?,
         Event::Free(split) => {
             if !pruned.look_at(split, walk, sides)? {
-                return Ok(Some(false));
+                return Ok(Went::TooFar);
             }
         }
         Event::Left(split) => pruned.join(split, plan)?,
     }
-    Ok(None)
+    Ok(Went::On)
 }
 
 /// The tree at a side once more, behind all splits that are there: without the splits that the
@@ -87,9 +96,9 @@ pub(crate) fn prune<S: Sides>(
     };
     for _task in 0..Walk::most_tasks(plan) {
         match step(&mut pruned, &mut walk, plan, sides)? {
-            None => {}
-            Some(true) => return Ok(pruned.done.pop()),
-            Some(false) => break,
+            Went::On => {}
+            Went::ToEnd => return Ok(pruned.done.pop()),
+            Went::TooFar => break,
         }
     }
     walk.leave_all(sides);

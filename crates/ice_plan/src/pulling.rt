@@ -1,7 +1,7 @@
 //! Nodes that both subtrees of a split are split at, moved above them.
 ghost use Rattle.std.specs.Prelude.{◌≤◌, length, IfOk};
 
-use crate::below::smaller;
+use crate::below::no_larger;
 use crate::counting::{count_left, most_often, nodes_left};
 use crate::node_set::NodeSet;
 use crate::plan::{Plan, Side, Split};
@@ -169,7 +169,7 @@ fn join<S: Sides>(
         must: must.side,
         never: never.side,
     })?;
-    let mut may = must.may.either(&never.may);
+    let mut may = must.may.in_one(&never.may);
     may.insert(node);
     let both = must.may.both(&never.may);
     if both.is_empty() {
@@ -212,5 +212,5 @@ pub fn pull<S: Sides>(alloc: Global, plan: &Plan, sides: &mut S) -> Result<Plan,
         }
     }
     walk.leave_all(sides);
-    smaller(alloc, &made, pop_done(&mut done).side, plan)
+    no_larger(alloc, &made, pop_done(&mut done).side, plan)
 }

@@ -1,7 +1,7 @@
 //! Small subtrees, made anew.
 ghost use Rattle.std.specs.Prelude.{◌≤◌, length, IfOk};
 
-use crate::below::smaller;
+use crate::below::no_larger;
 use crate::idle::drop_idle;
 use crate::making::make;
 use crate::plan::{Plan, Side, Split};
@@ -46,7 +46,9 @@ fn pop_done(done: &mut Vec<Done>) -> Done {
     done.pop().unwrap_or(Done::leaf(0))
 }
 
-/// Another plan of the side that is looked at, with fewer splits than this and at least one.
+/// Another plan of the side that is looked at, with fewer splits than this. None where none came
+/// up, or one without a split, which doesn't tell the number by which its leaf's multipliers are
+/// kept.
 fn anew<S: Bounds>(alloc: Global, sides: &mut S, size: usize) -> Result<Option<Plan>, AllocError> {
     let most = size.saturating_add(size / 3).saturating_add(2);
     let Some(made) = make(alloc, sides, &Plan::new(alloc), most)? else {
@@ -145,5 +147,5 @@ pub fn rebuild<S: Bounds>(
         }
     }
     walk.leave_all(sides);
-    smaller(alloc, &made, pop_done(&mut done).side, plan)
+    no_larger(alloc, &made, pop_done(&mut done).side, plan)
 }

@@ -54,7 +54,7 @@ impl Walk {
         Ok(Walk { tasks })
     }
 
-    /// More tasks than a walk through a tree with all splits of the plan has.
+    /// So many tasks a walk through a tree with all splits of the plan has, its end among them.
     pub(crate) fn most_tasks(plan: &Plan) -> usize {
         plan.len().saturating_mul(4).saturating_add(2)
     }
