@@ -17,7 +17,7 @@ pub struct Candidate {
     /// The share of it in the mix, in parts of 2^-40.
     pub share: i64,
     /// How much a branch at it promises.
-    pub score: i128,
+    score: i128,
 }
 
 /// At most eight candidates, the best first.

@@ -26,6 +26,15 @@ pub(crate) struct Form {
     is_live: bool,
 }
 
+/// Which children of a node are added to its choice.
+#[derive(Clone, Copy)]
+enum Operands {
+    /// Those that come along with it.
+    Along,
+    /// Those that it may take.
+    Offered,
+}
+
 /// How a node takes some of so many offered children.
 fn rule_of(open: &Open, offered: u8) -> Rule {
     let most = u16::from(offered);
@@ -150,9 +159,9 @@ impl Form {
     {
         let open = opening.of(node);
         let along = self.operand_count;
-        self.add_operands(tree, opening, node, numbers, true);
+        self.add_operands(tree, opening, node, numbers, Operands::Along);
         let offered = self.operand_count;
-        self.add_operands(tree, opening, node, numbers, false);
+        self.add_operands(tree, opening, node, numbers, Operands::Offered);
         let end = self.operand_count;
         let mut nodes = Nodes::NONE;
         nodes.insert(node as u8);
@@ -169,15 +178,14 @@ impl Form {
         self.add(operation, nodes)
     }
 
-    /// Adds those children of a node to the choice that is made that come along with it, or those
-    /// that it may take.
+    /// Adds these children of a node to the choice that is made.
     fn add_operands(
         &mut self,
         tree: &Tree,
         opening: &Opening,
         node: u16,
         numbers: &[u8; 200],
-        are_along: bool,
+        which: Operands,
     )
         requires few { length tree.now ≤ 200 }
         requires node { node < length tree.now }
@@ -185,7 +193,12 @@ impl Form {
         let open = opening.of(node);
         for &below in tree.children(node) {
             let child = opening.of(below);
-            if child.is_reached && open.brings(&child) == are_along {
+            let is_along = open.brings(&child);
+            let is_wanted = match which {
+                Operands::Along => is_along,
+                Operands::Offered => !is_along,
+            };
+            if child.is_reached && is_wanted {
                 self.operands[usize::from(self.operand_count)] = numbers[usize::from(below)];
                 self.operand_count = self.operand_count.saturating_add(1);
             }

@@ -1,6 +1,6 @@
 //! The inverse of a working basis, of goods by goods.
 
-use crate::scale::{clamped, product, rounded};
+use crate::scale::{ONE, clamped, product, rounded};
 
 /// The least pivot in size: one part in 2^26.
 pub(crate) const LEAST_PIVOT: i64 = 1 << 14;
@@ -18,7 +18,7 @@ impl Inverse {
     pub(crate) fn unit(goods: u8) -> Inverse {
         let mut rows = [[0; 16]; 16];
         for good in 0..16 {
-            rows[good][good] = 1 << 40;
+            rows[good][good] = ONE;
         }
         Inverse { rows, goods }
     }
@@ -65,7 +65,7 @@ impl Inverse {
         }
     }
 
-    /// Divides a row. The reciprocal has 50 bits more than the entries.
+    /// Divides a row. The reciprocal is in parts of 2^-50, ten bits finer than the entries.
     fn divide(&mut self, place: u8, pivot: i64) {
         if pivot == 0 {
             return;

@@ -1,6 +1,8 @@
 //! The exact Lagrangean dual of a side, for markets of few goods, by column generation: mixes of
-//! sets of the bidders, and multipliers that show no mix to be worth more. It guides a search and
-//! decides nothing: what it says is measured and not proved.
+//! sets of the bidders, and multipliers that show no mix to be worth more. Each bidder has a key
+//! column, the set whose share is what its other sets in the mix leave of one; so a basis has a
+//! matrix of goods by goods alone. It guides a search and decides nothing: what it says is measured
+//! and not proved.
 #![tactic(auto)]
 
 mod basis;

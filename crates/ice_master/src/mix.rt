@@ -22,7 +22,8 @@ fn add_share(shares: &mut Shares, nodes: &Nodes, share: i64) {
 }
 
 impl Master {
-    /// Whether the mix of the last solve is one whole set of each bidder, and no unit is lacking.
+    /// Whether the mix of the last solve is one whole set of each bidder, with no unit lacking, and
+    /// of an exact good none left over.
     pub fn is_whole(&self) -> bool {
         for place in 0..self.market.goods {
             let basic = self.tableau.basis.basic(place);

@@ -19,7 +19,7 @@ const HOPELESS: i64 = -LACK;
 pub struct Aim {
     /// It may end where a bound is below this ..
     pub close: i64,
-    /// .. and where it is known that no bound is.
+    /// .. and where it is known that no bound is below this.
     pub keep: i64,
 }
 
