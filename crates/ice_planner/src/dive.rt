@@ -1,20 +1,19 @@
 //! Dives from a side, to assignments that are whole.
 
-use crate::planner::{Planner, closing};
+use crate::planner::{Planner, closing, node_of};
 use ice_best::Mark;
 use ice_master::Aim;
 use ice_relaxation::Candidate;
 use std::alloc::AllocError;
 
-/// Dives are made at this look, at each whose number is twice that of the last, and at each whose
-/// number is a multiple of this.
+/// Dives are made at the looks 1, 2, 4, 8 .., and at each multiple of this.
 const TURN: u32 = 512;
 
-/// A dive goes no deeper.
+/// A dive goes no deeper, which bounds its time.
 const DEEPEST: u16 = 400;
 
 /// A node of which the mix has at least this share is taken first: three tenths, in parts of 2^-40.
-const TAKEN: i64 = 329_853_488_332;
+const TAKEN: i64 = 3 * (1 << 40) / 10;
 
 /// Whether dives are made at the look of this number.
 fn is_turn(looks: u32) -> bool {
@@ -42,11 +41,7 @@ impl Planner<'_> {
         for candidate in self.master.candidates().as_slice() {
             if candidate.share > most {
                 most = candidate.share;
-                let node = Candidate {
-                    bidder: candidate.bidder,
-                    node: candidate.node,
-                };
-                fullest = Some((node, most));
+                fullest = Some((node_of(candidate), most));
             }
         }
         fullest

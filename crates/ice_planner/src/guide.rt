@@ -2,12 +2,12 @@
 ghost use Rattle.std.specs.Prelude.{◌≤◌, length};
 ghost use Rattle.ice_defs.specs.Conditions.{AreFixingsOf};
 
-use crate::planner::closing;
+use crate::planner::{closing, node_of};
 use arrayvec::ArrayVec;
 use ice_best::Fixings;
 use ice_bound::Multipliers;
 use ice_master::{Aim, Master};
-use ice_relaxation::{Candidate, Candidates};
+use ice_relaxation::Candidates;
 use ice_tree::Tree;
 
 /// So many steps may be worth it where they nearly close a side ..
@@ -65,14 +65,12 @@ fn rounded(floors: &[i64; 32], goods: u8, ups: u16) -> [i64; 32] {
     numbers
 }
 
-/// Free nodes that the mix of the last solve has in part.
+/// Free nodes that the mix of the last solve has in part: the first of them, as many as a search
+/// tries.
 fn candidates_of(master: &Master) -> Candidates {
     let mut candidates = ArrayVec::new();
     for candidate in master.candidates().as_slice() {
-        let _is_room = candidates.try_push(Candidate {
-            bidder: candidate.bidder,
-            node: candidate.node,
-        });
+        let _is_room = candidates.try_push(node_of(candidate));
     }
     candidates
 }

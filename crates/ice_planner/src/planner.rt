@@ -17,7 +17,7 @@ use std::alloc::{AllocError, Global};
 const MARGIN: i64 = 6;
 
 /// A market that is planned: a side with its master, the multipliers that were found, and the best
-/// assignment that came up, with its value.
+/// assignment that came up.
 #[derive(Drop)]
 pub(crate) struct Planner<'a> {
     pub(crate) alloc: Global,
@@ -26,7 +26,9 @@ pub(crate) struct Planner<'a> {
     pub(crate) marking: Marking<'a>,
     pub(crate) master: Box<Master>,
     pub(crate) points: Points,
+    /// The best assignment that came up, at first empty sets.
     pub(crate) finds: Assignment,
+    /// Its value; at first the value that is to be beaten.
     pub(crate) value: i128,
     /// How many sides were looked at while a plan was made.
     pub(crate) looks: u32,
@@ -43,6 +45,14 @@ pub(crate) struct Kept {
 pub(crate) fn closing(value: i128) -> i64 {
     let above = value.saturating_add(1).saturating_mul(64);
     above.clamp(-(1 << 62), 1 << 62) as i64
+}
+
+/// The node of a master's candidate.
+pub(crate) fn node_of(candidate: &ice_master::Candidate) -> Candidate {
+    Candidate {
+        bidder: candidate.bidder,
+        node: candidate.node,
+    }
 }
 
 impl Planner<'_> {
@@ -77,10 +87,7 @@ impl Planner<'_> {
     fn tries(&self) -> Tries {
         let mut tries = ArrayVec::new();
         for candidate in self.master.candidates().as_slice() {
-            let _is_room = tries.try_push(Candidate {
-                bidder: candidate.bidder,
-                node: candidate.node,
-            });
+            let _is_room = tries.try_push(node_of(candidate));
         }
         tries
     }

@@ -5,7 +5,7 @@ ghost use Rattle.ice_defs.specs.Conditions.{AreWeightsOf, AreFixingsOf};
 use crate::guide::Guide;
 use crate::marking::Marking;
 use crate::planner::Planner;
-use crate::points::{MOST_GOODS, Points};
+use crate::points::{MOST_PLANNED_GOODS, Points};
 use ice_best::Fixings;
 use ice_bound::Multipliers;
 use ice_master::Master;
@@ -17,7 +17,7 @@ use std::alloc::{AllocError, Global};
 /// A plan is made smaller in at most so many turns ..
 const TURNS: u8 = 4;
 
-/// .. and no more where one leaves out less than this part of the splits.
+/// .. and no more where one leaves out one in so many splits, or fewer.
 const GAIN: usize = 25;
 
 /// Where more is spent on a plan, trees of so many splits are made anew, and then those of so many.
@@ -50,8 +50,9 @@ impl Sought<'_> {
         branches.saturating_mul(SPLITS).saturating_add(SPARE)
     }
 
-    /// Whether the searches without each of so many bidders may follow the log of a plan of so many
-    /// splits: it follows none itself, and as many for half of them are left.
+    /// Whether enough searches may follow the log of a plan of so many splits: the plan follows
+    /// none itself, there are many bidders, without each of whom a search may follow, and the
+    /// branches that are left would do for half of these.
     fn may_be_followed(&self, bidders: usize, splits: usize) -> bool {
         let half = splits.saturating_mul(bidders / 2);
         self.log.is_none() && bidders >= MANY && half <= self.branches as usize
@@ -67,11 +68,11 @@ impl Sought<'_> {
 /// A plan of a search with what was found on the way.
 #[derive(Drop)]
 pub struct Outline {
-    /// The plan; none where it would have had too many splits.
+    /// The plan, which is empty where it would have had too many splits.
     pub plan: Plan,
-    /// What finds multipliers for the search.
+    /// What finds multipliers for the search. None where nothing was planned.
     pub guide: Option<Guide>,
-    /// An assignment that came up, or empty sets.
+    /// An assignment that came up, or empty sets. None where nothing was planned.
     pub finds: Option<Assignment>,
 }
 
@@ -88,7 +89,7 @@ impl Outline {
 
 /// Whether a market of so many goods is planned at all.
 pub fn is_planned(goods: u8) -> bool {
-    goods <= MOST_GOODS
+    goods <= MOST_PLANNED_GOODS
 }
 
 /// The numbers of multipliers.

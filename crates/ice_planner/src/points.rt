@@ -6,7 +6,7 @@ use std::alloc::{AllocError, Global};
 const MOST: usize = 262_144;
 
 /// Markets that are planned have at most so many goods.
-pub(crate) const MOST_GOODS: u8 = 12;
+pub(crate) const MOST_PLANNED_GOODS: u8 = 12;
 
 /// Multipliers that gave the bounds of sides, each kept by a number.
 #[derive(Drop)]
