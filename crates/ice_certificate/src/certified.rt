@@ -164,8 +164,9 @@ impl RowSums {
 
     /// Whether the rows pass the balance test of a certificate with the denominator `den`, from 1
     /// to 2^32: the wanted units sum to at most `den`, and what the rows are worth by weight above
-    /// the violation is `den` by the greatest price, in hundredths. Then no prices of so many
-    /// goods, at most 32, with this violation have a lower greatest price. Takes no memory.
+    /// the violation is `den` by the greatest price, in hundredths. Where these are the sums of
+    /// rows, no prices of so many goods, at most 32, with this violation have a lower greatest
+    /// price. Takes no memory.
     pub fn pass_balance(&self, goods: u8, prices: &Prices, violation: i128, den: u64) -> bool
         requires goods { goods ≤ 32 }
         requires den { 0 < den }

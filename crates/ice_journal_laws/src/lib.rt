@@ -1,5 +1,5 @@
 //! What journals say and the tests that they pass, and laws of these, which hold of every journal.
-//! It has no code but plain enums.
+//! It has no code but plain enums, and the rule that a set breaks which its tree refuses.
 #![tactic(auto)]
 
 ghost use Rattle.ice_journal_laws.specs.Progress.{RecordsLeadOn, ProgressFindsTheFirstFailure};

@@ -66,7 +66,7 @@ fn pivot_entry(pivot: &Frac, entering: usize, place: usize, entry: &Frac) -> Res
     if place == entering {
         return one().div(pivot);
     }
-    let _ = pivot.num();
+    let _num = pivot.num();
     if entry.num() == 0 {
         return Ok(*entry);
     }
@@ -89,7 +89,7 @@ fn other_entry(
     if place == entering {
         return factor.mul(new);
     }
-    let _ = entry.num();
+    let _num = entry.num();
     let new_num = new.num();
     if factor.num() == 0 {
         return Ok(*entry);

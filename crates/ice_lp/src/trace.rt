@@ -99,7 +99,7 @@ pub fn solve(alloc: Global, program: &Program, pivots: &mut u32) -> Result<LpAns
     ensures counted_wide { let made = pivots_made program.now in
         IfErr result (λ e. e ≡ LpEnd.Wide → pivots.new ≡ pivots.old + made) }
 {
-    let _ = program.costs();
+    let _costs = program.costs();
     let mut dictionary = first(alloc, program)?;
     let entering = run(alloc, &mut dictionary, pivots)?;
     Ok(read(alloc, program, &dictionary, entering)?)

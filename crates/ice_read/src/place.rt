@@ -74,6 +74,7 @@ impl Place {
     {
         self.under(Buffer::new().format(index))
     }
+
     /// The same place, told from an array of any length that has it at this index.
     pub fn at_any(self, index: u64) -> Place
         requires { length self ≤ 230 }

@@ -8,7 +8,8 @@ use ice_refute::Log;
 use ice_tree::Assignment;
 use std::alloc::{AllocError, Global};
 
-/// A search is planned that has not closed after so many branches, or whose log may be longer.
+/// A search is planned that has not closed after so many branches, or that follows a log of at
+/// least as many.
 pub(crate) const TRIED: u32 = 500;
 
 /// Whether a log may be long enough to plan by it at once.

@@ -72,6 +72,7 @@ impl Settings {
             branches,
         })
     }
+
     /// Whether a settlement with this number and regret is the last one: the regret is at most the
     /// one that closes, or its number is that of the rounds, so that none is left.
     pub fn closes(&self, settlement: u8, regret: i128) -> bool
