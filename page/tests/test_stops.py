@@ -95,6 +95,15 @@ class Stops(unittest.TestCase):
     def test_spent_regret(self):
         self.spent("two-settlements.regret", "regret")
 
+    def test_gap_is_in_tenths_of_a_per_cent_rounded_up(self):
+        places = Places(sample("two-settlements.regret"))
+        _, number = places.groups[0]
+        for value, bound, gap in ((200, 201, "0.5"), (300, 301, "0.4"), (100, 250, "150.0")):
+            page = page_of(places.spent(number, value, bound))
+            self.assertIn(f"is possible, a gap of {gap} %", page.root.all("p", "lead")[0].text)
+        page = page_of(places.spent(number, 0, 5))
+        self.assertNotIn("gap", page.root.all("p", "lead")[0].text)
+
     def test_regret_is_unknown_before_it_is_stated(self):
         places = Places(sample("two-settlements.session"))
         known = {}
