@@ -1,8 +1,5 @@
 -- The splits of a plan: each stands behind those at its sides.
 use Rattle.std.specs.Prelude.{ℕ, suc, ◌<◌, List, [], ◌∷◌, map}
-use Rattle.std.specs.List.{flat_map}
-use Rattle.ice_defs.specs.Steps as steps
-use Rattle.ice_defs.specs.Steps.{branch, leaf, dead}
 use Rattle.ice_relaxation.specs.declared.candidates.Candidate.{Candidate}
 use Rattle.ice_plan.specs.declared.plan.Side.{Side}
 use Rattle.ice_plan.specs.declared.plan.Side.TheVariants.{Leaf, At}
@@ -28,13 +25,3 @@ node_of s = s.node
 
 abbrev pub nodes_of : List Split → List Candidate
 nodes_of splits = map node_of splits
-
--- the node of a branch step, and no other step has one
-abbrev pub branch_of : steps.Step → List Candidate
-branch_of (branch b n) = record { bidder = b; node = n } ∷ []
-branch_of (leaf m) = []
-branch_of (dead b) = []
-
--- the nodes that a log branches at, in order
-abbrev pub branches_of : List steps.Step → List Candidate
-branches_of log = flat_map branch_of log

@@ -1,11 +1,10 @@
 //! Plans of a search: finished trees of splits, made on a relaxation alone, of which nothing is
-//! proved but their form, how many splits they have at most, and that a log's has the log's nodes.
-//! A search that follows one spends no branch on finding it.
+//! proved but their form, and how many splits they have at most. A search that follows one spends
+//! no branch on finding it.
 #![tactic(auto)]
 
 mod below;
 mod counting;
-mod from_log;
 mod idle;
 mod making;
 mod node_set;

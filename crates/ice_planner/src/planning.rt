@@ -2,6 +2,7 @@
 ghost use Rattle.std.specs.Prelude.{◌≤◌, length};
 ghost use Rattle.ice_defs.specs.Conditions.{AreWeightsOf, AreFixingsOf};
 
+use crate::from_log::plan_of_log;
 use crate::guide::Guide;
 use crate::marking::Marking;
 use crate::planner::Planner;
@@ -118,7 +119,7 @@ fn seed_of(alloc: Global, points: &mut Points, log: Option<&Log>) -> Result<Plan
     match log {
         Some(log) => {
             keep_leaves(points, log)?;
-            Plan::from_log(alloc, log)
+            plan_of_log(alloc, log)
         }
         None => Ok(Plan::new(alloc)),
     }

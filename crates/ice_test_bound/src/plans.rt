@@ -4,6 +4,7 @@
 use ice_best::Mark;
 use ice_bound::Multipliers;
 use ice_plan::{Bounds, Marks, Plan, Seen, Side, Sides, Split, Tries, drop_idle, make, pull};
+use ice_planner::plan_of_log;
 use ice_refute::{Log, Step};
 use ice_relaxation::Candidate;
 use std::alloc::{AllocError, Global};
@@ -133,7 +134,7 @@ fn planned(alloc: Global, must: bool, never: bool) -> Result<Plan, AllocError> {
         }
         log.push(leaf())?;
     }
-    Plan::from_log(alloc, &log)
+    plan_of_log(alloc, &log)
 }
 
 /// The split of a plan at a place from the last one, which splits the whole.

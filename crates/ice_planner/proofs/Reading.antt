@@ -7,7 +7,8 @@ use Rattle.ice_defs.specs.Steps.{branch, leaf, dead}
 use Rattle.ice_refute.specs.declared.step.Step.{Step}
 use Rattle.ice_refute.specs.Code.{step_of, steps_of}
 use Rattle.ice_plan.specs.declared.plan.Split.{Split}
-use Rattle.ice_plan.specs.Arena.{branch_of, branches_of, nodes_of}
+use Rattle.ice_plan.specs.Arena.{nodes_of}
+use Rattle.ice_planner.specs.Branches.{branch_of, branches_of}
 
 -- the steps from one on
 steps_from : (items : List Step) (i : ℕ) (x : Step) → i < length items → x ≡ get_or items i x

@@ -1,6 +1,6 @@
 use Rattle.std.proofs.Common.{arith, ◌≡◌, ◌-◌, suc}
-use Rattle.ice_plan.proofs.Reading.{one_read, all_read}
-use Rattle.ice_plan.proofs.plan.Plan.from_log.Goals as goal
+use Rattle.ice_planner.proofs.Reading.{one_read, all_read}
+use Rattle.ice_planner.proofs.from_log.plan_of_log.Goals as goal
 
 pub loop-number-preserved : goal.loop-number-preserved
 loop-number-preserved c =

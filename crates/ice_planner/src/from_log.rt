@@ -1,12 +1,18 @@
 //! The plan that a log is.
 ghost use Rattle.std.specs.Prelude.{◌≡◌, ◌++◌, reverse, IfOk, OnOk};
 ghost use Rattle.ice_refute.specs.Code.{step_of};
-ghost use Rattle.ice_plan.specs.Arena.{branch_of, branches_of, nodes_of};
+ghost use Rattle.ice_plan.specs.Arena.{nodes_of};
+ghost use Rattle.ice_planner.specs.Branches.{branch_of, branches_of};
 
-use crate::plan::{Plan, Side, Split, pop_side};
+use ice_plan::{Plan, Side, Split};
 use ice_refute::{Log, Step};
 use ice_relaxation::Candidate;
 use std::alloc::{AllocError, Global};
+
+/// Takes the side that was put last; a leaf where there is none.
+fn pop_side(sides: &mut Vec<Side>) -> Side {
+    sides.pop().unwrap_or(Side::Leaf(0))
+}
 
 /// Takes a step of a log, of which those behind it are taken: a branch splits a side into the two
 /// that were put last, and any other step closes one.
@@ -42,20 +48,18 @@ fn take_step(
     }
 }
 
-impl Plan {
-    /// The plan that a log follows: a split for each of its branches, the last branch first. Its
-    /// leaves have the numbers of the log's steps. Where the log doesn't close all sides, some side
-    /// counts as a leaf.
-    #[tactic(auto, using(crate::proofs::Reading::none_read))]
-    pub fn from_log(alloc: Global, log: &Log) -> Result<Plan, AllocError>
-        ensures { IfOk result (λ plan. nodes_of plan ≡ reverse (branches_of log.now)) }
-    {
-        let mut plan = Plan::new(alloc);
-        let mut sides = Vec::new(alloc);
-        let steps = log.steps();
-        for number in (0..steps.len()).rev() {
-            take_step(&mut plan, &mut sides, &steps[number], number)?;
-        }
-        Ok(plan)
+/// The plan that a log follows: a split for each of its branches, the last branch first. Its leaves
+/// have the numbers of the log's steps. Where the log doesn't close all sides, some side counts as
+/// a leaf.
+#[tactic(auto, using(crate::proofs::Reading::none_read))]
+pub fn plan_of_log(alloc: Global, log: &Log) -> Result<Plan, AllocError>
+    ensures { IfOk result (λ plan. nodes_of plan ≡ reverse (branches_of log.now)) }
+{
+    let mut plan = Plan::new(alloc);
+    let mut sides = Vec::new(alloc);
+    let steps = log.steps();
+    for number in (0..steps.len()).rev() {
+        take_step(&mut plan, &mut sides, &steps[number], number)?;
     }
+    Ok(plan)
 }
