@@ -16,9 +16,9 @@ from .view import View
 
 WRITTEN, BAD_WORDS, NO_JOURNAL, UNREAD, UNWRITTEN = 0, 1, 2, 6, 7
 STATUSES = (
-    "status: 0 the page is written, 1 the words are wrong, 2 the file is no journal, or has no "
-    "fair prices of it (standard error names the line), 6 a file could not be read, 7 the page "
-    "could not be written"
+    "status: 0 the page is written, 1 the words are wrong, 2 the file is no journal, has no such "
+    "bidder or round, or has no fair prices of it (standard error says what, and at which line "
+    "where it is one), 6 a file could not be read, 7 the page could not be written"
 )
 
 
