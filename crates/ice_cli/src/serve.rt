@@ -1,7 +1,7 @@
 //! The top call: it answers the words of the program.
 ghost use Rattle.std.specs.Prelude.{ℕ, List, map, string_bytes};
 ghost use Rattle.ice_edge.specs.Edge.{Appends};
-ghost use Rattle.ice_commands.specs.Output.{words_line};
+ghost use Rattle.ice_commands.specs.Lines.{words_line};
 ghost use Rattle.ice_commands.specs.Keeping.{KeepsTold};
 ghost use Rattle.ice_commands.specs.Parts.{IsSaid};
 ghost use Rattle.ice_cli.specs.Served.{IsServed};

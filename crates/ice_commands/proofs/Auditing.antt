@@ -14,7 +14,7 @@ use Rattle.ice_commands.specs.declared.refusal.Refusal.TheVariants.{File, Unread
 use Rattle.ice_commands.specs.AuditParts.{IsAuditEnd, IsAnswerTo, answer_text, answer_status}
 use Rattle.ice_commands.specs.AuditServed.{IsAuditFault, AuditAnswers}
 use Rattle.ice_commands.specs.Call.{journal_limit}
-use Rattle.ice_commands.specs.Output.{refused_line, unread_line}
+use Rattle.ice_commands.specs.Lines.{refused_line, unread_line}
 use Rattle.ice_commands.specs.Parts.{AreFetched, Answers}
 use Rattle.ice_commands.specs.Refusals.{fault_of, refusal_text, refusal_status, Refuses}
 use Rattle.ice_commands.proofs.Parts.{told_in_call}

@@ -7,10 +7,10 @@ use Rattle.ice_commands.specs.declared.refusal.Refusal.{Refusal}
 use Rattle.ice_commands.specs.declared.refusal.Refusal.TheVariants.{File, Unread, NoMemory}
 use Rattle.ice_commands.specs.declared.best_set.BestSet.{BestSet}
 use Rattle.ice_commands.specs.Call.{Call}
-use Rattle.ice_commands.specs.Output.{refused_line, unread_line}
+use Rattle.ice_commands.specs.Lines.{refused_line, unread_line}
 use Rattle.ice_commands.specs.Parts.{Answers}
-use Rattle.ice_commands.specs.Refusals.{fault_of, refusal_text, refusal_status}
-use Rattle.ice_commands.specs.BestServed.{AreBestLines, BestAnswers, exchange_refused, prices_refused, exchange_unread, other_unread}
+use Rattle.ice_commands.specs.Refusals.{fault_of, refusal_text, refusal_status, exchange_unread, other_unread}
+use Rattle.ice_commands.specs.BestServed.{AreBestLines, BestAnswers, exchange_refused, prices_refused}
 use Rattle.ice_commands.specs.Bests.{best_text}
 use Rattle.ice_commands.specs.BestFound.{AreBestOf, IsBestRefusal, BestRefuses, at_exchange, at_prices}
 use Rattle.ice_commands.proofs.Parts.{told_in_call}

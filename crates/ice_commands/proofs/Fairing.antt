@@ -16,7 +16,8 @@ use Rattle.ice_commands.specs.declared.unwritten.Unwritten.TheVariants.{Fails, R
 use Rattle.ice_commands.specs.Call.{Call, journal_limit}
 use Rattle.ice_commands.specs.FairParts.{TellsEnd, AreFailing, HasItsTrees, IsAnswerTo, IsFairSaid}
 use Rattle.ice_commands.specs.FairServed.{IsLastEnd, IsFairFault, HasLast, SaysFair, SaysLimit, FairAnswers}
-use Rattle.ice_commands.specs.Output.{no_line, refused_line, unread_line}
+use Rattle.ice_commands.specs.Lines.{refused_line, unread_line}
+use Rattle.ice_commands.specs.Output.{no_line}
 use Rattle.ice_commands.specs.Parts.{AreFetched, Answers, Serves}
 use Rattle.ice_commands.specs.Refusals.{fault_of, refusal_text, refusal_status, Refuses}
 use Rattle.ice_commands.specs.Unwritten.{unwritten_text, unwritten_status, IsUnwrittenOf, IsUnwritten}

@@ -19,7 +19,8 @@ use Rattle.ice_commands.specs.declared.refusal.Refusal.TheVariants.{File, Unread
 use Rattle.ice_commands.specs.Call.{journal_limit}
 use Rattle.ice_commands.specs.MigrateServed.{IsUnfitFault, IsMigrateFault, MigrateAnswers}
 use Rattle.ice_commands.specs.MigrateParts.{TellsUnfit, AreFailing}
-use Rattle.ice_commands.specs.Output.{no_line, refused_line, unread_line}
+use Rattle.ice_commands.specs.Lines.{refused_line, unread_line}
+use Rattle.ice_commands.specs.Output.{no_line}
 use Rattle.ice_commands.specs.Parts.{AreFetched, Answers, Serves}
 use Rattle.ice_commands.specs.Refusals.{fault_of, refusal_text, refusal_status, Refuses}
 use Rattle.ice_commands.specs.Unwritten.{unwritten_text, unwritten_status, IsUnwrittenOf, IsUnwritten}

@@ -32,6 +32,12 @@ pub told_before : (before after : Told) (name : List ℕ) (limit : ℕ) (P : Lis
     → OfTold limit P (after.holds name) → OfTold limit P (before.holds name)
 told_before before after name limit P later h = subst (OfTold limit P) (later.holds name) h
 
+-- what follows from what holds of the bytes that are told holds of them too
+pub told_also : (told : Option (Option (List ℕ))) (limit : ℕ) (P Q : List ℕ → Type 0) → ((bytes : List ℕ) → P bytes → Q bytes) → OfTold limit P told → OfTold limit Q told
+told_also None limit P Q also h = tt
+told_also (Some None) limit P Q also h = h
+told_also (Some (Some bytes)) limit P Q also h = (h.0, also bytes h.1)
+
 -- what holds of bytes holds of what is told of them
 pub of_fetched : (told : Option (Option (List ℕ))) (limit : ℕ) (bytes : List ℕ) (P : List ℕ → Type 0) → P bytes → OfTold limit (λ other. other ≡ bytes) told → OfTold limit P told
 of_fetched None limit bytes P h same = tt

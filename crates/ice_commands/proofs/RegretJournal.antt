@@ -1,5 +1,5 @@
 -- The journal that `regret` writes is one of which its contract speaks.
-use Rattle.std.proofs.Common.{◌≡◌, ℕ, List, [], ◌∷◌, ◌++◌, length, ℤ, pos, ◌-ℤ◌, ◌≤ℤ◌, refl, sym, ◌∙◌, ap, subst, arith, append_assoc, Some, None, Option, Ok}
+use Rattle.std.proofs.Common.{◌≡◌, ℕ, List, [], ◌∷◌, ◌++◌, length, ℤ, pos, ◌-ℤ◌, ◌≤ℤ◌, refl, sym, ◌∙◌, ap, subst, arith, append_assoc, Some, Option, Ok}
 use Rattle.std.specs.Prelude.{IsSome}
 use Rattle.std.specs.List.{AllByRecursion}
 use Rattle.std.proofs.lemmas.Int.{ints}
@@ -66,18 +66,12 @@ use Rattle.ice_session_laws.proofs.Worth.{IsWorth, worth_is, worth_is_total}
 use Rattle.ice_branch_laws.specs.Branches.{enough_for_regret}
 use Rattle.ice_branch_laws.specs.Laws.{FinalIsSpent, RivalIsSpent}
 use Rattle.ice_branch_laws.proofs.Regrets.{spent_regret_has_few}
-use Rattle.ice_commands.specs.Call.{Call, file_limit, OfTold, OfFile}
+use Rattle.ice_commands.specs.Call.{Call, file_limit, OfFile}
 use Rattle.ice_commands.specs.Files.{IsExchangeOf}
 use Rattle.ice_commands.specs.Journals.{HasExchangeOf, HasFewerThan}
 use Rattle.ice_commands.specs.RegretServed.{IsRegretText, of_journal, RegretAnswers}
 use Rattle.ice_commands.specs.RegretJournal.{begun_records, ending_records, IsFinal, IsRegretJournal, begins, final_spent, has_final, rival_spent, is_whole}
-
--- ---- the exchange of a file
-
-pub told_also : (told : Option (Option (List ℕ))) (limit : ℕ) (P Q : List ℕ → Type 0) → ((bytes : List ℕ) → P bytes → Q bytes) → OfTold limit P told → OfTold limit Q told
-told_also None limit P Q also h = tt
-told_also (Some None) limit P Q also h = h
-told_also (Some (Some bytes)) limit P Q also h = (h.0, also bytes h.1)
+use Rattle.ice_commands.proofs.Parts.{told_also}
 
 -- ---- lists
 

@@ -10,7 +10,7 @@ use Rattle.ice_commands.specs.declared.refusal.Refusal.{Refusal}
 use Rattle.ice_commands.specs.declared.refusal.Refusal.TheVariants.{File, Unread, NoMemory}
 use Rattle.ice_commands.specs.Call.{file_limit}
 use Rattle.ice_commands.specs.Files.{IsExchangeOf, IsExchangeFault, HoldsExchange}
-use Rattle.ice_commands.specs.Output.{refused_line, unread_line}
+use Rattle.ice_commands.specs.Lines.{refused_line, unread_line}
 use Rattle.ice_commands.specs.Parts.{Answers, Serves}
 use Rattle.ice_commands.specs.Refusals.{fault_of, refusal_text, refusal_status, Refuses}
 use Rattle.ice_commands.specs.Journals.{WritesBehind}

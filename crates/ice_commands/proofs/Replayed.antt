@@ -10,7 +10,7 @@ use Rattle.ice_commands.specs.declared.refusal.Refusal.TheVariants.{File, Unread
 use Rattle.ice_commands.specs.declared.replay.ReplayAnswer.{ReplayAnswer}
 use Rattle.ice_commands.specs.declared.replay.ReplayAnswer.TheVariants.{Settlement, FailedTest}
 use Rattle.ice_commands.specs.Call.{journal_limit}
-use Rattle.ice_commands.specs.Output.{refused_line, unread_line}
+use Rattle.ice_commands.specs.Lines.{refused_line, unread_line}
 use Rattle.ice_commands.specs.Parts.{AreFetched, Answers}
 use Rattle.ice_commands.specs.Refusals.{fault_of, refusal_text, refusal_status, IsFaultOf, Refuses}
 use Rattle.ice_commands.specs.ReplayServed.{IsReplayEnd, IsReplayFault, ReplayAnswers}

@@ -8,7 +8,7 @@ use Rattle.ice_xor.specs.Translating.{translate_refusal}
 use Rattle.ice_commands.specs.declared.refusal.Refusal as declared
 use Rattle.ice_commands.specs.declared.refusal.Refusal.TheVariants.{File, Unread, NoMemory}
 use Rattle.ice_commands.specs.Call.{file_limit}
-use Rattle.ice_commands.specs.Output.{refused_line, unread_line}
+use Rattle.ice_commands.specs.Lines.{refused_line, unread_line}
 use Rattle.ice_commands.specs.Parts.{AreFetched, Answers}
 use Rattle.ice_commands.specs.Refusals.{fault_of, refusal_text, refusal_status, IsFaultOf, Refuses}
 use Rattle.ice_commands.specs.XorServed.{IsFlatFault, IsTranslationOf, XorAnswers}

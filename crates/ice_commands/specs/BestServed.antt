@@ -10,9 +10,11 @@ use Rattle.ice_defs.specs.Pricing.{weighted_net}
 use Rattle.ice_defs.specs.Exchange.{Exchange, trees_of, exact_of, names_of, opening_bounds}
 use Rattle.ice_defs.specs.FileFault.{FileFault}
 use Rattle.ice_section.specs.LineFile.{IsPricesOfLines}
-use Rattle.ice_commands.specs.Call.{Call, FaultRose, file_limit, OfFile, IsRefused}
+use Rattle.ice_commands.specs.Call.{Call, file_limit, OfFile, IsRefused}
 use Rattle.ice_commands.specs.Files.{IsExchangeOf, IsExchangeFault, IsPricesFault}
-use Rattle.ice_commands.specs.Output.{refused_line, unread_line, best_lines, best_end}
+use Rattle.ice_commands.specs.Lines.{refused_line}
+use Rattle.ice_commands.specs.Refusals.{IsOneUnread}
+use Rattle.ice_commands.specs.Output.{best_lines, best_end}
 
 -- a bidder's net of a set at weighted values, times the prices' denominator
 abbrev pub net_of : Exchange → Prices → ℕ → NodeSet → ℤ
@@ -37,13 +39,6 @@ pub data BestRefused (call : Call) (exchange prices : List ℕ) : Type 0 where
   prices_refused : (fault : FileFault) (ex : Exchange) → OfFile call exchange file_limit (λ bytes. IsExchangeOf bytes (Ok ex))
       → IsRefused call prices file_limit (IsPricesFault (length (exact_of ex))) fault → call.text ≡ refused_line 2 fault
       → BestRefused call exchange prices
-
--- one of two files can't be read, and the count of that rose;
--- the second is fetched where the first is an exchange
-pub data IsOneUnread (call : Call) (exchange other : List ℕ) : Type 0 where
-  exchange_unread : FaultRose call exchange → call.text ≡ unread_line 1 → IsOneUnread call exchange other
-  other_unread : (ex : Exchange) → OfFile call exchange file_limit (λ bytes. IsExchangeOf bytes (Ok ex)) → FaultRose call other
-      → call.text ≡ unread_line 2 → IsOneUnread call exchange other
 
 abbrev pub BestAnswers : Call → List ℕ → List ℕ → Status → Type 0
 BestAnswers call exchange prices Done =

@@ -1,5 +1,5 @@
 -- What `check` writes at each status: what the checker says of the bytes.
-use Rattle.std.specs.Prelude.{ℕ, ◌≡◌, List, [], codes, Ok, Err}
+use Rattle.std.specs.Prelude.{ℕ, ◌≡◌, List, [], Ok, Err}
 use Rattle.ice_edge.specs.declared.status.Status.{Status}
 use Rattle.ice_edge.specs.declared.status.Status.TheVariants.{Done, Input, No, ReadFault, NoMemory}
 use Rattle.ice_defs.specs.FileFault.{FileFault, at_line}
@@ -10,10 +10,9 @@ use Rattle.ice_journal_laws.specs.declared.answer.CheckEnd.TheVariants as ending
 use Rattle.ice_journal_laws.specs.Theorems.{of_assigned, of_regret, of_session}
 use Rattle.ice_journal_laws.specs.Answers.{AnswersBytes}
 use Rattle.ice_commands.specs.Call.{Call, FaultRose, journal_limit, OfFile, IsRefused}
-use Rattle.ice_commands.specs.Output.{yes_line, no_line, refused_line, unread_line}
-
-abbrev pub other_kind : FileFault
-other_kind = record { number = 53; place = codes "-" }
+use Rattle.ice_commands.specs.Refusals.{other_kind}
+use Rattle.ice_commands.specs.Lines.{refused_line, unread_line}
+use Rattle.ice_commands.specs.Output.{yes_line, no_line}
 
 -- the fault of bytes that have no answer; want of memory is no fault of theirs
 abbrev pub IsEndFault : CheckEnd → FileFault → Type 0

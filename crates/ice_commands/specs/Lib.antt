@@ -1,6 +1,7 @@
 pub mod Call
 pub mod Parts
 pub mod Keeping
+pub mod Lines
 pub mod Output
 pub mod CheckServed
 pub mod ReplayServed

@@ -1,19 +1,14 @@
 -- Lines of output that are no records.
 use Rattle.std.specs.Prelude.{ℕ, List, [], ◌∷◌, ◌++◌, codes, decimal, ℤ}
 use Rattle.std.specs.Fmt.{signed_decimal}
-use Rattle.std.specs.List.{join_with_byte}
 use Rattle.ice_defs.specs.Set.{NodeSet}
-use Rattle.ice_defs.specs.FileFault.{FileFault}
 use Rattle.ice_journal.specs.Records as line
 use Rattle.ice_journal.specs.Spelling.{line_of, fraction_text}
 use Rattle.ice_journal_laws.specs.declared.rule.Rule.{Rule}
 use Rattle.ice_journal_laws.specs.declared.rule.Rule.TheVariants as rule
 use Rattle.ice_journal_laws.specs.Checks.{Failure}
 use Rattle.ice_journal_laws.specs.Theorems.{Yes, of_assigned, of_regret, of_session}
-
--- fields with a space between each two, and a newline
-abbrev pub line_text : List (List ℕ) → List ℕ
-line_text fields = join_with_byte 32 fields ++ 10 ∷ []
+use Rattle.ice_commands.specs.Lines.{line_text}
 
 abbrev pub rule_word : Rule → List ℕ
 rule_word rule.Closed = codes "closed"
@@ -48,16 +43,6 @@ yes_line (of_session amount surplus) = line_text (codes "yes" ∷ signed_decimal
 
 abbrev pub no_line : Failure → List ℕ
 no_line failure = line_text (codes "no" ∷ decimal failure.line ∷ rule_word failure.rule ∷ [])
-
-abbrev pub words_line : List ℕ
-words_line = codes "words refused" ++ 10 ∷ []
-
--- a fault of the file with this number
-abbrev pub refused_line : ℕ → FileFault → List ℕ
-refused_line file fault = line_of (line.refused file fault.number fault.place)
-
-abbrev pub unread_line : ℕ → List ℕ
-unread_line file = line_of (line.unread file)
 
 -- the net of a bidder's best set, and the set
 abbrev pub best_lines : List ℕ → ℤ → NodeSet → List ℕ

@@ -1,20 +1,29 @@
 -- Why a command has no answer: the line that is written, the status, and the cause.
-use Rattle.std.specs.Prelude.{◌≡◌, ℕ, List, [], codes}
+use Rattle.std.specs.Prelude.{◌≡◌, ℕ, List, [], codes, Ok}
 use Rattle.ice_edge.specs.declared.status.Status.{Status}
 use Rattle.ice_edge.specs.declared.status.Status.TheVariants as status
 use Rattle.ice_edge.specs.Told.{Told}
+use Rattle.ice_defs.specs.Exchange.{Exchange}
 use Rattle.ice_defs.specs.FileFault.{FileFault, at_line}
 use Rattle.ice_read.specs.Places.{shown}
 use Rattle.ice_commands.specs.declared.refusal.FileFault as declared
 use Rattle.ice_commands.specs.declared.refusal.FileFault.TheVariants.{AtLine, AtPlace, OtherKind, NoSettlement, NoBidder, TooLong}
 use Rattle.ice_commands.specs.declared.refusal.Refusal.{Refusal}
 use Rattle.ice_commands.specs.declared.refusal.Refusal.TheVariants.{File, Unread, NoMemory}
-use Rattle.ice_commands.specs.Call.{Call, FaultRose, IsRefused}
-use Rattle.ice_commands.specs.CheckServed.{other_kind}
-use Rattle.ice_commands.specs.ReplayServed.{no_settlement}
-use Rattle.ice_commands.specs.StatementServed.{no_bidder}
-use Rattle.ice_commands.specs.Output.{refused_line, unread_line}
+use Rattle.ice_commands.specs.Call.{Call, FaultRose, file_limit, OfFile, IsRefused}
+use Rattle.ice_commands.specs.Files.{IsExchangeOf}
+use Rattle.ice_commands.specs.Lines.{refused_line, unread_line}
 use Rattle.ice_commands.specs.Parts.{HasPart}
+
+-- faults of a file as a whole
+abbrev pub other_kind : FileFault
+other_kind = record { number = 53; place = codes "-" }
+
+abbrev pub no_settlement : FileFault
+no_settlement = record { number = 52; place = codes "-" }
+
+abbrev pub no_bidder : FileFault
+no_bidder = record { number = 94; place = codes "-" }
 
 -- the number and the place of a file's fault
 abbrev pub fault_of : declared.FileFault → FileFault
@@ -56,3 +65,10 @@ abbrev pub IsFaultOf : ℕ → (FileFault → Type 0) → Refusal → Type 0
 IsFaultOf number IsFault (File file fault) = (file ≡ number) × IsFault (fault_of fault)
 IsFaultOf number IsFault (Unread file) = ⊥
 IsFaultOf number IsFault NoMemory = Unit {0}
+
+-- one of two files can't be read, and the count of that rose;
+-- the second is fetched where the first is an exchange
+pub data IsOneUnread (call : Call) (exchange other : List ℕ) : Type 0 where
+  exchange_unread : FaultRose call exchange → call.text ≡ unread_line 1 → IsOneUnread call exchange other
+  other_unread : (ex : Exchange) → OfFile call exchange file_limit (λ bytes. IsExchangeOf bytes (Ok ex)) → FaultRose call other
+      → call.text ≡ unread_line 2 → IsOneUnread call exchange other

@@ -15,7 +15,7 @@ use Rattle.ice_journal_laws.specs.SoFar.{IsUnstopped, IsSoFar}
 use Rattle.ice_branch_laws.specs.Branches.{enough_for_regret}
 use Rattle.ice_commands.specs.Call.{Call, FaultRose, file_limit, OfFile, IsRefused}
 use Rattle.ice_commands.specs.Files.{IsExchangeOf, IsExchangeFault}
-use Rattle.ice_commands.specs.Output.{refused_line, unread_line}
+use Rattle.ice_commands.specs.Lines.{refused_line, unread_line}
 use Rattle.ice_commands.specs.Journals.{HasExchangeOf, HasFewerThan}
 
 -- a journal of kind regret as far as it is written, with the exchange of the file

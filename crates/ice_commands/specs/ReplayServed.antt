@@ -1,5 +1,5 @@
 -- What `replay` writes at each status: what the session says of the settlement.
-use Rattle.std.specs.Prelude.{ℕ, ◌≡◌, List, [], codes, Result, Ok, Err}
+use Rattle.std.specs.Prelude.{ℕ, ◌≡◌, List, [], Result, Ok, Err}
 use Rattle.ice_edge.specs.declared.status.Status.{Status}
 use Rattle.ice_edge.specs.declared.status.Status.TheVariants.{Done, Input, No, ReadFault, NoMemory}
 use Rattle.ice_defs.specs.FileFault.{FileFault, at_line}
@@ -10,11 +10,9 @@ use Rattle.ice_replay.specs.declared.settlement.ReplayEnd.TheVariants as ending
 use Rattle.ice_replay.specs.Replays.{ReplaysBytes}
 use Rattle.ice_replay.specs.Lines.{replay_lines}
 use Rattle.ice_commands.specs.Call.{Call, FaultRose, journal_limit, OfFile, IsRefused}
-use Rattle.ice_commands.specs.CheckServed.{other_kind}
-use Rattle.ice_commands.specs.Output.{no_line, refused_line, unread_line}
-
-abbrev pub no_settlement : FileFault
-no_settlement = record { number = 52; place = codes "-" }
+use Rattle.ice_commands.specs.Refusals.{other_kind, no_settlement}
+use Rattle.ice_commands.specs.Lines.{refused_line, unread_line}
+use Rattle.ice_commands.specs.Output.{no_line}
 
 -- the fault of bytes that are not replayed; a failed test and want of memory are no fault of theirs
 abbrev pub IsReplayEnd : ReplayEnd → FileFault → Type 0

@@ -1,6 +1,6 @@
 -- What `statement` writes at each status: what the
 -- journal says to the named bidder, or why nothing.
-use Rattle.std.specs.Prelude.{ℕ, ◌≡◌, List, [], codes, Err}
+use Rattle.std.specs.Prelude.{ℕ, ◌≡◌, List, [], Err}
 use Rattle.ice_edge.specs.declared.status.Status.{Status}
 use Rattle.ice_edge.specs.declared.status.Status.TheVariants.{Done, Input, No, ReadFault, NoMemory}
 use Rattle.ice_defs.specs.FileFault.{FileFault, at_line}
@@ -11,12 +11,10 @@ use Rattle.ice_statement.specs.Judging.{IsFailing, MayState}
 use Rattle.ice_statement_laws.specs.Statement.{Own}
 use Rattle.ice_statement_laws.specs.Texts.{States}
 use Rattle.ice_commands.specs.Call.{Call, FaultRose, journal_limit, OfFile, IsRefused}
-use Rattle.ice_commands.specs.CheckServed.{other_kind}
+use Rattle.ice_commands.specs.Refusals.{other_kind, no_bidder}
 use Rattle.ice_commands.specs.MigrateServed.{HasJournal}
-use Rattle.ice_commands.specs.Output.{no_line, refused_line, unread_line}
-
-abbrev pub no_bidder : FileFault
-no_bidder = record { number = 94; place = codes "-" }
+use Rattle.ice_commands.specs.Lines.{refused_line, unread_line}
+use Rattle.ice_commands.specs.Output.{no_line}
 
 -- the fault of bytes that state nothing; a failed test and want of memory are no fault of theirs
 abbrev pub IsStatementEnd : StatementEnd → FileFault → Type 0

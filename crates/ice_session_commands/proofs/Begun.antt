@@ -6,7 +6,7 @@ use Rattle.ice_session_laws.specs.Written.{begun_records}
 use Rattle.ice_commands.specs.Call.{Call, file_limit, OfFile}
 use Rattle.ice_commands.specs.Files.{IsExchangeOf}
 use Rattle.ice_commands.specs.Journals.{HasExchangeOf}
-use Rattle.ice_commands.proofs.RegretJournal.{told_also}
+use Rattle.ice_commands.proofs.Parts.{told_also}
 
 -- and more is written behind it
 pub has_exchange : (call : Call) (name : List ℕ) (ex : Exchange) (journal rest : List Record) → OfFile call name file_limit (λ bytes. IsExchangeOf bytes (Ok ex)) → journal ≡ begun_records ex ++ rest → HasExchangeOf call name session_kind journal

@@ -42,17 +42,16 @@ use Rattle.ice_commands.specs.declared.refusal.Refusal.TheVariants as refusal
 use Rattle.ice_commands.specs.Call.{Call, FaultRose, file_limit, OfFile, IsRefused}
 use Rattle.ice_commands.specs.Files.{IsExchangeOf, IsExchangeFault, HoldsExchange, IsRoundFault}
 use Rattle.ice_commands.specs.Journals.{WritesBehind}
-use Rattle.ice_commands.specs.Output.{refused_line, unread_line}
+use Rattle.ice_commands.specs.Lines.{refused_line, unread_line}
 use Rattle.ice_commands.specs.Parts.{Answers, Serves}
 use Rattle.ice_commands.specs.Refusals.{fault_of, refusal_text, refusal_status, Refuses}
-use Rattle.ice_commands.proofs.Parts.{told_in_call}
+use Rattle.ice_commands.proofs.Parts.{told_in_call, told_also}
 use Rattle.ice_session_commands.specs.Rounds.{rounds_in, BeginsRound, HasRoundsOf, submissions_of, AreRoundsOf, IsRunSoFar}
 use Rattle.ice_session_commands.specs.RunServed.{IsRunText, nothing, of_journal, RunAnswers}
 use Rattle.ice_session_commands.specs.RunServed as served
 use Rattle.ice_session_commands.specs.SessionEnds.{EndsSettling, without_memory, opens, closes, spends, limits}
 use Rattle.ice_session_commands.specs.RunJournal.{HasRun, HasOpened, IsRunJournal, RunsTo, settles, in_round, stays_open, refuses, fails_to_read}
 use Rattle.ice_session_commands.proofs.Begun.{has_exchange}
-use Rattle.ice_commands.proofs.RegretJournal.{told_also}
 use Rattle.ice_session_commands.proofs.RoundFaults.{round_fault_is_record}
 use Rattle.ice_session_commands.proofs.RunRounds.{IsOther, SettlesOnce, settles_more, position_settles, closed_settles, spent_other, limit_other, offered_other, once_behind, none_behind, round_behind, begins_none, whole_rounds, last_round, rounds_count}
 

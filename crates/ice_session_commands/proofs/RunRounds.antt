@@ -36,7 +36,7 @@ use Rattle.ice_write_session.specs.Records.{member_record, spent_records, limit_
 use Rattle.ice_session_laws.specs.Written.{begun_records, run_records, round_records}
 use Rattle.ice_commands.specs.Call.{Call, file_limit, IsPrefix}
 use Rattle.ice_session_commands.specs.Rounds.{submissions_before_next, rounds_in, OfBids, BeginsRound, HasRoundsOf, submissions_of, AreRoundsOf}
-use Rattle.ice_commands.proofs.RegretJournal.{told_also}
+use Rattle.ice_commands.proofs.Parts.{told_also}
 
 -- ---- records that neither settle nor submit
 

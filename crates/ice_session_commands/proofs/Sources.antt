@@ -30,8 +30,7 @@ use Rattle.ice_commands.specs.Files.{IsRoundFault, HoldsBids}
 use Rattle.ice_commands.specs.Journals.{WritesBehind}
 use Rattle.ice_commands.specs.Parts.{HasPart, IsSaid}
 use Rattle.ice_commands.specs.Refusals.{fault_of, refusal_text, refusal_status, Refuses}
-use Rattle.ice_commands.proofs.Parts.{later_part, told_in_call}
-use Rattle.ice_commands.proofs.RegretJournal.{told_also}
+use Rattle.ice_commands.proofs.Parts.{later_part, told_in_call, told_also}
 use Rattle.ice_commands.proofs.Writing.{nothing_more}
 use Rattle.ice_session_commands.specs.declared.source.Source.{Source}
 use Rattle.ice_session_commands.specs.declared.source.Source.TheVariants.{Files, Proxies}

@@ -19,7 +19,7 @@ use Rattle.ice_trial.specs.Truths.{truth_bids}
 use Rattle.ice_trial.specs.declared.summary.Summary.{Summary}
 use Rattle.ice_trial.specs.Summaries.{IsSummary}
 use Rattle.ice_commands.specs.Call.{IsPrefix}
-use Rattle.ice_commands.specs.Output.{line_text}
+use Rattle.ice_commands.specs.Lines.{line_text}
 use Rattle.ice_commands.specs.Parts.{IsSaid}
 use Rattle.ice_session_commands.specs.Rounds.{rounds_in}
 

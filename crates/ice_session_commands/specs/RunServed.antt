@@ -18,7 +18,7 @@ use Rattle.ice_session_laws.specs.Stops.{IsLimited, OpenSession, open_records, I
 use Rattle.ice_branch_laws.specs.Branches.{enough_for_session}
 use Rattle.ice_commands.specs.Call.{Call, FaultRose, file_limit, OfFile, IsRefused}
 use Rattle.ice_commands.specs.Files.{IsExchangeOf, IsExchangeFault, IsRoundFault}
-use Rattle.ice_commands.specs.Output.{refused_line, unread_line}
+use Rattle.ice_commands.specs.Lines.{refused_line, unread_line}
 use Rattle.ice_commands.specs.Journals.{HasFewerThan}
 use Rattle.ice_session_commands.specs.Rounds.{IsRunSoFar, AreRoundsOf, HasRounds, rounds_in}
 

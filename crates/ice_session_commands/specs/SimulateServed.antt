@@ -24,9 +24,9 @@ use Rattle.ice_proxy_laws.specs.Journals.{SubmitsProxies}
 use Rattle.ice_simulation.specs.TruthFile.{truth_lists}
 use Rattle.ice_commands.specs.Call.{Call, file_limit, OfFile, IsRefused}
 use Rattle.ice_commands.specs.Files.{IsExchangeOf, IsExchangeFault}
-use Rattle.ice_commands.specs.Output.{refused_line}
+use Rattle.ice_commands.specs.Lines.{refused_line}
 use Rattle.ice_commands.specs.Journals.{HasExchangeOf, HasFewerThan}
-use Rattle.ice_commands.specs.BestServed.{IsOneUnread}
+use Rattle.ice_commands.specs.Refusals.{IsOneUnread}
 use Rattle.ice_session_commands.specs.Rounds.{HasRounds}
 use Rattle.ice_session_commands.specs.TruthParts.{IsTruthFault, OfTruths}
 
