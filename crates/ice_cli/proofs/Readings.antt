@@ -5,9 +5,9 @@ use Rattle.ice_defs.specs.FileFault.{FileFault, Read}
 use Rattle.ice_journal.proofs.Journals.{one_answer}
 use Rattle.ice_section.specs.LineFile.{exchange_of_records, of_lines}
 use Rattle.ice_read.specs.RoundFile.{bids_of}
-use Rattle.ice_commands.specs.Call.{Call, IsTold, file_limit, OfTold, OfFile, IsRefused, too_long, at_fault}
-use Rattle.ice_commands.specs.Files.{is_line_form, IsExchangeIn, IsExchangeOf, IsExchangeFault, IsRoundFault}
-use Rattle.ice_commands.specs.Journals.{HasFewerThan}
+use Rattle.ice_command_parts.specs.Call.{Call, IsTold, file_limit, OfTold, OfFile, IsRefused, too_long, at_fault}
+use Rattle.ice_command_parts.specs.Files.{is_line_form, IsExchangeIn, IsExchangeOf, IsExchangeFault, IsRoundFault}
+use Rattle.ice_command_parts.specs.Journals.{HasFewerThan}
 use Rattle.ice_session_commands.specs.Rounds.{HasRounds}
 use Rattle.ice_cli.specs.Completeness.{IsFaultless, IsValidExchange, IsValidRound}
 

@@ -5,10 +5,10 @@ use Rattle.ice_edge.specs.Edge.{Rose, Appends}
 use Rattle.ice_edge.specs.Taken.{Taken}
 use Rattle.ice_edge.specs.declared.status.Status.{Status}
 use Rattle.ice_edge.specs.declared.status.Status.TheVariants.{Words}
-use Rattle.ice_commands.specs.Call.{Call, SinkFaultRose}
-use Rattle.ice_commands.specs.Lines.{words_line}
-use Rattle.ice_commands.specs.Parts.{HasPart, IsSaid, Serves}
-use Rattle.ice_commands.proofs.Parts.{later_refl}
+use Rattle.ice_command_parts.specs.Call.{Call, SinkFaultRose}
+use Rattle.ice_command_parts.specs.Lines.{words_line}
+use Rattle.ice_command_parts.specs.Parts.{HasPart, IsSaid, Serves}
+use Rattle.ice_command_parts.proofs.Parts.{later_refl}
 use Rattle.ice_cli.specs.Command.{Command, IsCommand, IsNoCommand}
 use Rattle.ice_cli.specs.Served.{CommandAnswers, IsServed, no_command, answers, cut_short}
 

@@ -1,16 +1,16 @@
 //! The top call: it answers the words of the program.
 ghost use Rattle.std.specs.Prelude.{ℕ, List, map, string_bytes};
 ghost use Rattle.ice_edge.specs.Edge.{Appends};
-ghost use Rattle.ice_commands.specs.Lines.{words_line};
-ghost use Rattle.ice_commands.specs.Keeping.{KeepsTold};
-ghost use Rattle.ice_commands.specs.Parts.{IsSaid};
+ghost use Rattle.ice_command_parts.specs.Lines.{words_line};
+ghost use Rattle.ice_command_parts.specs.Keeping.{KeepsTold};
+ghost use Rattle.ice_command_parts.specs.Parts.{IsSaid};
 ghost use Rattle.ice_cli.specs.Served.{IsServed};
 
 use crate::command::{Command, command_in};
+use ice_command_parts::ended;
 use ice_commands::audit::audit;
 use ice_commands::best::best;
 use ice_commands::check::check;
-use ice_commands::ended;
 use ice_commands::fair::fair;
 use ice_commands::migrate::migrate;
 use ice_commands::regret::regret;

@@ -9,15 +9,15 @@ use Rattle.ice_audit.specs.declared.answer.AuditAnswer.TheVariants.{Yes, No}
 use Rattle.ice_audit.specs.declared.answer.AuditEnd.{AuditEnd}
 use Rattle.ice_audit.specs.declared.answer.AuditEnd.TheVariants as ending
 use Rattle.ice_audit.specs.Answers.{told_of}
-use Rattle.ice_commands.specs.declared.refusal.Refusal.{Refusal}
-use Rattle.ice_commands.specs.declared.refusal.Refusal.TheVariants.{File, Unread, NoMemory}
+use Rattle.ice_command_parts.specs.declared.refusal.Refusal.{Refusal}
+use Rattle.ice_command_parts.specs.declared.refusal.Refusal.TheVariants.{File, Unread, NoMemory}
 use Rattle.ice_commands.specs.AuditParts.{IsAuditEnd, IsAnswerTo, answer_text, answer_status}
 use Rattle.ice_commands.specs.AuditServed.{IsAuditFault, AuditAnswers}
-use Rattle.ice_commands.specs.Call.{journal_limit}
-use Rattle.ice_commands.specs.Lines.{refused_line, unread_line}
-use Rattle.ice_commands.specs.Parts.{AreFetched, Answers}
-use Rattle.ice_commands.specs.Refusals.{fault_of, refusal_text, refusal_status, Refuses}
-use Rattle.ice_commands.proofs.Parts.{told_in_call}
+use Rattle.ice_command_parts.specs.Call.{journal_limit}
+use Rattle.ice_command_parts.specs.Lines.{refused_line, unread_line}
+use Rattle.ice_command_parts.specs.Parts.{AreFetched, Answers}
+use Rattle.ice_command_parts.specs.Refusals.{fault_of, refusal_text, refusal_status, Refuses}
+use Rattle.ice_command_parts.proofs.Parts.{told_in_call}
 
 pub end_is_fault : (bytes : List ℕ) (end : AuditEnd) (fault : FileFault) → AuditsBytes bytes (told_of (Err end)) → IsAuditEnd end fault → IsAuditFault bytes fault
 end_is_fault bytes (ending.Grammar line) fault judged is = (grammar line, judged, is)

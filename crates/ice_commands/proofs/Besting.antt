@@ -3,17 +3,17 @@ use Rattle.std.proofs.Common.{◌≡◌, ◌∙◌, ap, sym, subst, ℕ, List}
 use Rattle.ice_defs.specs.Exchange.{names_of}
 use Rattle.ice_edge.specs.Told.{Told}
 use Rattle.ice_edge.specs.declared.status.Status.TheVariants as status
-use Rattle.ice_commands.specs.declared.refusal.Refusal.{Refusal}
-use Rattle.ice_commands.specs.declared.refusal.Refusal.TheVariants.{File, Unread, NoMemory}
+use Rattle.ice_command_parts.specs.declared.refusal.Refusal.{Refusal}
+use Rattle.ice_command_parts.specs.declared.refusal.Refusal.TheVariants.{File, Unread, NoMemory}
 use Rattle.ice_commands.specs.declared.best_set.BestSet.{BestSet}
-use Rattle.ice_commands.specs.Call.{Call}
-use Rattle.ice_commands.specs.Lines.{refused_line, unread_line}
-use Rattle.ice_commands.specs.Parts.{Answers}
-use Rattle.ice_commands.specs.Refusals.{fault_of, refusal_text, refusal_status, exchange_unread, other_unread}
+use Rattle.ice_command_parts.specs.Call.{Call}
+use Rattle.ice_command_parts.specs.Lines.{refused_line, unread_line}
+use Rattle.ice_command_parts.specs.Parts.{Answers}
+use Rattle.ice_command_parts.specs.Refusals.{fault_of, refusal_text, refusal_status, exchange_unread, other_unread}
 use Rattle.ice_commands.specs.BestServed.{AreBestLines, BestAnswers, exchange_refused, prices_refused}
 use Rattle.ice_commands.specs.Bests.{best_text}
 use Rattle.ice_commands.specs.BestFound.{AreBestOf, IsBestRefusal, BestRefuses, at_exchange, at_prices}
-use Rattle.ice_commands.proofs.Parts.{told_in_call}
+use Rattle.ice_command_parts.proofs.Parts.{told_in_call}
 use Rattle.ice_commands.proofs.Bidding.{best_lines}
 
 pub sets_answer : (before after : Told) (exchange prices : List ℕ) (bests : List BestSet) → AreBestOf before exchange prices bests

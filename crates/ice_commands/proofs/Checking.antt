@@ -4,14 +4,14 @@ use Rattle.ice_journal_laws.specs.declared.answer.Answer.{Answer}
 use Rattle.ice_journal_laws.specs.declared.answer.Answer.TheVariants.{Assign, Regret, Closed, No}
 use Rattle.ice_journal_laws.specs.Answers.{AnswersBytes}
 use Rattle.ice_edge.specs.Told.{Told}
-use Rattle.ice_commands.specs.declared.refusal.Refusal.{Refusal}
-use Rattle.ice_commands.specs.declared.refusal.Refusal.TheVariants.{File, Unread, NoMemory}
-use Rattle.ice_commands.specs.Call.{journal_limit}
+use Rattle.ice_command_parts.specs.declared.refusal.Refusal.{Refusal}
+use Rattle.ice_command_parts.specs.declared.refusal.Refusal.TheVariants.{File, Unread, NoMemory}
+use Rattle.ice_command_parts.specs.Call.{journal_limit}
 use Rattle.ice_commands.specs.CheckServed.{IsCheckFault, CheckAnswers, answer_line, answer_status}
-use Rattle.ice_commands.specs.Lines.{refused_line, unread_line}
-use Rattle.ice_commands.specs.Parts.{AreFetched, Answers}
-use Rattle.ice_commands.specs.Refusals.{fault_of, refusal_text, refusal_status, Refuses}
-use Rattle.ice_commands.proofs.Parts.{told_in_call}
+use Rattle.ice_command_parts.specs.Lines.{refused_line, unread_line}
+use Rattle.ice_command_parts.specs.Parts.{AreFetched, Answers}
+use Rattle.ice_command_parts.specs.Refusals.{fault_of, refusal_text, refusal_status, Refuses}
+use Rattle.ice_command_parts.proofs.Parts.{told_in_call}
 
 pub answer_answers : (before after : Told) (file : List ℕ) (answer : Answer) → (bytes : List ℕ) × AnswersBytes bytes (Ok answer) × AreFetched before file journal_limit bytes
     → Answers (λ call. CheckAnswers call file) before after (answer_line answer) (answer_status answer)

@@ -9,20 +9,20 @@ use Rattle.ice_journal_laws.specs.Checks.{Failure}
 use Rattle.ice_fair.specs.Lasts.{LastTrade}
 use Rattle.ice_last.specs.declared.ending.LastEnd.{LastEnd}
 use Rattle.ice_last.specs.Lasts.{LastsBytes}
-use Rattle.ice_commands.specs.declared.refusal.Refusal.{Refusal}
-use Rattle.ice_commands.specs.declared.refusal.Refusal.TheVariants.{File, Unread, NoMemory}
+use Rattle.ice_command_parts.specs.declared.refusal.Refusal.{Refusal}
+use Rattle.ice_command_parts.specs.declared.refusal.Refusal.TheVariants.{File, Unread, NoMemory}
 use Rattle.ice_commands.specs.declared.unwritten.Unwritten.{Unwritten}
 use Rattle.ice_commands.specs.declared.unwritten.Unwritten.TheVariants.{Fails, Refused}
-use Rattle.ice_commands.specs.Call.{Call, journal_limit}
+use Rattle.ice_command_parts.specs.Call.{Call, journal_limit}
 use Rattle.ice_commands.specs.FairParts.{TellsEnd, AreFailing, HasItsTrees, IsAnswerTo, IsFairSaid}
 use Rattle.ice_commands.specs.FairServed.{IsLastEnd, IsFairFault, HasLast, SaysFair, SaysLimit, FairAnswers}
-use Rattle.ice_commands.specs.Lines.{refused_line, unread_line}
+use Rattle.ice_command_parts.specs.Lines.{refused_line, unread_line}
 use Rattle.ice_commands.specs.Output.{no_line}
-use Rattle.ice_commands.specs.Parts.{AreFetched, Answers, Serves}
-use Rattle.ice_commands.specs.Refusals.{fault_of, refusal_text, refusal_status, Refuses}
+use Rattle.ice_command_parts.specs.Parts.{AreFetched, Answers, Serves}
+use Rattle.ice_command_parts.specs.Refusals.{fault_of, refusal_text, refusal_status, Refuses}
 use Rattle.ice_commands.specs.Unwritten.{unwritten_text, unwritten_status, IsUnwrittenOf, IsUnwritten}
-use Rattle.ice_commands.proofs.Parts.{told_in_call}
-use Rattle.ice_commands.proofs.Refusing.{fault_anyway}
+use Rattle.ice_command_parts.proofs.Parts.{told_in_call}
+use Rattle.ice_command_parts.proofs.Refusing.{fault_anyway}
 
 pub without_is : (bytes : List ℕ) (end : LastEnd) (unwritten : Unwritten) → LastsBytes bytes (Err end) → TellsEnd end unwritten → IsUnwrittenOf AreFailing IsFairFault bytes unwritten
 without_is bytes end (Fails line rule) none is = subst (λ (e : LastEnd). LastsBytes bytes (Err e)) is none

@@ -1,9 +1,3 @@
--- parts of a call
-pub mod Parts
--- why a file is not had
-pub mod Refusing
--- all that is told stays the same where no file caused the status
-pub mod Keeping
 -- what `check` answers
 pub mod Checking
 -- the best sets of all bidders
@@ -12,8 +6,6 @@ pub mod Bidding
 pub mod Besting
 -- what `replay` answers
 pub mod Replayed
--- a journal that is put piece by piece
-pub mod Writing
 -- the journal that `regret` writes
 pub mod RegretJournal
 -- what `regret` answers

@@ -14,19 +14,19 @@ use Rattle.ice_migrate.specs.Packing.{PutsPacked}
 use Rattle.ice_migrate.specs.declared.judging.Unfit.{Unfit}
 use Rattle.ice_commands.specs.declared.unwritten.Unwritten.{Unwritten}
 use Rattle.ice_commands.specs.declared.unwritten.Unwritten.TheVariants.{Fails, Refused}
-use Rattle.ice_commands.specs.declared.refusal.Refusal.{Refusal}
-use Rattle.ice_commands.specs.declared.refusal.Refusal.TheVariants.{File, Unread, NoMemory}
-use Rattle.ice_commands.specs.Call.{journal_limit}
+use Rattle.ice_command_parts.specs.declared.refusal.Refusal.{Refusal}
+use Rattle.ice_command_parts.specs.declared.refusal.Refusal.TheVariants.{File, Unread, NoMemory}
+use Rattle.ice_command_parts.specs.Call.{journal_limit}
 use Rattle.ice_commands.specs.MigrateServed.{IsUnfitFault, IsMigrateFault, MigrateAnswers}
 use Rattle.ice_commands.specs.MigrateParts.{TellsUnfit, AreFailing}
-use Rattle.ice_commands.specs.Lines.{refused_line, unread_line}
+use Rattle.ice_command_parts.specs.Lines.{refused_line, unread_line}
 use Rattle.ice_commands.specs.Output.{no_line}
-use Rattle.ice_commands.specs.Parts.{AreFetched, Answers, Serves}
-use Rattle.ice_commands.specs.Refusals.{fault_of, refusal_text, refusal_status, Refuses}
+use Rattle.ice_command_parts.specs.Parts.{AreFetched, Answers, Serves}
+use Rattle.ice_command_parts.specs.Refusals.{fault_of, refusal_text, refusal_status, Refuses}
 use Rattle.ice_commands.specs.Unwritten.{unwritten_text, unwritten_status, IsUnwrittenOf, IsUnwritten}
-use Rattle.ice_commands.proofs.Parts.{told_in_call}
-use Rattle.ice_commands.proofs.Refusing.{fault_anyway}
-use Rattle.ice_commands.proofs.Writing.{put_said}
+use Rattle.ice_command_parts.proofs.Parts.{told_in_call}
+use Rattle.ice_command_parts.proofs.Refusing.{fault_anyway}
+use Rattle.ice_command_parts.proofs.Writing.{put_said}
 
 -- ---- why it is not written
 

@@ -66,12 +66,12 @@ use Rattle.ice_session_laws.proofs.Worth.{IsWorth, worth_is, worth_is_total}
 use Rattle.ice_branch_laws.specs.Branches.{enough_for_regret}
 use Rattle.ice_branch_laws.specs.Laws.{FinalIsSpent, RivalIsSpent}
 use Rattle.ice_branch_laws.proofs.Regrets.{spent_regret_has_few}
-use Rattle.ice_commands.specs.Call.{Call, file_limit, OfFile}
-use Rattle.ice_commands.specs.Files.{IsExchangeOf}
-use Rattle.ice_commands.specs.Journals.{HasExchangeOf, HasFewerThan}
+use Rattle.ice_command_parts.specs.Call.{Call, file_limit, OfFile}
+use Rattle.ice_command_parts.specs.Files.{IsExchangeOf}
+use Rattle.ice_command_parts.specs.Journals.{HasExchangeOf, HasFewerThan}
 use Rattle.ice_commands.specs.RegretServed.{IsRegretText, of_journal, RegretAnswers}
 use Rattle.ice_commands.specs.RegretJournal.{begun_records, ending_records, IsFinal, IsRegretJournal, begins, final_spent, has_final, rival_spent, is_whole}
-use Rattle.ice_commands.proofs.Parts.{told_also}
+use Rattle.ice_command_parts.proofs.Parts.{told_also}
 
 -- ---- lists
 

@@ -6,17 +6,17 @@ use Rattle.ice_edge.specs.Told.{Told}
 use Rattle.ice_edge.specs.declared.status.Status.{Status}
 use Rattle.ice_edge.specs.Taken.{Taken}
 use Rattle.ice_journal.specs.Journal.{bytes_of}
-use Rattle.ice_commands.specs.declared.refusal.Refusal.{Refusal}
-use Rattle.ice_commands.specs.declared.refusal.Refusal.TheVariants.{File, Unread, NoMemory}
-use Rattle.ice_commands.specs.Call.{file_limit}
-use Rattle.ice_commands.specs.Files.{IsExchangeOf, IsExchangeFault, HoldsExchange}
-use Rattle.ice_commands.specs.Lines.{refused_line, unread_line}
-use Rattle.ice_commands.specs.Parts.{Answers, Serves}
-use Rattle.ice_commands.specs.Refusals.{fault_of, refusal_text, refusal_status, Refuses}
-use Rattle.ice_commands.specs.Journals.{WritesBehind}
+use Rattle.ice_command_parts.specs.declared.refusal.Refusal.{Refusal}
+use Rattle.ice_command_parts.specs.declared.refusal.Refusal.TheVariants.{File, Unread, NoMemory}
+use Rattle.ice_command_parts.specs.Call.{file_limit}
+use Rattle.ice_command_parts.specs.Files.{IsExchangeOf, IsExchangeFault, HoldsExchange}
+use Rattle.ice_command_parts.specs.Lines.{refused_line, unread_line}
+use Rattle.ice_command_parts.specs.Parts.{Answers, Serves}
+use Rattle.ice_command_parts.specs.Refusals.{fault_of, refusal_text, refusal_status, Refuses}
+use Rattle.ice_command_parts.specs.Journals.{WritesBehind}
 use Rattle.ice_commands.specs.RegretServed.{IsRegretText, nothing, RegretAnswers}
 use Rattle.ice_commands.specs.RegretJournal.{IsRegretJournal}
-use Rattle.ice_commands.proofs.Parts.{told_in_call}
+use Rattle.ice_command_parts.proofs.Parts.{told_in_call}
 use Rattle.ice_commands.proofs.RegretJournal.{regret_answers}
 
 pub journal_serves : (before after : Told) (file : List ℕ) (ex : Exchange) (old new : Taken) (result : Status) → IsExchange ex → HoldsExchange before file ex

@@ -5,18 +5,18 @@ use Rattle.ice_edge.specs.Told.{Told}
 use Rattle.ice_replay.specs.declared.settlement.Replay.{Replay}
 use Rattle.ice_replay.specs.declared.settlement.ReplayEnd.{ReplayEnd}
 use Rattle.ice_replay.specs.Replays.{ReplaysBytes}
-use Rattle.ice_commands.specs.declared.refusal.Refusal.{Refusal}
-use Rattle.ice_commands.specs.declared.refusal.Refusal.TheVariants.{File, Unread, NoMemory}
+use Rattle.ice_command_parts.specs.declared.refusal.Refusal.{Refusal}
+use Rattle.ice_command_parts.specs.declared.refusal.Refusal.TheVariants.{File, Unread, NoMemory}
 use Rattle.ice_commands.specs.declared.replay.ReplayAnswer.{ReplayAnswer}
 use Rattle.ice_commands.specs.declared.replay.ReplayAnswer.TheVariants.{Settlement, FailedTest}
-use Rattle.ice_commands.specs.Call.{journal_limit}
-use Rattle.ice_commands.specs.Lines.{refused_line, unread_line}
-use Rattle.ice_commands.specs.Parts.{AreFetched, Answers}
-use Rattle.ice_commands.specs.Refusals.{fault_of, refusal_text, refusal_status, IsFaultOf, Refuses}
+use Rattle.ice_command_parts.specs.Call.{journal_limit}
+use Rattle.ice_command_parts.specs.Lines.{refused_line, unread_line}
+use Rattle.ice_command_parts.specs.Parts.{AreFetched, Answers}
+use Rattle.ice_command_parts.specs.Refusals.{fault_of, refusal_text, refusal_status, IsFaultOf, Refuses}
 use Rattle.ice_commands.specs.ReplayServed.{IsReplayEnd, IsReplayFault, ReplayAnswers}
 use Rattle.ice_commands.specs.Replaying.{IsFoundIn, IsWithout, found_text, found_status}
-use Rattle.ice_commands.proofs.Parts.{told_in_call}
-use Rattle.ice_commands.proofs.Refusing.{fault_anyway}
+use Rattle.ice_command_parts.proofs.Parts.{told_in_call}
+use Rattle.ice_command_parts.proofs.Refusing.{fault_anyway}
 
 -- of bytes that are not replayed
 module _ (bytes : List ℕ) (number : ℕ) (end : ReplayEnd) (ends : (let found : Result Replay ReplayEnd = Err end in ReplaysBytes bytes number found)) where

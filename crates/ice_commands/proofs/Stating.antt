@@ -14,21 +14,21 @@ use Rattle.ice_statement.specs.declared.judging.StatementEnd.{StatementEnd}
 use Rattle.ice_statement.specs.Judging.{HasStatement, MayState}
 use Rattle.ice_statement_laws.specs.Statement.{Own, published, statement_of}
 use Rattle.ice_statement_laws.specs.Texts.{IsOwnOf}
-use Rattle.ice_commands.specs.declared.refusal.Refusal.{Refusal}
-use Rattle.ice_commands.specs.declared.refusal.Refusal.TheVariants.{File, Unread, NoMemory}
+use Rattle.ice_command_parts.specs.declared.refusal.Refusal.{Refusal}
+use Rattle.ice_command_parts.specs.declared.refusal.Refusal.TheVariants.{File, Unread, NoMemory}
 use Rattle.ice_commands.specs.declared.unwritten.Unwritten.{Unwritten}
 use Rattle.ice_commands.specs.declared.unwritten.Unwritten.TheVariants.{Fails, Refused}
-use Rattle.ice_commands.specs.Call.{journal_limit}
-use Rattle.ice_commands.specs.Lines.{refused_line, unread_line}
+use Rattle.ice_command_parts.specs.Call.{journal_limit}
+use Rattle.ice_command_parts.specs.Lines.{refused_line, unread_line}
 use Rattle.ice_commands.specs.Output.{no_line}
-use Rattle.ice_commands.specs.Parts.{AreFetched, Answers, Serves}
-use Rattle.ice_commands.specs.Refusals.{fault_of, refusal_text, refusal_status, Refuses}
+use Rattle.ice_command_parts.specs.Parts.{AreFetched, Answers, Serves}
+use Rattle.ice_command_parts.specs.Refusals.{fault_of, refusal_text, refusal_status, Refuses}
 use Rattle.ice_commands.specs.StatementParts.{TellsEnd, AreFailing}
 use Rattle.ice_commands.specs.StatementServed.{IsStatementEnd, IsStatementFault, StatementAnswers}
 use Rattle.ice_commands.specs.Unwritten.{unwritten_text, unwritten_status, IsUnwrittenOf, IsUnwritten}
-use Rattle.ice_commands.proofs.Parts.{told_in_call}
-use Rattle.ice_commands.proofs.Refusing.{fault_anyway}
-use Rattle.ice_commands.proofs.Writing.{put_said}
+use Rattle.ice_command_parts.proofs.Parts.{told_in_call}
+use Rattle.ice_command_parts.proofs.Refusing.{fault_anyway}
+use Rattle.ice_command_parts.proofs.Writing.{put_said}
 
 pub unstated_is : (bytes name : List ℕ) (end : StatementEnd) (unwritten : Unwritten) → MayState bytes name (Err end) → TellsEnd end unwritten → IsUnwrittenOf AreFailing (IsStatementFault name) bytes unwritten
 unstated_is bytes name end (Fails line rule) judged is = subst (λ (e : StatementEnd). MayState bytes name (Err e)) is judged

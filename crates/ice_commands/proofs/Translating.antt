@@ -5,16 +5,16 @@ use Rattle.ice_edge.specs.declared.status.Status.TheVariants as status
 use Rattle.ice_xor.specs.FlatBids.{FlatExchange}
 use Rattle.ice_xor.specs.FlatFile.{flat_of}
 use Rattle.ice_xor.specs.Translating.{translate_refusal}
-use Rattle.ice_commands.specs.declared.refusal.Refusal as declared
-use Rattle.ice_commands.specs.declared.refusal.Refusal.TheVariants.{File, Unread, NoMemory}
-use Rattle.ice_commands.specs.Call.{file_limit}
-use Rattle.ice_commands.specs.Lines.{refused_line, unread_line}
-use Rattle.ice_commands.specs.Parts.{AreFetched, Answers}
-use Rattle.ice_commands.specs.Refusals.{fault_of, refusal_text, refusal_status, IsFaultOf, Refuses}
+use Rattle.ice_command_parts.specs.declared.refusal.Refusal as declared
+use Rattle.ice_command_parts.specs.declared.refusal.Refusal.TheVariants.{File, Unread, NoMemory}
+use Rattle.ice_command_parts.specs.Call.{file_limit}
+use Rattle.ice_command_parts.specs.Lines.{refused_line, unread_line}
+use Rattle.ice_command_parts.specs.Parts.{AreFetched, Answers}
+use Rattle.ice_command_parts.specs.Refusals.{fault_of, refusal_text, refusal_status, IsFaultOf, Refuses}
 use Rattle.ice_commands.specs.XorServed.{IsFlatFault, IsTranslationOf, XorAnswers}
 use Rattle.ice_commands.specs.XorParts.{IsBidderFault}
-use Rattle.ice_commands.proofs.Parts.{told_in_call, of_fetched}
-use Rattle.ice_commands.proofs.Refusing.{fault_anyway}
+use Rattle.ice_command_parts.proofs.Parts.{told_in_call, of_fetched}
+use Rattle.ice_command_parts.proofs.Refusing.{fault_anyway}
 
 -- a refusal of a maker is a fault of the bytes
 pub flat_fault : (bytes : List ℕ) (flat : FlatExchange) (refusal : declared.Refusal) → flat_of bytes ≡ Ok flat → IsFaultOf 1 (IsBidderFault (translate_refusal flat)) refusal → IsFaultOf 1 (IsFlatFault bytes) refusal

@@ -8,8 +8,8 @@ use Rattle.ice_journal.specs.Journal.{LinesFault, grammar, unended}
 use Rattle.ice_journal.specs.Spelling.{fraction_text}
 use Rattle.ice_journal_laws.specs.Checks.{Failure}
 use Rattle.ice_statement_laws.specs.Texts.{AuditAnswer, yes, no, at_fault, AuditsBytes}
-use Rattle.ice_commands.specs.Call.{Call, FaultRose, journal_limit, OfFile, IsRefused}
-use Rattle.ice_commands.specs.Lines.{line_text, refused_line, unread_line}
+use Rattle.ice_command_parts.specs.Call.{Call, FaultRose, journal_limit, OfFile, IsRefused}
+use Rattle.ice_command_parts.specs.Lines.{line_text, refused_line, unread_line}
 use Rattle.ice_commands.specs.Output.{no_line}
 
 -- a yes, with the bidder's payment

@@ -3,12 +3,12 @@ use Rattle.std.specs.Prelude.{ℕ, List, length, Ok}
 use Rattle.ice_edge.specs.Told.{Told}
 use Rattle.ice_defs.specs.Exchange.{Exchange, exact_of, names_of}
 use Rattle.ice_defs.specs.Prices.{Prices}
-use Rattle.ice_commands.specs.declared.refusal.Refusal.{Refusal}
+use Rattle.ice_command_parts.specs.declared.refusal.Refusal.{Refusal}
 use Rattle.ice_commands.specs.declared.best_set.BestSet.{BestSet}
-use Rattle.ice_commands.specs.Call.{Call, file_limit, OfFile}
-use Rattle.ice_commands.specs.Files.{IsExchangeOf, IsExchangeFault, IsPricesFault, HoldsExchange, HoldsPrices}
-use Rattle.ice_commands.specs.Parts.{HasPart}
-use Rattle.ice_commands.specs.Refusals.{IsRefusal}
+use Rattle.ice_command_parts.specs.Call.{Call, file_limit, OfFile}
+use Rattle.ice_command_parts.specs.Files.{IsExchangeOf, IsExchangeFault, IsPricesFault, HoldsExchange, HoldsPrices}
+use Rattle.ice_command_parts.specs.Parts.{HasPart}
+use Rattle.ice_command_parts.specs.Refusals.{IsRefusal}
 use Rattle.ice_commands.specs.Bests.{AreBestSets}
 
 -- the first file is an exchange, the second has prices for

@@ -10,10 +10,10 @@ use Rattle.ice_defs.specs.Pricing.{weighted_net}
 use Rattle.ice_defs.specs.Exchange.{Exchange, trees_of, exact_of, names_of, opening_bounds}
 use Rattle.ice_defs.specs.FileFault.{FileFault}
 use Rattle.ice_section.specs.LineFile.{IsPricesOfLines}
-use Rattle.ice_commands.specs.Call.{Call, file_limit, OfFile, IsRefused}
-use Rattle.ice_commands.specs.Files.{IsExchangeOf, IsExchangeFault, IsPricesFault}
-use Rattle.ice_commands.specs.Lines.{refused_line}
-use Rattle.ice_commands.specs.Refusals.{IsOneUnread}
+use Rattle.ice_command_parts.specs.Call.{Call, file_limit, OfFile, IsRefused}
+use Rattle.ice_command_parts.specs.Files.{IsExchangeOf, IsExchangeFault, IsPricesFault}
+use Rattle.ice_command_parts.specs.Lines.{refused_line}
+use Rattle.ice_command_parts.specs.Refusals.{IsOneUnread}
 use Rattle.ice_commands.specs.Output.{best_lines, best_end}
 
 -- a bidder's net of a set at weighted values, times the prices' denominator

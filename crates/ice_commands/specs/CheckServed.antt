@@ -9,9 +9,9 @@ use Rattle.ice_journal_laws.specs.declared.answer.CheckEnd.{CheckEnd}
 use Rattle.ice_journal_laws.specs.declared.answer.CheckEnd.TheVariants as ending
 use Rattle.ice_journal_laws.specs.Theorems.{of_assigned, of_regret, of_session}
 use Rattle.ice_journal_laws.specs.Answers.{AnswersBytes}
-use Rattle.ice_commands.specs.Call.{Call, FaultRose, journal_limit, OfFile, IsRefused}
-use Rattle.ice_commands.specs.Refusals.{other_kind}
-use Rattle.ice_commands.specs.Lines.{refused_line, unread_line}
+use Rattle.ice_command_parts.specs.Call.{Call, FaultRose, journal_limit, OfFile, IsRefused}
+use Rattle.ice_command_parts.specs.Refusals.{other_kind}
+use Rattle.ice_command_parts.specs.Lines.{refused_line, unread_line}
 use Rattle.ice_commands.specs.Output.{yes_line, no_line}
 
 -- the fault of bytes that have no answer; want of memory is no fault of theirs

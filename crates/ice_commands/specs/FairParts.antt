@@ -12,8 +12,8 @@ use Rattle.ice_last.specs.Lasts.{LastsBytes}
 use Rattle.ice_commands.specs.declared.unwritten.Unwritten.{Unwritten}
 use Rattle.ice_commands.specs.declared.unwritten.Unwritten.TheVariants.{Fails, Refused}
 use Rattle.ice_commands.specs.FairServed.{IsLastEnd, SaysFair, SaysLimit}
-use Rattle.ice_commands.specs.Parts.{IsSaid}
-use Rattle.ice_commands.specs.Refusals.{IsFaultOf}
+use Rattle.ice_command_parts.specs.Parts.{IsSaid}
+use Rattle.ice_command_parts.specs.Refusals.{IsFaultOf}
 
 -- why there is no last settlement, in the words of `Unwritten`
 abbrev pub TellsEnd : LastEnd → Unwritten → Type 0

@@ -17,9 +17,9 @@ use Rattle.ice_last.specs.declared.ending.LastEnd.TheVariants as ending
 use Rattle.ice_last.specs.Lasts.{LastsBytes}
 use Rattle.ice_write_session.specs.Records.{limit_records}
 use Rattle.ice_write_fair.specs.Lines.{fair_lines, fair_limit_lines}
-use Rattle.ice_commands.specs.Call.{Call, FaultRose, journal_limit, OfFile, IsRefused}
-use Rattle.ice_commands.specs.Refusals.{other_kind}
-use Rattle.ice_commands.specs.Lines.{refused_line, unread_line}
+use Rattle.ice_command_parts.specs.Call.{Call, FaultRose, journal_limit, OfFile, IsRefused}
+use Rattle.ice_command_parts.specs.Refusals.{other_kind}
+use Rattle.ice_command_parts.specs.Lines.{refused_line, unread_line}
 use Rattle.ice_commands.specs.Output.{no_line}
 
 -- the fault of bytes that have no last settlement; a

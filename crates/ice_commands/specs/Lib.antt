@@ -1,16 +1,9 @@
-pub mod Call
-pub mod Parts
-pub mod Keeping
-pub mod Lines
 pub mod Output
 pub mod CheckServed
 pub mod ReplayServed
-pub mod Files
-pub mod Refusals
 pub mod BestServed
 pub mod Bests
 pub mod BestFound
-pub mod Journals
 pub mod RegretServed
 pub mod RegretJournal
 pub mod XorServed

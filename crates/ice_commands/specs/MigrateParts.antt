@@ -8,7 +8,7 @@ use Rattle.ice_migrate.specs.declared.judging.Unfit.TheVariants as unfit
 use Rattle.ice_commands.specs.declared.unwritten.Unwritten.{Unwritten}
 use Rattle.ice_commands.specs.declared.unwritten.Unwritten.TheVariants.{Fails, Refused}
 use Rattle.ice_commands.specs.MigrateServed.{IsUnfitFault}
-use Rattle.ice_commands.specs.Refusals.{IsFaultOf}
+use Rattle.ice_command_parts.specs.Refusals.{IsFaultOf}
 
 -- what is unfit, in the words of `Unwritten`
 abbrev pub TellsUnfit : Unfit → Unwritten → Type 0

@@ -11,9 +11,9 @@ use Rattle.ice_journal_laws.specs.Answers.{OfJournal}
 use Rattle.ice_migrate.specs.declared.judging.Unfit.{Unfit}
 use Rattle.ice_migrate.specs.declared.judging.Unfit.TheVariants as unfit
 use Rattle.ice_migrate.specs.Migrating.{IsMigrated, IsFailing, Judges}
-use Rattle.ice_commands.specs.Call.{Call, FaultRose, journal_limit, OfFile, IsRefused}
-use Rattle.ice_commands.specs.Refusals.{other_kind}
-use Rattle.ice_commands.specs.Lines.{refused_line, unread_line}
+use Rattle.ice_command_parts.specs.Call.{Call, FaultRose, journal_limit, OfFile, IsRefused}
+use Rattle.ice_command_parts.specs.Refusals.{other_kind}
+use Rattle.ice_command_parts.specs.Lines.{refused_line, unread_line}
 use Rattle.ice_commands.specs.Output.{no_line}
 
 -- the fault of bytes that are no journal of version 1; a

@@ -8,7 +8,7 @@ use Rattle.ice_journal_laws.specs.declared.rule.Rule.{Rule}
 use Rattle.ice_journal_laws.specs.declared.rule.Rule.TheVariants as rule
 use Rattle.ice_journal_laws.specs.Checks.{Failure}
 use Rattle.ice_journal_laws.specs.Theorems.{Yes, of_assigned, of_regret, of_session}
-use Rattle.ice_commands.specs.Lines.{line_text}
+use Rattle.ice_command_parts.specs.Lines.{line_text}
 
 abbrev pub rule_word : Rule → List ℕ
 rule_word rule.Closed = codes "closed"

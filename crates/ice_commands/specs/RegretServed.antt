@@ -13,10 +13,10 @@ use Rattle.ice_journal_laws.specs.Theorems.{Says, IsRightRegret}
 use Rattle.ice_journal_laws.specs.Stops.{IsSpent}
 use Rattle.ice_journal_laws.specs.SoFar.{IsUnstopped, IsSoFar}
 use Rattle.ice_branch_laws.specs.Branches.{enough_for_regret}
-use Rattle.ice_commands.specs.Call.{Call, FaultRose, file_limit, OfFile, IsRefused}
-use Rattle.ice_commands.specs.Files.{IsExchangeOf, IsExchangeFault}
-use Rattle.ice_commands.specs.Lines.{refused_line, unread_line}
-use Rattle.ice_commands.specs.Journals.{HasExchangeOf, HasFewerThan}
+use Rattle.ice_command_parts.specs.Call.{Call, FaultRose, file_limit, OfFile, IsRefused}
+use Rattle.ice_command_parts.specs.Files.{IsExchangeOf, IsExchangeFault}
+use Rattle.ice_command_parts.specs.Lines.{refused_line, unread_line}
+use Rattle.ice_command_parts.specs.Journals.{HasExchangeOf, HasFewerThan}
 
 -- a journal of kind regret as far as it is written, with the exchange of the file
 pub record IsRegretSoFar (call : Call) (exchange : List ℕ) (journal : List Record) : Type 0 where

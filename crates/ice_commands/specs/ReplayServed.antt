@@ -9,9 +9,9 @@ use Rattle.ice_replay.specs.declared.settlement.ReplayEnd.{ReplayEnd}
 use Rattle.ice_replay.specs.declared.settlement.ReplayEnd.TheVariants as ending
 use Rattle.ice_replay.specs.Replays.{ReplaysBytes}
 use Rattle.ice_replay.specs.Lines.{replay_lines}
-use Rattle.ice_commands.specs.Call.{Call, FaultRose, journal_limit, OfFile, IsRefused}
-use Rattle.ice_commands.specs.Refusals.{other_kind, no_settlement}
-use Rattle.ice_commands.specs.Lines.{refused_line, unread_line}
+use Rattle.ice_command_parts.specs.Call.{Call, FaultRose, journal_limit, OfFile, IsRefused}
+use Rattle.ice_command_parts.specs.Refusals.{other_kind, no_settlement}
+use Rattle.ice_command_parts.specs.Lines.{refused_line, unread_line}
 use Rattle.ice_commands.specs.Output.{no_line}
 
 -- the fault of bytes that are not replayed; a failed test and want of memory are no fault of theirs

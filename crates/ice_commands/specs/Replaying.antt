@@ -6,11 +6,11 @@ use Rattle.ice_replay.specs.declared.settlement.ReplayEnd.{ReplayEnd}
 use Rattle.ice_replay.specs.declared.settlement.ReplayEnd.TheVariants as ending
 use Rattle.ice_replay.specs.Replays.{ReplaysBytes}
 use Rattle.ice_replay.specs.Lines.{replay_lines}
-use Rattle.ice_commands.specs.declared.refusal.Refusal.{Refusal}
+use Rattle.ice_command_parts.specs.declared.refusal.Refusal.{Refusal}
 use Rattle.ice_commands.specs.declared.replay.ReplayAnswer.{ReplayAnswer}
 use Rattle.ice_commands.specs.declared.replay.ReplayAnswer.TheVariants.{Settlement, FailedTest}
 use Rattle.ice_commands.specs.Output.{no_line}
-use Rattle.ice_commands.specs.Refusals.{IsFaultOf}
+use Rattle.ice_command_parts.specs.Refusals.{IsFaultOf}
 use Rattle.ice_commands.specs.ReplayServed.{IsReplayEnd}
 
 abbrev pub IsFoundIn : List ℕ → ℕ → ReplayAnswer → Type 0

@@ -7,7 +7,7 @@ use Rattle.ice_statement.specs.declared.judging.StatementEnd.TheVariants as endi
 use Rattle.ice_statement.specs.Judging.{IsFailing}
 use Rattle.ice_commands.specs.declared.unwritten.Unwritten.{Unwritten}
 use Rattle.ice_commands.specs.declared.unwritten.Unwritten.TheVariants.{Fails, Refused}
-use Rattle.ice_commands.specs.Refusals.{IsFaultOf}
+use Rattle.ice_command_parts.specs.Refusals.{IsFaultOf}
 use Rattle.ice_commands.specs.StatementServed.{IsStatementEnd}
 
 -- why nothing is stated, in the words of `Unwritten`

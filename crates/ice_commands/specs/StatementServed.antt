@@ -10,10 +10,10 @@ use Rattle.ice_statement.specs.declared.judging.StatementEnd.TheVariants as endi
 use Rattle.ice_statement.specs.Judging.{IsFailing, MayState}
 use Rattle.ice_statement_laws.specs.Statement.{Own}
 use Rattle.ice_statement_laws.specs.Texts.{States}
-use Rattle.ice_commands.specs.Call.{Call, FaultRose, journal_limit, OfFile, IsRefused}
-use Rattle.ice_commands.specs.Refusals.{other_kind, no_bidder}
+use Rattle.ice_command_parts.specs.Call.{Call, FaultRose, journal_limit, OfFile, IsRefused}
+use Rattle.ice_command_parts.specs.Refusals.{other_kind, no_bidder}
 use Rattle.ice_commands.specs.MigrateServed.{HasJournal}
-use Rattle.ice_commands.specs.Lines.{refused_line, unread_line}
+use Rattle.ice_command_parts.specs.Lines.{refused_line, unread_line}
 use Rattle.ice_commands.specs.Output.{no_line}
 
 -- the fault of bytes that state nothing; a failed test and want of memory are no fault of theirs

@@ -7,10 +7,10 @@ use Rattle.ice_defs.specs.FileFault.{FileFault}
 use Rattle.ice_journal_laws.specs.Checks.{Failure}
 use Rattle.ice_commands.specs.declared.unwritten.Unwritten.{Unwritten}
 use Rattle.ice_commands.specs.declared.unwritten.Unwritten.TheVariants.{Fails, Refused}
-use Rattle.ice_commands.specs.Call.{journal_limit}
-use Rattle.ice_commands.specs.Parts.{AreFetched}
+use Rattle.ice_command_parts.specs.Call.{journal_limit}
+use Rattle.ice_command_parts.specs.Parts.{AreFetched}
 use Rattle.ice_commands.specs.Output.{no_line}
-use Rattle.ice_commands.specs.Refusals.{refusal_text, refusal_status, IsFaultOf, Refuses}
+use Rattle.ice_command_parts.specs.Refusals.{refusal_text, refusal_status, IsFaultOf, Refuses}
 
 -- the line that says why
 abbrev pub unwritten_text : Unwritten → List ℕ

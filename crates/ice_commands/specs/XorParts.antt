@@ -4,8 +4,8 @@ use Rattle.ice_defs.specs.FileFault.{FileFault}
 use Rattle.ice_xor.specs.Translating.{Refusal}
 use Rattle.ice_xor.specs.declared.faults.TranslateFault.{TranslateFault}
 use Rattle.ice_xor.specs.Faults.{IsTranslateFault}
-use Rattle.ice_commands.specs.declared.refusal as declared
-use Rattle.ice_commands.specs.Refusals.{IsFaultOf}
+use Rattle.ice_command_parts.specs.declared.refusal as declared
+use Rattle.ice_command_parts.specs.Refusals.{IsFaultOf}
 use Rattle.ice_commands.specs.XorServed.{bidder_fault}
 
 -- the fault of the refusal that is due

@@ -7,8 +7,8 @@ use Rattle.ice_read.specs.Written.{exchange_text}
 use Rattle.ice_xor.specs.FlatBids.{FlatExchange, translated}
 use Rattle.ice_xor.specs.FlatFile.{flat_of}
 use Rattle.ice_xor.specs.Translating.{Refusal, translate_refusal}
-use Rattle.ice_commands.specs.Call.{Call, FaultRose, file_limit, OfFile, IsRefused}
-use Rattle.ice_commands.specs.Lines.{refused_line, unread_line}
+use Rattle.ice_command_parts.specs.Call.{Call, FaultRose, file_limit, OfFile, IsRefused}
+use Rattle.ice_command_parts.specs.Lines.{refused_line, unread_line}
 
 abbrev pub bidder_fault : Refusal → FileFault
 bidder_fault r = at_path r.fault (codes "bidders" ∷ decimal r.bidder ∷ [])

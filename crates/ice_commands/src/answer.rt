@@ -3,11 +3,11 @@ ghost use Rattle.std.specs.Prelude.{◌≡◌, [], ◌+◌, ◌≤◌, length};
 ghost use Rattle.ice_line.specs.Writing.{with_field};
 ghost use Rattle.ice_journal.specs.Spelling.{fraction_text};
 ghost use Rattle.ice_commands.specs.Output.{rule_word};
-ghost use Rattle.ice_commands.specs.Parts.{IsSaid};
+ghost use Rattle.ice_command_parts.specs.Parts.{IsSaid};
 ghost use Rattle.ice_commands.specs.CheckServed.{answer_line, answer_status};
 
-use crate::say::ended;
 use ice_check::{Answer, Rule};
+use ice_command_parts::ended;
 use ice_edge::{Sink, Status};
 use ice_frac::Frac;
 use ice_line::LineWriter;

@@ -2,17 +2,15 @@
 ghost use Rattle.std.specs.Prelude.{◌≡◌, [], ℕ, List, IfOk, IfErr, OnOk};
 ghost use Rattle.ice_commands.specs.AuditServed.{paid_line, IsAuditFault, AuditAnswers};
 ghost use Rattle.ice_commands.specs.AuditParts.{IsAuditEnd, IsAnswerTo, answer_text, answer_status};
-ghost use Rattle.ice_commands.specs.Keeping.{KeepsTold};
-ghost use Rattle.ice_commands.specs.Parts.{AreFetched, IsSaid, Serves};
-ghost use Rattle.ice_commands.specs.Refusals.{refusal_status, IsFaultOf, Refuses};
+ghost use Rattle.ice_command_parts.specs.Keeping.{KeepsTold};
+ghost use Rattle.ice_command_parts.specs.Parts.{AreFetched, IsSaid, Serves};
+ghost use Rattle.ice_command_parts.specs.Refusals.{refusal_status, IsFaultOf, Refuses};
 
 use crate::answer::{say_answer, write_fraction};
 use crate::check::JOURNAL_LIMIT;
-use crate::files::fetch;
-use crate::refusal::{FileFault, Refusal};
-use crate::say::ended;
 use ice_audit::{AuditAnswer, AuditEnd};
 use ice_check::Answer;
+use ice_command_parts::{FileFault, Refusal, ended, fetch};
 use ice_edge::{Shelf, Sink, Status};
 use ice_frac::Frac;
 use ice_line::LineWriter;

@@ -5,7 +5,7 @@ ghost use Rattle.ice_edge.specs.Puts.{IsPut};
 ghost use Rattle.ice_journal.specs.Ranges.{IsBits};
 ghost use Rattle.ice_journal.specs.Records as line;
 ghost use Rattle.ice_journal.specs.Spelling.{line_of};
-ghost use Rattle.ice_commands.specs.Lines.{line_text};
+ghost use Rattle.ice_command_parts.specs.Lines.{line_text};
 
 use ice_edge::{Sink, SinkFault};
 use ice_journal::{Line, write_record};

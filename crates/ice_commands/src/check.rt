@@ -2,14 +2,13 @@
 ghost use Rattle.std.specs.Prelude.{◌≡◌, ℕ, List, IfOk, IfErr, OnOk, Ok};
 ghost use Rattle.ice_journal_laws.specs.Answers.{AnswersBytes};
 ghost use Rattle.ice_commands.specs.CheckServed.{IsEndFault, IsCheckFault, CheckAnswers};
-ghost use Rattle.ice_commands.specs.Keeping.{KeepsTold};
-ghost use Rattle.ice_commands.specs.Parts.{AreFetched, Serves};
-ghost use Rattle.ice_commands.specs.Refusals.{refusal_status, IsFaultOf, Refuses};
+ghost use Rattle.ice_command_parts.specs.Keeping.{KeepsTold};
+ghost use Rattle.ice_command_parts.specs.Parts.{AreFetched, Serves};
+ghost use Rattle.ice_command_parts.specs.Refusals.{refusal_status, IsFaultOf, Refuses};
 
 use crate::answer::say_answer;
-use crate::files::fetch;
-use crate::refusal::{FileFault, Refusal};
 use ice_check::{Answer, CheckEnd};
+use ice_command_parts::{FileFault, Refusal, fetch};
 use ice_edge::{Shelf, Sink, Status};
 use std::alloc::Global;
 

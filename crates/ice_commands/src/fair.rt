@@ -3,15 +3,14 @@ ghost use Rattle.std.specs.Prelude.{◌≡◌, ℕ, List, IfOk, IfErr, OnOk, Ok 
 ghost use Rattle.ice_last.specs.Lasts.{LastsBytes};
 ghost use Rattle.ice_commands.specs.FairParts.{TellsEnd, AreFailing};
 ghost use Rattle.ice_commands.specs.FairServed.{IsFairFault, FairAnswers};
-ghost use Rattle.ice_commands.specs.Keeping.{KeepsTold};
-ghost use Rattle.ice_commands.specs.Parts.{AreFetched, Serves};
+ghost use Rattle.ice_command_parts.specs.Keeping.{KeepsTold};
+ghost use Rattle.ice_command_parts.specs.Parts.{AreFetched, Serves};
 ghost use Rattle.ice_commands.specs.Unwritten.{unwritten_status, IsUnwrittenOf, IsUnwritten};
 
 use crate::check::JOURNAL_LIMIT;
 use crate::fair_prices::say_fair;
-use crate::files::fetch;
-use crate::refusal::{FileFault, Refusal};
 use crate::unwritten::Unwritten;
+use ice_command_parts::{FileFault, Refusal, fetch};
 use ice_edge::{Shelf, Sink, Status};
 use ice_fair::Last;
 use ice_last::LastEnd;

@@ -7,9 +7,9 @@ ghost use Rattle.ice_journal.specs.Journal.{bytes_of};
 ghost use Rattle.ice_write_session.specs.Records.{limit_records};
 ghost use Rattle.ice_write_fair.specs.Lines.{fair_lines, fair_limit_lines};
 ghost use Rattle.ice_commands.specs.FairParts.{HasItsTrees, IsFairSaid};
-ghost use Rattle.ice_commands.specs.Parts.{IsSaid};
+ghost use Rattle.ice_command_parts.specs.Parts.{IsSaid};
 
-use crate::say::ended;
+use ice_command_parts::ended;
 use ice_edge::{Sink, Status};
 use ice_fair::{Fair, FairEnd, FairLimit, Last};
 use ice_price::PriceLimit;

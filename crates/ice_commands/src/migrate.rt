@@ -5,14 +5,12 @@ ghost use Rattle.ice_migrate.specs.Migrating.{IsMigrated};
 ghost use Rattle.ice_commands.specs.Unwritten.{unwritten_status, IsUnwrittenOf, IsUnwritten};
 ghost use Rattle.ice_commands.specs.MigrateServed.{IsMigrateFault, MigrateAnswers};
 ghost use Rattle.ice_commands.specs.MigrateParts.{TellsUnfit, AreFailing};
-ghost use Rattle.ice_commands.specs.Keeping.{KeepsTold};
-ghost use Rattle.ice_commands.specs.Parts.{AreFetched, Serves};
+ghost use Rattle.ice_command_parts.specs.Keeping.{KeepsTold};
+ghost use Rattle.ice_command_parts.specs.Parts.{AreFetched, Serves};
 
 use crate::check::JOURNAL_LIMIT;
-use crate::files::fetch;
-use crate::refusal::{FileFault, Refusal};
-use crate::say::ended;
 use crate::unwritten::Unwritten;
+use ice_command_parts::{FileFault, Refusal, ended, fetch};
 use ice_edge::{Shelf, Sink, Status};
 use ice_migrate::{Unfit, judge, put_packed};
 use std::alloc::Global;

@@ -1,10 +1,10 @@
 //! `regret`: the regret of the best assignment at lower values, as a journal.
-ghost use Rattle.ice_commands.specs.Keeping.{KeepsTold};
-ghost use Rattle.ice_commands.specs.Parts.{Serves};
+ghost use Rattle.ice_command_parts.specs.Keeping.{KeepsTold};
+ghost use Rattle.ice_command_parts.specs.Parts.{Serves};
 ghost use Rattle.ice_commands.specs.RegretServed.{RegretAnswers};
 
-use crate::files::read_exchange;
 use crate::regret_journal::write_regret;
+use ice_command_parts::read_exchange;
 use ice_edge::{Shelf, Sink, Status};
 use std::alloc::Global;
 

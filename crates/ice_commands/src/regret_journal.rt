@@ -6,10 +6,10 @@ ghost use Rattle.ice_edge.specs.Puts.{IsPut};
 ghost use Rattle.ice_journal.specs.Journal.{bytes_of};
 ghost use Rattle.ice_write_session.specs.Records.{final_records};
 ghost use Rattle.ice_write_session.specs.Writable.{IsWritableRegret};
-ghost use Rattle.ice_commands.specs.Journals.{WritesBehind};
+ghost use Rattle.ice_command_parts.specs.Journals.{WritesBehind};
 ghost use Rattle.ice_commands.specs.RegretJournal.{begun_records, ending_records, IsFinal, IsRegretJournal};
 
-use crate::say::ended;
+use ice_command_parts::ended;
 use ice_edge::{Sink, SinkFault, Status};
 use ice_journal::{EndWord, Kind, Line, Version};
 use ice_regret::{Regret, best_at_lower_values, regret};

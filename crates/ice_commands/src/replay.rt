@@ -1,17 +1,15 @@
 //! `replay`: what a session says of one settlement.
 ghost use Rattle.std.specs.Prelude.{◌≡◌, ℕ, List, IfOk, IfErr, OnOk};
-ghost use Rattle.ice_commands.specs.Keeping.{KeepsTold};
-ghost use Rattle.ice_commands.specs.Parts.{AreFetched, IsSaid, Serves};
-ghost use Rattle.ice_commands.specs.Refusals.{refusal_status, IsFaultOf, Refuses};
+ghost use Rattle.ice_command_parts.specs.Keeping.{KeepsTold};
+ghost use Rattle.ice_command_parts.specs.Parts.{AreFetched, IsSaid, Serves};
+ghost use Rattle.ice_command_parts.specs.Refusals.{refusal_status, IsFaultOf, Refuses};
 ghost use Rattle.ice_commands.specs.ReplayServed.{IsReplayFault, ReplayAnswers};
 ghost use Rattle.ice_commands.specs.Replaying.{IsFoundIn, IsWithout, found_text, found_status};
 
 use crate::answer::say_answer;
 use crate::check::JOURNAL_LIMIT;
-use crate::files::fetch;
-use crate::refusal::{FileFault, Refusal};
-use crate::say::ended;
 use ice_check::{Answer, Rule};
+use ice_command_parts::{FileFault, Refusal, ended, fetch};
 use ice_edge::{Shelf, Sink, Status};
 use ice_replay::{Replay, ReplayEnd, put_replay};
 use std::alloc::Global;

@@ -2,17 +2,15 @@
 ghost use Rattle.std.specs.Prelude.{◌≡◌, IfOk, IfErr, OnOk};
 ghost use Rattle.ice_journal_laws.specs.Answers.{OfJournal};
 ghost use Rattle.ice_statement.specs.Judging.{HasStatement};
-ghost use Rattle.ice_commands.specs.Keeping.{KeepsTold};
-ghost use Rattle.ice_commands.specs.Parts.{AreFetched, Serves};
+ghost use Rattle.ice_command_parts.specs.Keeping.{KeepsTold};
+ghost use Rattle.ice_command_parts.specs.Parts.{AreFetched, Serves};
 ghost use Rattle.ice_commands.specs.Unwritten.{unwritten_status, IsUnwrittenOf, IsUnwritten};
 ghost use Rattle.ice_commands.specs.StatementServed.{IsStatementFault, StatementAnswers};
 ghost use Rattle.ice_commands.specs.StatementParts.{TellsEnd, AreFailing};
 
 use crate::check::JOURNAL_LIMIT;
-use crate::files::fetch;
-use crate::refusal::{FileFault, Refusal};
-use crate::say::ended;
 use crate::unwritten::Unwritten;
+use ice_command_parts::{FileFault, Refusal, ended, fetch};
 use ice_edge::{Shelf, Sink, Status};
 use ice_statement::{StatementEnd, judge, put_statement};
 use std::alloc::Global;

@@ -1,10 +1,10 @@
 //! Why a command writes nothing of a journal.
-ghost use Rattle.ice_commands.specs.Parts.{IsSaid};
+ghost use Rattle.ice_command_parts.specs.Parts.{IsSaid};
 ghost use Rattle.ice_commands.specs.Unwritten.{unwritten_text, unwritten_status};
 
 use crate::answer::say_answer;
-use crate::refusal::Refusal;
 use ice_check::{Answer, Rule};
+use ice_command_parts::Refusal;
 use ice_edge::{Sink, Status};
 
 /// Why nothing is written of a journal.

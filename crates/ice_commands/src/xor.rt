@@ -2,15 +2,13 @@
 ghost use Rattle.std.specs.Prelude.{◌≡◌, ◌++◌, ◌∷◌, [], ℕ, List, IfOk, IfErr, OnOk};
 ghost use Rattle.ice_read.specs.Written.{exchange_text};
 ghost use Rattle.ice_xor.specs.Translating.{translate_refusal};
-ghost use Rattle.ice_commands.specs.Keeping.{KeepsTold};
-ghost use Rattle.ice_commands.specs.Parts.{AreFetched, Serves};
-ghost use Rattle.ice_commands.specs.Refusals.{refusal_status, IsFaultOf, Refuses};
+ghost use Rattle.ice_command_parts.specs.Keeping.{KeepsTold};
+ghost use Rattle.ice_command_parts.specs.Parts.{AreFetched, Serves};
+ghost use Rattle.ice_command_parts.specs.Refusals.{refusal_status, IsFaultOf, Refuses};
 ghost use Rattle.ice_commands.specs.XorServed.{IsFlatFault, IsTranslation, IsTranslationOf, XorAnswers};
 ghost use Rattle.ice_commands.specs.XorParts.{IsBidderFault, IsMakerFault};
 
-use crate::files::{FILE_LIMIT, fetch, place_refusal};
-use crate::refusal::{FileFault, Refusal};
-use crate::say::ended;
+use ice_command_parts::{FILE_LIMIT, FileFault, Refusal, ended, fetch, place_refusal};
 use ice_edge::{Shelf, Sink, Status};
 use ice_read::{Place, write_exchange};
 use ice_trade::Exchange;

@@ -23,8 +23,8 @@ use Rattle.ice_round.proofs.GoingOn.{more_rounds}
 use Rattle.ice_session_laws.specs.Running.{IsRunning}
 use Rattle.ice_session_laws.specs.Written.{begun_records, run_records, round_records}
 use Rattle.ice_session_laws.proofs.Rounds.{run_begins, round_ends, goings_more}
-use Rattle.ice_commands.specs.Journals.{WritesBehind}
-use Rattle.ice_commands.proofs.Writing.{nothing_more, failed_piece, piece_then}
+use Rattle.ice_command_parts.specs.Journals.{WritesBehind}
+use Rattle.ice_command_parts.proofs.Writing.{nothing_more, failed_piece, piece_then}
 use Rattle.ice_session_commands.specs.declared.source.Source.{Source}
 use Rattle.ice_session_commands.specs.SessionEnds.{EndsSettling, without_memory}
 use Rattle.ice_session_commands.specs.Sources.{LeadsTo, MayBegin, IsLeft, MayGive, Gives}

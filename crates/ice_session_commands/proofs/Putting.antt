@@ -6,8 +6,8 @@ use Rattle.ice_edge.specs.Taken.{Taken}
 use Rattle.ice_journal.specs.Records.{Record}
 use Rattle.ice_journal.specs.Spelling.{line_of}
 use Rattle.ice_journal.specs.Journal.{bytes_of}
-use Rattle.ice_commands.specs.Journals.{WritesBehind}
-use Rattle.ice_commands.specs.Parts.{IsSaid}
+use Rattle.ice_command_parts.specs.Journals.{WritesBehind}
+use Rattle.ice_command_parts.specs.Parts.{IsSaid}
 
 pub said_piece : (front : List Record) (P : List Record → Status → Type 0) (piece : List Record) (status result : Status) (old new : Taken) → P (front ++ piece) status → IsSaid (bytes_of piece) status old new result
     → WritesBehind front P old new result

@@ -19,8 +19,8 @@ use Rattle.ice_read.specs.Values.{value_of, array_of, text_of, whole_of, in_rang
 use Rattle.ice_read.specs.TreeFile.{value_at}
 use Rattle.ice_read.specs.RoundFile.{values_at, name_at, bid_at, bids_at, bids_of_value}
 use Rattle.ice_read.specs.ExchangeFile.{of_json}
-use Rattle.ice_commands.specs.Call.{Call, file_limit, IsRefused, too_long, at_fault}
-use Rattle.ice_commands.specs.Files.{IsRoundFault}
+use Rattle.ice_command_parts.specs.Call.{Call, file_limit, IsRefused, too_long, at_fault}
+use Rattle.ice_command_parts.specs.Files.{IsRoundFault}
 
 -- ---- places
 

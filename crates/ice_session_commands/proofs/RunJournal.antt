@@ -37,15 +37,15 @@ use Rattle.ice_round.proofs.GoingOn.{more_rounds}
 use Rattle.ice_session_laws.proofs.Sessions.{run_is_unended, run_closes}
 use Rattle.ice_session_laws.proofs.RoundStops.{round_is_unended, round_stops, round_stays_open}
 use Rattle.ice_branch_laws.specs.Branches.{enough_for_session}
-use Rattle.ice_commands.specs.declared.refusal.Refusal.{Refusal}
-use Rattle.ice_commands.specs.declared.refusal.Refusal.TheVariants as refusal
-use Rattle.ice_commands.specs.Call.{Call, FaultRose, file_limit, OfFile, IsRefused}
-use Rattle.ice_commands.specs.Files.{IsExchangeOf, IsExchangeFault, HoldsExchange, IsRoundFault}
-use Rattle.ice_commands.specs.Journals.{WritesBehind}
-use Rattle.ice_commands.specs.Lines.{refused_line, unread_line}
-use Rattle.ice_commands.specs.Parts.{Answers, Serves}
-use Rattle.ice_commands.specs.Refusals.{fault_of, refusal_text, refusal_status, Refuses}
-use Rattle.ice_commands.proofs.Parts.{told_in_call, told_also}
+use Rattle.ice_command_parts.specs.declared.refusal.Refusal.{Refusal}
+use Rattle.ice_command_parts.specs.declared.refusal.Refusal.TheVariants as refusal
+use Rattle.ice_command_parts.specs.Call.{Call, FaultRose, file_limit, OfFile, IsRefused}
+use Rattle.ice_command_parts.specs.Files.{IsExchangeOf, IsExchangeFault, HoldsExchange, IsRoundFault}
+use Rattle.ice_command_parts.specs.Journals.{WritesBehind}
+use Rattle.ice_command_parts.specs.Lines.{refused_line, unread_line}
+use Rattle.ice_command_parts.specs.Parts.{Answers, Serves}
+use Rattle.ice_command_parts.specs.Refusals.{fault_of, refusal_text, refusal_status, Refuses}
+use Rattle.ice_command_parts.proofs.Parts.{told_in_call, told_also}
 use Rattle.ice_session_commands.specs.Rounds.{rounds_in, BeginsRound, HasRoundsOf, submissions_of, AreRoundsOf, IsRunSoFar}
 use Rattle.ice_session_commands.specs.RunServed.{IsRunText, nothing, of_journal, RunAnswers}
 use Rattle.ice_session_commands.specs.RunServed as served

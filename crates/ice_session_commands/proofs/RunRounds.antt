@@ -34,9 +34,9 @@ use Rattle.ice_price.specs.declared.ends.PriceLimit.{PriceLimit}
 use Rattle.ice_round.specs.SessionAt.{SessionAt}
 use Rattle.ice_write_session.specs.Records.{member_record, spent_records, limit_records}
 use Rattle.ice_session_laws.specs.Written.{begun_records, run_records, round_records}
-use Rattle.ice_commands.specs.Call.{Call, file_limit, IsPrefix}
+use Rattle.ice_command_parts.specs.Call.{Call, file_limit, IsPrefix}
 use Rattle.ice_session_commands.specs.Rounds.{submissions_before_next, rounds_in, OfBids, BeginsRound, HasRoundsOf, submissions_of, AreRoundsOf}
-use Rattle.ice_commands.proofs.Parts.{told_also}
+use Rattle.ice_command_parts.proofs.Parts.{told_also}
 
 -- ---- records that neither settle nor submit
 

@@ -42,15 +42,15 @@ use Rattle.ice_proxy_laws.specs.Journals.{SubmitsProxies}
 use Rattle.ice_proxy_laws.specs.Laws.{IsQuiet, IsProxyFront, IsRest, nothing, begins, goes_on}
 use Rattle.ice_proxy_laws.proofs.Written.{run_submits_proxies}
 use Rattle.ice_simulation.specs.TruthFile.{truth_lists}
-use Rattle.ice_commands.specs.declared.refusal.Refusal.{Refusal}
-use Rattle.ice_commands.specs.declared.refusal.Refusal.TheVariants as refusal
-use Rattle.ice_commands.specs.Call.{Call, file_limit, OfFile}
-use Rattle.ice_commands.specs.Files.{IsExchangeOf, IsExchangeFault, HoldsExchange}
-use Rattle.ice_commands.specs.Journals.{WritesBehind}
-use Rattle.ice_commands.specs.Lines.{refused_line, unread_line}
-use Rattle.ice_commands.specs.Parts.{Answers, Serves}
-use Rattle.ice_commands.specs.Refusals.{fault_of, refusal_text, refusal_status, Refuses, exchange_unread, other_unread}
-use Rattle.ice_commands.proofs.Parts.{told_in_call, told_also}
+use Rattle.ice_command_parts.specs.declared.refusal.Refusal.{Refusal}
+use Rattle.ice_command_parts.specs.declared.refusal.Refusal.TheVariants as refusal
+use Rattle.ice_command_parts.specs.Call.{Call, file_limit, OfFile}
+use Rattle.ice_command_parts.specs.Files.{IsExchangeOf, IsExchangeFault, HoldsExchange}
+use Rattle.ice_command_parts.specs.Journals.{WritesBehind}
+use Rattle.ice_command_parts.specs.Lines.{refused_line, unread_line}
+use Rattle.ice_command_parts.specs.Parts.{Answers, Serves}
+use Rattle.ice_command_parts.specs.Refusals.{fault_of, refusal_text, refusal_status, Refuses, exchange_unread, other_unread}
+use Rattle.ice_command_parts.proofs.Parts.{told_in_call, told_also}
 use Rattle.ice_session_commands.specs.TruthParts.{AreTruthsOf, IsTruthFault, HoldsTruths, OfTruths}
 use Rattle.ice_session_commands.specs.SimulateServed.{IsSimulatedSoFar, IsSimulatedText, of_journal, exchange_refused, truths_refused, IsProxied, SimulateAnswers}
 use Rattle.ice_session_commands.specs.SimulateServed as served

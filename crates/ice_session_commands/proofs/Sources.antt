@@ -23,15 +23,15 @@ use Rattle.ice_proxy_laws.specs.Laws.{IsProxyFront}
 use Rattle.ice_simulation.specs.TruthFile.{truth_lists}
 use Rattle.ice_simulation.specs.Rounds.{AreProxyBidsIn}
 use Rattle.ice_simulation.proofs.Running.{round_stands, proxy_round_goes_on, proxy_round_ends}
-use Rattle.ice_commands.specs.declared.refusal.Refusal.{Refusal}
-use Rattle.ice_commands.specs.declared.refusal.Refusal.TheVariants as refusal
-use Rattle.ice_commands.specs.Call.{Call, file_limit, OfTold, IsPrefix}
-use Rattle.ice_commands.specs.Files.{IsRoundFault, HoldsBids}
-use Rattle.ice_commands.specs.Journals.{WritesBehind}
-use Rattle.ice_commands.specs.Parts.{HasPart, IsSaid}
-use Rattle.ice_commands.specs.Refusals.{fault_of, refusal_text, refusal_status, Refuses}
-use Rattle.ice_commands.proofs.Parts.{later_part, told_in_call, told_also}
-use Rattle.ice_commands.proofs.Writing.{nothing_more}
+use Rattle.ice_command_parts.specs.declared.refusal.Refusal.{Refusal}
+use Rattle.ice_command_parts.specs.declared.refusal.Refusal.TheVariants as refusal
+use Rattle.ice_command_parts.specs.Call.{Call, file_limit, OfTold, IsPrefix}
+use Rattle.ice_command_parts.specs.Files.{IsRoundFault, HoldsBids}
+use Rattle.ice_command_parts.specs.Journals.{WritesBehind}
+use Rattle.ice_command_parts.specs.Parts.{HasPart, IsSaid}
+use Rattle.ice_command_parts.specs.Refusals.{fault_of, refusal_text, refusal_status, Refuses}
+use Rattle.ice_command_parts.proofs.Parts.{later_part, told_in_call, told_also}
+use Rattle.ice_command_parts.proofs.Writing.{nothing_more}
 use Rattle.ice_session_commands.specs.declared.source.Source.{Source}
 use Rattle.ice_session_commands.specs.declared.source.Source.TheVariants.{Files, Proxies}
 use Rattle.ice_session_commands.specs.Rounds.{OfBids, BeginsRound, submissions_of, AreRoundsOf}

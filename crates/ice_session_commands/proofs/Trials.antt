@@ -46,9 +46,9 @@ use Rattle.ice_trial.specs.declared.trial.TruthRound.{TruthRound}
 use Rattle.ice_trial.specs.Summaries.{AreFinal, bounds_at, IsSummary}
 use Rattle.ice_trial.specs.Rounds.{accepted, goings_of, IsTruthRound}
 use Rattle.ice_trial.specs.Ends.{IsTrial}
-use Rattle.ice_commands.specs.Call.{IsPrefix}
+use Rattle.ice_command_parts.specs.Call.{IsPrefix}
 use Rattle.ice_session_commands.specs.Rounds.{rounds_in, submissions_of}
-use Rattle.ice_commands.specs.Parts.{Serves}
+use Rattle.ice_command_parts.specs.Parts.{Serves}
 use Rattle.ice_session_commands.specs.GenServed.{Says, summary_text, AreTruthRounds, GenStops, GenAnswers}
 use Rattle.ice_session_commands.specs.GenJournal.{accepted_text, first_records, trial_records}
 use Rattle.ice_session_commands.proofs.Settling.{halt_at, halt_at_prices}

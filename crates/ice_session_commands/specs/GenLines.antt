@@ -5,7 +5,7 @@ use Rattle.ice_journal.specs.Spelling.{fraction_text}
 use Rattle.ice_trial.specs.declared.summary.Summary.{Summary}
 use Rattle.ice_session_commands.specs.declared.summary_line.SummaryLine.{SummaryLine}
 use Rattle.ice_session_commands.specs.declared.summary_line.SummaryLine.TheVariants as line
-use Rattle.ice_commands.specs.Lines.{line_text}
+use Rattle.ice_command_parts.specs.Lines.{line_text}
 
 abbrev pub summary_line : SummaryLine → List ℕ
 summary_line (line.Generated number) = line_text (codes "gen" ∷ decimal number ∷ [])

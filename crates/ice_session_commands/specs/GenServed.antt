@@ -18,9 +18,9 @@ use Rattle.ice_gen.specs.Generated.{generated, truths}
 use Rattle.ice_trial.specs.Truths.{truth_bids}
 use Rattle.ice_trial.specs.declared.summary.Summary.{Summary}
 use Rattle.ice_trial.specs.Summaries.{IsSummary}
-use Rattle.ice_commands.specs.Call.{IsPrefix}
-use Rattle.ice_commands.specs.Lines.{line_text}
-use Rattle.ice_commands.specs.Parts.{IsSaid}
+use Rattle.ice_command_parts.specs.Call.{IsPrefix}
+use Rattle.ice_command_parts.specs.Lines.{line_text}
+use Rattle.ice_command_parts.specs.Parts.{IsSaid}
 use Rattle.ice_session_commands.specs.Rounds.{rounds_in}
 
 -- ---- the session closed

@@ -7,9 +7,9 @@ use Rattle.ice_journal.specs.Records.{Record, Kind}
 use Rattle.ice_journal.specs.Records as line
 use Rattle.ice_journal_laws.specs.SoFar.{IsSoFar}
 use Rattle.ice_read.specs.RoundFile.{bids_of}
-use Rattle.ice_commands.specs.Call.{Call, file_limit, OfFile, IsPrefix}
-use Rattle.ice_commands.specs.Files.{IsExchangeOf}
-use Rattle.ice_commands.specs.Journals.{HasExchangeOf}
+use Rattle.ice_command_parts.specs.Call.{Call, file_limit, OfFile, IsPrefix}
+use Rattle.ice_command_parts.specs.Files.{IsExchangeOf}
+use Rattle.ice_command_parts.specs.Journals.{HasExchangeOf}
 
 abbrev pub submissions_before_next : List Record → List Submission
 submissions_before_next [] = []

@@ -11,9 +11,9 @@ use Rattle.ice_journal.specs.Records as line
 use Rattle.ice_round.specs.SessionAt.{SessionAt, RoundAt}
 use Rattle.ice_session_laws.specs.Running.{IsRunning, IsInRound}
 use Rattle.ice_session_laws.specs.Written.{round_records}
-use Rattle.ice_commands.specs.Call.{Call, FaultRose, file_limit, IsRefused}
-use Rattle.ice_commands.specs.Files.{IsRoundFault}
-use Rattle.ice_commands.specs.Parts.{HasPart}
+use Rattle.ice_command_parts.specs.Call.{Call, FaultRose, file_limit, IsRefused}
+use Rattle.ice_command_parts.specs.Files.{IsRoundFault}
+use Rattle.ice_command_parts.specs.Parts.{HasPart}
 use Rattle.ice_session_commands.specs.Rounds.{BeginsRound, submissions_of, AreRoundsOf}
 use Rattle.ice_session_commands.specs.SessionEnds.{EndsSettling}
 

@@ -18,8 +18,8 @@ use Rattle.ice_round.specs.SessionAt.{SessionAt, RoundAt, session_after}
 use Rattle.ice_session_laws.specs.Running.{IsRunning, IsInRound}
 use Rattle.ice_session_laws.specs.Written.{run_records, round_records}
 use Rattle.ice_trial.specs.Rounds.{submissions_in, GoesOnBy}
-use Rattle.ice_commands.specs.Call.{IsPrefix}
-use Rattle.ice_commands.specs.Journals.{WritesBehind}
+use Rattle.ice_command_parts.specs.Call.{IsPrefix}
+use Rattle.ice_command_parts.specs.Journals.{WritesBehind}
 use Rattle.ice_session_commands.specs.declared.source.Source.{Source}
 use Rattle.ice_session_commands.specs.SessionEnds.{EndsSettling}
 use Rattle.ice_session_commands.specs.RunJournal.{RunsTo}

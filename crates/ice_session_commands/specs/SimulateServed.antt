@@ -22,11 +22,11 @@ use Rattle.ice_proxy.specs.Sessions.{IsProxySession, HoldThroughout, AreAccepted
 use Rattle.ice_proxy.specs.Laws.{NoTradeBeatsAtTruths}
 use Rattle.ice_proxy_laws.specs.Journals.{SubmitsProxies}
 use Rattle.ice_simulation.specs.TruthFile.{truth_lists}
-use Rattle.ice_commands.specs.Call.{Call, file_limit, OfFile, IsRefused}
-use Rattle.ice_commands.specs.Files.{IsExchangeOf, IsExchangeFault}
-use Rattle.ice_commands.specs.Lines.{refused_line}
-use Rattle.ice_commands.specs.Journals.{HasExchangeOf, HasFewerThan}
-use Rattle.ice_commands.specs.Refusals.{IsOneUnread}
+use Rattle.ice_command_parts.specs.Call.{Call, file_limit, OfFile, IsRefused}
+use Rattle.ice_command_parts.specs.Files.{IsExchangeOf, IsExchangeFault}
+use Rattle.ice_command_parts.specs.Lines.{refused_line}
+use Rattle.ice_command_parts.specs.Journals.{HasExchangeOf, HasFewerThan}
+use Rattle.ice_command_parts.specs.Refusals.{IsOneUnread}
 use Rattle.ice_session_commands.specs.Rounds.{HasRounds}
 use Rattle.ice_session_commands.specs.TruthParts.{IsTruthFault, OfTruths}
 

@@ -10,7 +10,7 @@ use Rattle.ice_round.specs.SessionAt.{SessionAt, RoundAt}
 use Rattle.ice_proxy.specs.Sessions.{IsProxyFrom, HoldTruths}
 use Rattle.ice_simulation.specs.TruthFile.{truth_lists}
 use Rattle.ice_simulation.specs.Rounds.{Stands, AreProxyBidsIn}
-use Rattle.ice_commands.specs.Files.{HoldsBids}
+use Rattle.ice_command_parts.specs.Files.{HoldsBids}
 use Rattle.ice_session_commands.specs.declared.source.Source.{Source}
 use Rattle.ice_session_commands.specs.declared.source.Source.TheVariants.{Files, Proxies}
 use Rattle.ice_session_commands.specs.Rounds.{submissions_of}

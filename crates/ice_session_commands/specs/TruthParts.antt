@@ -6,7 +6,7 @@ use Rattle.ice_defs.specs.Round.{Submission}
 use Rattle.ice_defs.specs.Exchange.{Exchange}
 use Rattle.ice_read.specs.RoundFile.{bids_of}
 use Rattle.ice_simulation.specs.TruthFile.{truth_fault}
-use Rattle.ice_commands.specs.Call.{Call, file_limit, OfTold, OfFile}
+use Rattle.ice_command_parts.specs.Call.{Call, file_limit, OfTold, OfFile}
 
 -- bids that have no fault as true values
 abbrev pub AreTruthsOf : Exchange → List ℕ → List Submission → Type 0

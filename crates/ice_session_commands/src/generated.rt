@@ -3,7 +3,7 @@ ghost use Rattle.ice_session_commands.specs.GenServed.{GenAnswers, Says};
 
 use crate::summary::put_summary;
 use crate::trial_journal::{put_limited_trial, put_spent_trial};
-use ice_commands::ended;
+use ice_command_parts::ended;
 use ice_edge::{Sink, Status};
 use ice_trial::{TrialEnd, try_generated};
 use std::alloc::Global;

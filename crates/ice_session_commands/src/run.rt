@@ -1,12 +1,12 @@
 //! The session of an exchange, with the bids of round files.
 ghost use Rattle.std.specs.Prelude.{◌≤◌, length, map, string_bytes};
-ghost use Rattle.ice_commands.specs.Keeping.{KeepsTold};
-ghost use Rattle.ice_commands.specs.Parts.{Serves};
+ghost use Rattle.ice_command_parts.specs.Keeping.{KeepsTold};
+ghost use Rattle.ice_command_parts.specs.Parts.{Serves};
 ghost use Rattle.ice_session_commands.specs.RunServed.{RunAnswers};
 
 use crate::session::hold_session;
 use crate::source::Source;
-use ice_commands::read_exchange;
+use ice_command_parts::read_exchange;
 use ice_edge::{Shelf, Sink, Status};
 use std::alloc::Global;
 

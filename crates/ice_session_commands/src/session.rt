@@ -3,8 +3,8 @@ ghost use Rattle.std.specs.Prelude.{[], List, IfOk, IfErr};
 ghost use Rattle.ice_defs.specs.Session.{Going};
 ghost use Rattle.ice_edge.specs.Told.{IsLater};
 ghost use Rattle.ice_session_laws.specs.Running.{IsRunning};
-ghost use Rattle.ice_commands.specs.Journals.{WritesBehind};
-ghost use Rattle.ice_commands.specs.Keeping.{KeepsTold};
+ghost use Rattle.ice_command_parts.specs.Journals.{WritesBehind};
+ghost use Rattle.ice_command_parts.specs.Keeping.{KeepsTold};
 ghost use Rattle.ice_session_commands.specs.Sources.{LeadsTo, MayBegin, IsLeft};
 ghost use Rattle.ice_session_commands.specs.SessionSteps.{EndsRound, FailsInRound, Plays};
 

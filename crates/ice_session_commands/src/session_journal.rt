@@ -11,10 +11,10 @@ ghost use Rattle.ice_write_session.specs.Records.{closing_records, halt_records,
 ghost use Rattle.ice_write_session.specs.Writable.{IsWritable, IsWritableClosing, IsWritableHalt, IsWritableLimit};
 ghost use Rattle.ice_session_laws.specs.Running.{IsRunning};
 ghost use Rattle.ice_session_laws.specs.Written.{begun_records};
-ghost use Rattle.ice_commands.specs.Parts.{IsSaid};
+ghost use Rattle.ice_command_parts.specs.Parts.{IsSaid};
 ghost use Rattle.ice_session_commands.specs.SessionSteps.{Judges, OpensRound, EndsHere};
 
-use ice_commands::ended;
+use ice_command_parts::ended;
 use ice_edge::{Sink, SinkFault, Status};
 use ice_journal::{Kind, Line, Version};
 use ice_price::PriceLimit;

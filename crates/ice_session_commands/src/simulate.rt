@@ -1,12 +1,12 @@
 //! The session of an exchange, in which each bidder has a proxy.
-ghost use Rattle.ice_commands.specs.Keeping.{KeepsTold};
-ghost use Rattle.ice_commands.specs.Parts.{Serves};
+ghost use Rattle.ice_command_parts.specs.Keeping.{KeepsTold};
+ghost use Rattle.ice_command_parts.specs.Parts.{Serves};
 ghost use Rattle.ice_session_commands.specs.SimulateServed.{SimulateAnswers};
 
 use crate::session::hold_session;
 use crate::source::Source;
 use crate::truths::read_truths;
-use ice_commands::read_exchange;
+use ice_command_parts::read_exchange;
 use ice_edge::{Shelf, Sink, Status};
 use std::alloc::Global;
 

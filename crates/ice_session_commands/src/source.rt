@@ -4,13 +4,13 @@ ghost use Rattle.ice_edge.specs.Told.{IsLater};
 ghost use Rattle.ice_journal.specs.Records as line;
 ghost use Rattle.ice_journal.specs.Records.{open_end};
 ghost use Rattle.ice_journal.specs.Spelling.{line_of};
-ghost use Rattle.ice_commands.specs.Files.{HoldsBids};
-ghost use Rattle.ice_commands.specs.Keeping.{KeepsTold};
-ghost use Rattle.ice_commands.specs.Parts.{IsSaid};
+ghost use Rattle.ice_command_parts.specs.Files.{HoldsBids};
+ghost use Rattle.ice_command_parts.specs.Keeping.{KeepsTold};
+ghost use Rattle.ice_command_parts.specs.Parts.{IsSaid};
 ghost use Rattle.ice_session_commands.specs.Sources.{MayGive, Gives};
 ghost use Rattle.ice_session_commands.specs.SessionSteps.{EndsInRound, LacksFile};
 
-use ice_commands::{ended, read_round};
+use ice_command_parts::{ended, read_round};
 use ice_edge::{Shelf, Sink, Status};
 use ice_journal::{EndWord, Line};
 use ice_round::InRound;

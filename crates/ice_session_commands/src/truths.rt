@@ -5,11 +5,11 @@ ghost use Rattle.ice_defs.specs.Exchange.{opening_bounds};
 ghost use Rattle.ice_proxy.specs.Sessions.{HoldTruths};
 ghost use Rattle.ice_simulation.specs.Faults.{fault_of};
 ghost use Rattle.ice_simulation.specs.TruthFile.{truth_lists};
-ghost use Rattle.ice_commands.specs.Keeping.{KeepsTold};
-ghost use Rattle.ice_commands.specs.Refusals.{refusal_status, IsFaultOf, Refuses};
+ghost use Rattle.ice_command_parts.specs.Keeping.{KeepsTold};
+ghost use Rattle.ice_command_parts.specs.Refusals.{refusal_status, IsFaultOf, Refuses};
 ghost use Rattle.ice_session_commands.specs.TruthParts.{AreTruthsOf, IsTruthFault, HoldsTruths};
 
-use ice_commands::{FILE_LIMIT, FileFault, Refusal, fetch, place_refusal};
+use ice_command_parts::{FILE_LIMIT, FileFault, Refusal, fetch, place_refusal};
 use ice_edge::Shelf;
 use ice_read::{Place, read_round};
 use ice_simulation::{TruthFault, truth_fault};

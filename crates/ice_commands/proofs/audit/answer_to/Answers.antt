@@ -1,7 +1,7 @@
 use Rattle.ice_commands.specs.AuditServed.{IsAuditFault}
 use Rattle.ice_commands.specs.AuditParts.{IsAuditEnd}
 use Rattle.ice_commands.proofs.Auditing.{end_is_fault}
-use Rattle.ice_commands.proofs.Refusing.{fault_anyway}
+use Rattle.ice_command_parts.proofs.Refusing.{fault_anyway}
 use Rattle.ice_commands.proofs.audit.answer_to.Goals as goal
 
 pub returns-in-Err-clause-refusal : goal.returns-in-Err-clause-refusal

@@ -3,8 +3,8 @@ use Rattle.ice_edge.specs.declared.status.Status.TheVariants.{Done}
 use Rattle.ice_commands.specs.declared.best_set.BestSet.{BestSet}
 use Rattle.ice_commands.specs.Bests.{best_text}
 use Rattle.ice_commands.specs.BestFound.{AreBestOf}
-use Rattle.ice_commands.specs.Refusals.{refusal_text, refusal_status}
-use Rattle.ice_commands.proofs.Writing.{put_said}
+use Rattle.ice_command_parts.specs.Refusals.{refusal_text, refusal_status}
+use Rattle.ice_command_parts.proofs.Writing.{put_said}
 use Rattle.ice_commands.proofs.Besting.{sets_answer, refusal_answers}
 use Rattle.ice_commands.proofs.best.best.Goals as goal
 

@@ -3,11 +3,11 @@ use Rattle.std.proofs.lemmas.List.{length-map}
 use Rattle.std.proofs.lemmas.Result.{err_from_is_err_and}
 use Rattle.ice_defs.specs.Exchange.{Good, exact_of}
 use Rattle.ice_section.specs.LineFile.{IsPricesOfLines}
-use Rattle.ice_commands.specs.Call.{file_limit}
-use Rattle.ice_commands.specs.Files.{IsExchangeOf, IsPricesFault, HoldsPrices}
-use Rattle.ice_commands.specs.Refusals.{IsRefusal}
+use Rattle.ice_command_parts.specs.Call.{file_limit}
+use Rattle.ice_command_parts.specs.Files.{IsExchangeOf, IsPricesFault, HoldsPrices}
+use Rattle.ice_command_parts.specs.Refusals.{IsRefusal}
 use Rattle.ice_commands.specs.BestFound.{at_prices}
-use Rattle.ice_commands.proofs.Parts.{later_part, told_in_call, told_before}
+use Rattle.ice_command_parts.proofs.Parts.{later_part, told_in_call, told_before}
 use Rattle.ice_commands.proofs.best.best_of_files.Goals as goal
 
 pub returns-in_err-prices-clause-refusal : goal.returns-in_err-prices-clause-refusal

@@ -1,5 +1,5 @@
 use Rattle.ice_commands.specs.CheckServed.{IsEndFault, IsCheckFault}
-use Rattle.ice_commands.proofs.Refusing.{fault_anyway}
+use Rattle.ice_command_parts.proofs.Refusing.{fault_anyway}
 use Rattle.ice_commands.proofs.check.answer_to.Goals as goal
 
 pub returns-in-Err-clause-refusal : goal.returns-in-Err-clause-refusal

@@ -3,7 +3,7 @@ use Rattle.ice_edge.specs.declared.status.Status.TheVariants.{Limit}
 use Rattle.ice_defs.specs.Lawful.{IsExchange}
 use Rattle.ice_journal.specs.Journal.{bytes_of}
 use Rattle.ice_write_session.specs.Records.{limit_records}
-use Rattle.ice_commands.proofs.Writing.{put_said}
+use Rattle.ice_command_parts.proofs.Writing.{put_said}
 use Rattle.ice_commands.proofs.FairWritable.{price_limit_may_be_written}
 use Rattle.ice_commands.proofs.fair_prices.say_price_limit.Goals as goal
 

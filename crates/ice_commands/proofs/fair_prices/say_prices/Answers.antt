@@ -2,7 +2,7 @@ use Rattle.std.proofs.Common.{subst}
 use Rattle.ice_edge.specs.declared.status.Status.TheVariants.{Done}
 use Rattle.ice_defs.specs.Lawful.{IsExchange}
 use Rattle.ice_write_fair.specs.Lines.{fair_lines}
-use Rattle.ice_commands.proofs.Writing.{put_said}
+use Rattle.ice_command_parts.proofs.Writing.{put_said}
 use Rattle.ice_commands.proofs.FairWritable.{fair_may_be_written}
 use Rattle.ice_commands.proofs.fair_prices.say_prices.Goals as goal
 

@@ -1,11 +1,11 @@
 use Rattle.std.proofs.Common.{ℕ, List, sym, subst}
 use Rattle.std.proofs.lemmas.Result.{err_from_is_err_and}
-use Rattle.ice_commands.specs.Call.{journal_limit}
+use Rattle.ice_command_parts.specs.Call.{journal_limit}
 use Rattle.ice_commands.specs.MigrateServed.{IsMigrateFault}
 use Rattle.ice_commands.specs.MigrateParts.{AreFailing}
-use Rattle.ice_commands.specs.Parts.{AreFetched}
+use Rattle.ice_command_parts.specs.Parts.{AreFetched}
 use Rattle.ice_commands.proofs.Unwriting.{unwritten_file}
-use Rattle.ice_commands.proofs.Refusing.{not_had}
+use Rattle.ice_command_parts.proofs.Refusing.{not_had}
 use Rattle.ice_commands.proofs.migrate.journal_of.Goals as goal
 
 pub returns-in-Err-clause-unwritten : goal.returns-in-Err-clause-unwritten

@@ -1,7 +1,7 @@
 use Rattle.std.proofs.Common.{ℕ, List, sym, subst}
-use Rattle.ice_commands.specs.Call.{journal_limit}
+use Rattle.ice_command_parts.specs.Call.{journal_limit}
 use Rattle.ice_commands.specs.Unwritten.{unwritten_text, unwritten_status}
-use Rattle.ice_commands.specs.Parts.{AreFetched}
+use Rattle.ice_command_parts.specs.Parts.{AreFetched}
 use Rattle.ice_commands.proofs.Migrating.{journal_serves, unwritten_answers}
 use Rattle.ice_commands.proofs.migrate.migrate.Goals as goal
 

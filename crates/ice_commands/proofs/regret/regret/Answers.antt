@@ -1,4 +1,4 @@
-use Rattle.ice_commands.specs.Refusals.{refusal_text, refusal_status}
+use Rattle.ice_command_parts.specs.Refusals.{refusal_text, refusal_status}
 use Rattle.ice_commands.proofs.Regretting.{journal_serves, refusal_answers}
 use Rattle.ice_commands.proofs.regret.regret.Goals as goal
 

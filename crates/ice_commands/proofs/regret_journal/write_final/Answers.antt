@@ -9,7 +9,7 @@ use Rattle.ice_regret.specs.Regretted.{lower_search}
 use Rattle.ice_write_session.specs.Records.{spent_records}
 use Rattle.ice_commands.specs.RegretJournal.{begun_records, IsRegretJournal, begins, final_spent}
 use Rattle.ice_commands.proofs.RegretJournal.{first_spent_writable}
-use Rattle.ice_commands.proofs.Writing.{nothing_more, last_piece}
+use Rattle.ice_command_parts.proofs.Writing.{nothing_more, last_piece}
 use Rattle.ice_commands.proofs.regret_journal.write_final.Goals as goal
 
 pub best_at_lower_values-requires-clause-bounds : goal.best_at_lower_values-requires-clause-bounds

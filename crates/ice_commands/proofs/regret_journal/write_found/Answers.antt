@@ -2,7 +2,7 @@ use Rattle.ice_edge.specs.declared.status.Status.TheVariants.{NoMemory}
 use Rattle.ice_write_session.specs.Records.{final_records}
 use Rattle.ice_commands.specs.RegretJournal.{begun_records, IsRegretJournal, has_final}
 use Rattle.ice_commands.proofs.RegretJournal.{final_writable}
-use Rattle.ice_commands.proofs.Writing.{failed_piece, piece_then}
+use Rattle.ice_command_parts.proofs.Writing.{failed_piece, piece_then}
 use Rattle.ice_commands.proofs.regret_journal.write_found.Goals as goal
 
 pub put_final-requires : goal.put_final-requires

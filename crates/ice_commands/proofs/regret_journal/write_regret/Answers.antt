@@ -1,7 +1,7 @@
 use Rattle.std.proofs.Common.{[]}
 use Rattle.ice_edge.specs.declared.status.Status.TheVariants.{NoMemory}
 use Rattle.ice_commands.specs.RegretJournal.{begun_records, IsRegretJournal, begins}
-use Rattle.ice_commands.proofs.Writing.{failed_piece, piece_then}
+use Rattle.ice_command_parts.proofs.Writing.{failed_piece, piece_then}
 use Rattle.ice_commands.proofs.regret_journal.write_regret.Goals as goal
 
 pub returns-in-Ok-clause-journal : goal.returns-in-Ok-clause-journal

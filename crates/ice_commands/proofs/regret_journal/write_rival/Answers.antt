@@ -9,7 +9,7 @@ use Rattle.ice_regret.specs.Regretted.{rival_search, IsRegretOf}
 use Rattle.ice_write_session.specs.Records.{final_records, spent_records}
 use Rattle.ice_commands.specs.RegretJournal.{begun_records, ending_records, IsRegretJournal, has_final, rival_spent, is_whole}
 use Rattle.ice_commands.proofs.RegretJournal.{regret_writable, second_spent_writable}
-use Rattle.ice_commands.proofs.Writing.{nothing_more, last_piece}
+use Rattle.ice_command_parts.proofs.Writing.{nothing_more, last_piece}
 use Rattle.ice_commands.proofs.regret_journal.write_rival.Goals as goal
 
 pub regret-requires-clause-bounds : goal.regret-requires-clause-bounds

@@ -1,4 +1,4 @@
-use Rattle.ice_commands.specs.Refusals.{refusal_text, refusal_status}
+use Rattle.ice_command_parts.specs.Refusals.{refusal_text, refusal_status}
 use Rattle.ice_commands.specs.Replaying.{found_text, found_status}
 use Rattle.ice_commands.proofs.Replayed.{found_answers, refusal_answers}
 use Rattle.ice_commands.proofs.replay.replay.Goals as goal

@@ -2,9 +2,9 @@ use Rattle.std.proofs.Common.{sym, subst}
 use Rattle.ice_edge.specs.declared.status.Status.TheVariants.{Done}
 use Rattle.ice_replay.specs.Lines.{replay_lines}
 use Rattle.ice_commands.specs.declared.replay.ReplayAnswer.{ReplayAnswer}
-use Rattle.ice_commands.specs.Parts.{IsSaid}
+use Rattle.ice_command_parts.specs.Parts.{IsSaid}
 use Rattle.ice_commands.specs.Replaying.{found_text, found_status}
-use Rattle.ice_commands.proofs.Writing.{put_said}
+use Rattle.ice_command_parts.proofs.Writing.{put_said}
 use Rattle.ice_commands.proofs.replay.say_found.Goals as goal
 
 pub returns-in-Settlement : goal.returns-in-Settlement

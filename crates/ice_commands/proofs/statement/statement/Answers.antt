@@ -1,10 +1,10 @@
 use Rattle.std.proofs.Common.{ℕ, List, sym, subst}
 use Rattle.ice_journal_laws.specs.Answers.{OfJournal}
 use Rattle.ice_statement.specs.Judging.{HasStatement}
-use Rattle.ice_commands.specs.Call.{journal_limit}
+use Rattle.ice_command_parts.specs.Call.{journal_limit}
 use Rattle.ice_commands.specs.StatementServed.{StatementAnswers}
 use Rattle.ice_commands.specs.Unwritten.{unwritten_text, unwritten_status}
-use Rattle.ice_commands.specs.Parts.{AreFetched, Serves}
+use Rattle.ice_command_parts.specs.Parts.{AreFetched, Serves}
 use Rattle.ice_commands.proofs.Stating.{statement_serves, unwritten_answers}
 use Rattle.ice_commands.proofs.statement.statement.Goals as goal
 

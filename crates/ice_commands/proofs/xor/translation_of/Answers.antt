@@ -1,9 +1,9 @@
 use Rattle.std.proofs.Common.{ℕ, List, sym, subst}
 use Rattle.std.proofs.lemmas.Result.{MatchResult-weaker, err_from_is_err_and}
-use Rattle.ice_commands.specs.Call.{file_limit}
+use Rattle.ice_command_parts.specs.Call.{file_limit}
 use Rattle.ice_commands.specs.XorServed.{IsFlatFault}
-use Rattle.ice_commands.specs.Parts.{AreFetched}
-use Rattle.ice_commands.proofs.Refusing.{not_had, fault_of_fetched}
+use Rattle.ice_command_parts.specs.Parts.{AreFetched}
+use Rattle.ice_command_parts.proofs.Refusing.{not_had, fault_of_fetched}
 use Rattle.ice_commands.proofs.xor.translation_of.Goals as goal
 
 pub returns-in_err-bytes-clause-refusal : goal.returns-in_err-bytes-clause-refusal

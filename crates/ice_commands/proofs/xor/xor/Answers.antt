@@ -1,9 +1,9 @@
 use Rattle.std.proofs.Common.{ℕ, List, sym, subst}
 use Rattle.ice_edge.specs.declared.status.Status.TheVariants.{Done}
-use Rattle.ice_commands.specs.Call.{file_limit}
-use Rattle.ice_commands.specs.Parts.{AreFetched}
+use Rattle.ice_command_parts.specs.Call.{file_limit}
+use Rattle.ice_command_parts.specs.Parts.{AreFetched}
 use Rattle.ice_commands.specs.XorServed.{IsTranslationOf}
-use Rattle.ice_commands.proofs.Writing.{put_said}
+use Rattle.ice_command_parts.proofs.Writing.{put_said}
 use Rattle.ice_commands.proofs.Translating.{line_answers}
 use Rattle.ice_commands.proofs.xor.xor.Goals as goal
 

@@ -12,7 +12,7 @@ use Rattle.ice_gen.specs.Generated.{generated, truths}
 use Rattle.ice_trial.specs.Rounds.{goings_of}
 use Rattle.ice_session_commands.specs.GenServed.{summary_text}
 use Rattle.ice_session_commands.specs.GenJournal.{trial_records}
-use Rattle.ice_commands.proofs.Writing.{put_said}
+use Rattle.ice_command_parts.proofs.Writing.{put_said}
 use Rattle.ice_session_commands.proofs.Trials.{first_writable, closed_answers, spent_answers, limited_answers}
 use Rattle.ice_session_commands.proofs.generated.generated.Goals as goal
 

@@ -1,9 +1,9 @@
 use Rattle.std.proofs.Common.{map}
 use Rattle.std.specs.Prelude.{string_bytes}
-use Rattle.ice_commands.specs.Refusals.{refusal_text, refusal_status}
-use Rattle.ice_commands.proofs.Parts.{later_part}
+use Rattle.ice_command_parts.specs.Refusals.{refusal_text, refusal_status}
+use Rattle.ice_command_parts.proofs.Parts.{later_part}
 use Rattle.ice_session_commands.proofs.RunJournal.{journal_serves, refusal_serves}
-use Rattle.ice_commands.proofs.Keeping.{kept_behind, refusal_keeps}
+use Rattle.ice_command_parts.proofs.Keeping.{kept_behind, refusal_keeps}
 use Rattle.ice_session_commands.proofs.run.run.Goals as goal
 
 pub returns-in-Ok-clause-served : goal.returns-in-Ok-clause-served

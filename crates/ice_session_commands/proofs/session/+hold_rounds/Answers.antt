@@ -2,8 +2,8 @@ use Rattle.std.proofs.Common.{◌<◌, ◌-◌, List, refl, subst, arith}
 use Rattle.ice_edge.specs.Taken.{Taken}
 use Rattle.ice_defs.specs.Round.{Submission}
 use Rattle.ice_session_commands.specs.SessionSteps.{EndsRound, FailsInRound}
-use Rattle.ice_commands.proofs.Parts.{later_refl, later_trans}
-use Rattle.ice_commands.proofs.Keeping.{kept_behind}
+use Rattle.ice_command_parts.proofs.Parts.{later_refl, later_trans}
+use Rattle.ice_command_parts.proofs.Keeping.{kept_behind}
 use Rattle.ice_session_commands.proofs.Playing.{plays_ends, plays_in_round, plays_fails, plays_on, round_may, played_next, fewer_left}
 use Rattle.ice_session_commands.proofs.session.+hold_rounds.Goals as goal
 

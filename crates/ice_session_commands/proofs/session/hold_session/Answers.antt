@@ -1,5 +1,5 @@
 use Rattle.std.proofs.Common.{refl}
-use Rattle.ice_commands.proofs.Parts.{later_refl}
+use Rattle.ice_command_parts.proofs.Parts.{later_refl}
 use Rattle.ice_session_commands.proofs.Playing.{begins, begins_played, begins_without_memory, begin_fails}
 use Rattle.ice_session_commands.proofs.session.hold_session.Goals as goal
 

@@ -1,7 +1,7 @@
 use Rattle.ice_edge.specs.declared.status.Status.TheVariants.{Done}
 use Rattle.ice_journal.specs.Journal.{bytes_of}
 use Rattle.ice_write_session.specs.Records.{closing_records}
-use Rattle.ice_commands.proofs.Writing.{put_said}
+use Rattle.ice_command_parts.proofs.Writing.{put_said}
 use Rattle.ice_session_commands.proofs.session_journal.close.Goals as goal
 
 pub returns : goal.returns

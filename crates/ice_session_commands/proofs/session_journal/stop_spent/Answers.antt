@@ -2,7 +2,7 @@ use Rattle.std.proofs.Common.{◌++◌}
 use Rattle.ice_edge.specs.declared.status.Status.TheVariants.{Spent}
 use Rattle.ice_journal.specs.Journal.{bytes_of}
 use Rattle.ice_write_session.specs.Records.{halt_records, spent_records}
-use Rattle.ice_commands.proofs.Writing.{put_said}
+use Rattle.ice_command_parts.proofs.Writing.{put_said}
 use Rattle.ice_session_commands.proofs.session_journal.stop_spent.Goals as goal
 
 pub returns-clause-said : goal.returns-clause-said

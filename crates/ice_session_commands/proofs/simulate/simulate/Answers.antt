@@ -4,10 +4,10 @@ use Rattle.ice_defs.specs.Round.{Submission}
 use Rattle.ice_defs.specs.Exchange.{opening_bounds}
 use Rattle.ice_proxy.specs.Sessions.{HoldTruths}
 use Rattle.ice_simulation.specs.TruthFile.{truth_lists}
-use Rattle.ice_commands.specs.Call.{file_limit}
-use Rattle.ice_commands.specs.Journals.{WritesBehind}
-use Rattle.ice_commands.specs.Refusals.{refusal_text, refusal_status, Refuses}
-use Rattle.ice_commands.proofs.Keeping.{kept_behind, refusal_keeps}
+use Rattle.ice_command_parts.specs.Call.{file_limit}
+use Rattle.ice_command_parts.specs.Journals.{WritesBehind}
+use Rattle.ice_command_parts.specs.Refusals.{refusal_text, refusal_status, Refuses}
+use Rattle.ice_command_parts.proofs.Keeping.{kept_behind, refusal_keeps}
 use Rattle.ice_session_commands.specs.TruthParts.{IsTruthFault, HoldsTruths}
 use Rattle.ice_session_commands.specs.SimulateJournal.{IsSimulatedJournal}
 use Rattle.ice_session_commands.proofs.SimulateJournal.{journal_serves, refusal_serves, truths_refusal_serves}

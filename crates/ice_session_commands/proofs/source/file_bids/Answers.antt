@@ -1,11 +1,11 @@
 use Rattle.std.proofs.Common.{◌∙◌, ◌+◌, ℕ, List, ◌∷◌, map, refl, sym, ap, subst, rules}
 use Rattle.std.specs.Prelude.{string_bytes}
 use Rattle.std.proofs.lemmas.List.{nil_from_length}
-use Rattle.ice_commands.specs.Call.{file_limit}
-use Rattle.ice_commands.specs.Files.{IsRoundFault}
-use Rattle.ice_commands.specs.Refusals.{Refuses}
-use Rattle.ice_commands.proofs.Parts.{later_refl}
-use Rattle.ice_commands.proofs.Keeping.{refusal_keeps}
+use Rattle.ice_command_parts.specs.Call.{file_limit}
+use Rattle.ice_command_parts.specs.Files.{IsRoundFault}
+use Rattle.ice_command_parts.specs.Refusals.{Refuses}
+use Rattle.ice_command_parts.proofs.Parts.{later_refl}
+use Rattle.ice_command_parts.proofs.Keeping.{refusal_keeps}
 use Rattle.ice_session_commands.specs.SessionSteps.{LacksFile}
 use Rattle.ice_session_commands.proofs.Sources.{open_lacks, refusal_lacks}
 use Rattle.ice_session_commands.proofs.source.file_bids.Goals as goal

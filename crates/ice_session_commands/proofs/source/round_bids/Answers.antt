@@ -1,6 +1,6 @@
 use Rattle.std.proofs.Common.{refl, sym, subst, map}
 use Rattle.std.specs.Prelude.{string_bytes}
-use Rattle.ice_commands.proofs.Parts.{later_refl}
+use Rattle.ice_command_parts.proofs.Parts.{later_refl}
 use Rattle.ice_session_commands.specs.declared.source.Source.{Source}
 use Rattle.ice_session_commands.specs.declared.source.Source.TheVariants.{Files}
 use Rattle.ice_session_commands.specs.Sources.{MayGive, Gives}

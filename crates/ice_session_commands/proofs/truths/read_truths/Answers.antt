@@ -1,8 +1,8 @@
 use Rattle.std.proofs.Common.{ℕ, List, sym, subst}
 use Rattle.std.proofs.lemmas.Result.{MatchResult-weaker, err_from_is_err_and}
-use Rattle.ice_commands.specs.Call.{file_limit}
-use Rattle.ice_commands.specs.Parts.{AreFetched}
-use Rattle.ice_commands.proofs.Refusing.{not_had, fault_of_fetched}
+use Rattle.ice_command_parts.specs.Call.{file_limit}
+use Rattle.ice_command_parts.specs.Parts.{AreFetched}
+use Rattle.ice_command_parts.proofs.Refusing.{not_had, fault_of_fetched}
 use Rattle.ice_session_commands.specs.TruthParts.{IsTruthFault}
 use Rattle.ice_session_commands.proofs.truths.read_truths.Goals as goal
 

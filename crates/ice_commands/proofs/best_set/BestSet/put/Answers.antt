@@ -5,7 +5,7 @@ use Rattle.ice_journal.specs.Records as line
 use Rattle.ice_journal.specs.Spelling.{line_of}
 use Rattle.ice_edge.specs.Puts.{IsPut, Takes, FailsIn}
 use Rattle.ice_write.proofs.Loops.{fails_as, first_fails, then_put}
-use Rattle.ice_commands.specs.Lines.{line_text}
+use Rattle.ice_command_parts.specs.Lines.{line_text}
 use Rattle.ice_commands.specs.Bests.{lines_of}
 use Rattle.ice_commands.proofs.best_set.BestSet.put.Goals as goal
 

@@ -3,10 +3,10 @@ use Rattle.std.proofs.Common.{◌≡◌, ◌∙◌, sym, subst, inl, inr}
 use Rattle.ice_edge.specs.Told.{Told}
 use Rattle.ice_edge.specs.declared.status.Status.{Status}
 use Rattle.ice_edge.specs.Taken.{Taken}
-use Rattle.ice_commands.specs.declared.refusal.Refusal.{Refusal}
-use Rattle.ice_commands.specs.Keeping.{KeepsTold}
-use Rattle.ice_commands.specs.Parts.{IsSaid}
-use Rattle.ice_commands.specs.Refusals.{refusal_text, refusal_status}
+use Rattle.ice_command_parts.specs.declared.refusal.Refusal.{Refusal}
+use Rattle.ice_command_parts.specs.Keeping.{KeepsTold}
+use Rattle.ice_command_parts.specs.Parts.{IsSaid}
+use Rattle.ice_command_parts.specs.Refusals.{refusal_text, refusal_status}
 
 -- after a part that kept it
 pub kept_behind : (before mid after : Told) (status : Status) → mid ≡ before → KeepsTold mid after status → KeepsTold before after status

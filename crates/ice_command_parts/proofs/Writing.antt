@@ -11,8 +11,8 @@ use Rattle.ice_edge.specs.Taken.{Taken}
 use Rattle.ice_journal.specs.Records.{Record}
 use Rattle.ice_journal.specs.Journal.{bytes_of}
 use Rattle.ice_journal.specs.Spelling.{line_of}
-use Rattle.ice_commands.specs.Parts.{IsSaid}
-use Rattle.ice_commands.specs.Journals.{WritesBehind}
+use Rattle.ice_command_parts.specs.Parts.{IsSaid}
+use Rattle.ice_command_parts.specs.Journals.{WritesBehind}
 
 -- a text that is put, and the status that the put's result gives
 pub put_said : (put : Result (Unit {0}) SinkFault) (text : List ℕ) (status result : Status) (old new : Taken) → IsPut text put old new → MatchResult put (λ done. result ≡ status) (λ fault. result ≡ WriteFault)

@@ -7,9 +7,9 @@ use Rattle.ice_journal.specs.Records.{Record, Kind, version_2}
 use Rattle.ice_journal.specs.Records as line
 use Rattle.ice_journal.specs.Journal.{bytes_of}
 use Rattle.ice_section.specs.Described.{section_records}
-use Rattle.ice_commands.specs.Call.{Call, file_limit, OfFile, IsPrefix}
-use Rattle.ice_commands.specs.Files.{IsExchangeOf}
-use Rattle.ice_commands.specs.Parts.{IsSaid}
+use Rattle.ice_command_parts.specs.Call.{Call, file_limit, OfFile, IsPrefix}
+use Rattle.ice_command_parts.specs.Files.{IsExchangeOf}
+use Rattle.ice_command_parts.specs.Parts.{IsSaid}
 
 -- one is a front of the other
 abbrev pub Agree : {X : Type 0} → List X → List X → Type 0

@@ -3,13 +3,13 @@ use Rattle.std.proofs.Common.{◌≡◌, refl, subst, ℕ, ◌<◌, List, length
 use Rattle.ice_defs.specs.FileFault.{FileFault}
 use Rattle.ice_edge.specs.Told.{Told, IsLonger}
 use Rattle.ice_edge.specs.Told as shelf
-use Rattle.ice_commands.specs.declared.refusal.FileFault.TheVariants.{TooLong}
-use Rattle.ice_commands.specs.declared.refusal.Refusal.{Refusal}
-use Rattle.ice_commands.specs.declared.refusal.Refusal.TheVariants.{File, Unread, NoMemory}
-use Rattle.ice_commands.specs.Call.{Call, IsRefused, too_long, at_fault}
-use Rattle.ice_commands.specs.Parts.{AreFetched}
-use Rattle.ice_commands.specs.Refusals.{fault_of, IsRefusal, Refuses, NoFault, IsFaultOf}
-use Rattle.ice_commands.proofs.Parts.{told_in_call}
+use Rattle.ice_command_parts.specs.declared.refusal.FileFault.TheVariants.{TooLong}
+use Rattle.ice_command_parts.specs.declared.refusal.Refusal.{Refusal}
+use Rattle.ice_command_parts.specs.declared.refusal.Refusal.TheVariants.{File, Unread, NoMemory}
+use Rattle.ice_command_parts.specs.Call.{Call, IsRefused, too_long, at_fault}
+use Rattle.ice_command_parts.specs.Parts.{AreFetched}
+use Rattle.ice_command_parts.specs.Refusals.{fault_of, IsRefusal, Refuses, NoFault, IsFaultOf}
+use Rattle.ice_command_parts.proofs.Parts.{told_in_call}
 use Rattle.ice_edge.proofs.Puts.{rose-later, rose-sooner}
 
 pub unread : (number : ℕ) (name : List ℕ) (limit : ℕ) (HasFault : List ℕ → FileFault → Type 0) (before after : Told)

@@ -2,8 +2,8 @@
 use Rattle.std.proofs.Common.{◌≡◌, ◌∙◌, refl, sym, subst, ℕ, ◌≤◌, List, length, Option, Some, None, IfSome, arith}
 use Rattle.std.proofs.lemmas.Option.{none-some}
 use Rattle.ice_edge.specs.Told.{Told, IsLater}
-use Rattle.ice_commands.specs.Call.{Call, OfTold, OfFile}
-use Rattle.ice_commands.specs.Parts.{HasPart}
+use Rattle.ice_command_parts.specs.Call.{Call, OfTold, OfFile}
+use Rattle.ice_command_parts.specs.Parts.{HasPart}
 
 -- ---- what is told
 

@@ -6,14 +6,14 @@ use Rattle.ice_edge.specs.Told.{Told}
 use Rattle.ice_defs.specs.Exchange.{Exchange}
 use Rattle.ice_defs.specs.FileFault.{FileFault, at_line}
 use Rattle.ice_read.specs.Places.{shown}
-use Rattle.ice_commands.specs.declared.refusal.FileFault as declared
-use Rattle.ice_commands.specs.declared.refusal.FileFault.TheVariants.{AtLine, AtPlace, OtherKind, NoSettlement, NoBidder, TooLong}
-use Rattle.ice_commands.specs.declared.refusal.Refusal.{Refusal}
-use Rattle.ice_commands.specs.declared.refusal.Refusal.TheVariants.{File, Unread, NoMemory}
-use Rattle.ice_commands.specs.Call.{Call, FaultRose, file_limit, OfFile, IsRefused}
-use Rattle.ice_commands.specs.Files.{IsExchangeOf}
-use Rattle.ice_commands.specs.Lines.{refused_line, unread_line}
-use Rattle.ice_commands.specs.Parts.{HasPart}
+use Rattle.ice_command_parts.specs.declared.refusal.FileFault as declared
+use Rattle.ice_command_parts.specs.declared.refusal.FileFault.TheVariants.{AtLine, AtPlace, OtherKind, NoSettlement, NoBidder, TooLong}
+use Rattle.ice_command_parts.specs.declared.refusal.Refusal.{Refusal}
+use Rattle.ice_command_parts.specs.declared.refusal.Refusal.TheVariants.{File, Unread, NoMemory}
+use Rattle.ice_command_parts.specs.Call.{Call, FaultRose, file_limit, OfFile, IsRefused}
+use Rattle.ice_command_parts.specs.Files.{IsExchangeOf}
+use Rattle.ice_command_parts.specs.Lines.{refused_line, unread_line}
+use Rattle.ice_command_parts.specs.Parts.{HasPart}
 
 -- faults of a file as a whole
 abbrev pub other_kind : FileFault

@@ -3,10 +3,10 @@ ghost use Rattle.std.specs.Prelude.{◌≡◌, IfOk, IfErr, OnOk, Ok as Found};
 ghost use Rattle.ice_section.specs.LineFile.{IsPricesOfLines};
 ghost use Rattle.ice_edge.specs.Told.{IsLater};
 ghost use Rattle.ice_read.specs.RoundFile.{bids_of as read_bids};
-ghost use Rattle.ice_commands.specs.Files.{is_line_form, IsExchangeOf, IsExchangeFault, IsPricesFault, IsRoundFault, HoldsExchange, HoldsPrices, HoldsBids, IsLineRefusal, IsPlaceRefusal};
-ghost use Rattle.ice_commands.specs.Keeping.{KeepsTold};
-ghost use Rattle.ice_commands.specs.Parts.{AreFetched};
-ghost use Rattle.ice_commands.specs.Refusals.{refusal_status, NoFault, IsFaultOf, Refuses};
+ghost use Rattle.ice_command_parts.specs.Files.{is_line_form, IsExchangeOf, IsExchangeFault, IsPricesFault, IsRoundFault, HoldsExchange, HoldsPrices, HoldsBids, IsLineRefusal, IsPlaceRefusal};
+ghost use Rattle.ice_command_parts.specs.Keeping.{KeepsTold};
+ghost use Rattle.ice_command_parts.specs.Parts.{AreFetched};
+ghost use Rattle.ice_command_parts.specs.Refusals.{refusal_status, NoFault, IsFaultOf, Refuses};
 
 use crate::refusal::{FileFault, Refusal};
 use ice_edge::{FetchFault, Shelf};

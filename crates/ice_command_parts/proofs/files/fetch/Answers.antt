@@ -1,7 +1,7 @@
 use Rattle.std.proofs.Common.{rules}
-use Rattle.ice_commands.specs.Refusals.{NoFault}
-use Rattle.ice_commands.proofs.Refusing.{unread, overlong}
-use Rattle.ice_commands.proofs.files.fetch.Goals as goal
+use Rattle.ice_command_parts.specs.Refusals.{NoFault}
+use Rattle.ice_command_parts.proofs.Refusing.{unread, overlong}
+use Rattle.ice_command_parts.proofs.files.fetch.Goals as goal
 
 pub returns-in-Err-Failed-clause-refusal : goal.returns-in-Err-Failed-clause-refusal
 returns-in-Err-Failed-clause-refusal g c = unread c.args.file c.args.name.now c.args.limit NoFault _ _ (search rules)

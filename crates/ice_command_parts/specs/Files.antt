@@ -13,10 +13,10 @@ use Rattle.ice_read.specs.ExchangeFile.{exchange_of}
 use Rattle.ice_read.specs.RoundFile.{bids_of}
 use Rattle.ice_read.specs.declared.fault.ReadFault.{ReadFault}
 use Rattle.ice_read.specs.Cause.{cause_number}
-use Rattle.ice_commands.specs.declared.refusal.FileFault.TheVariants.{AtLine, AtPlace}
-use Rattle.ice_commands.specs.declared.refusal.Refusal.{Refusal}
-use Rattle.ice_commands.specs.declared.refusal.Refusal.TheVariants.{File, NoMemory}
-use Rattle.ice_commands.specs.Call.{file_limit, OfTold}
+use Rattle.ice_command_parts.specs.declared.refusal.FileFault.TheVariants.{AtLine, AtPlace}
+use Rattle.ice_command_parts.specs.declared.refusal.Refusal.{Refusal}
+use Rattle.ice_command_parts.specs.declared.refusal.Refusal.TheVariants.{File, NoMemory}
+use Rattle.ice_command_parts.specs.Call.{file_limit, OfTold}
 
 -- the first byte is `i`
 abbrev pub is_line_form : List ℕ → Bool

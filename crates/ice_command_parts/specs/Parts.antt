@@ -5,7 +5,7 @@ use Rattle.ice_edge.specs.declared.status.Status.TheVariants.{WriteFault}
 use Rattle.ice_edge.specs.Edge.{Rose, Appends, AppendsFront}
 use Rattle.ice_edge.specs.Told.{Told, IsLater}
 use Rattle.ice_edge.specs.Taken.{Taken}
-use Rattle.ice_commands.specs.Call.{Call, OfTold}
+use Rattle.ice_command_parts.specs.Call.{Call, OfTold}
 
 -- the call began before this part of it, and ends after it
 pub record HasPart (call : Call) (before after : Told) : Type 0 where

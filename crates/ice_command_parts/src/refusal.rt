@@ -2,8 +2,8 @@
 ghost use Rattle.std.specs.Prelude.{◌≡◌, [], ◌+◌, ◌≤◌, length};
 ghost use Rattle.ice_edge.specs.Puts.{IsPut};
 ghost use Rattle.ice_line.specs.Writing.{with_field};
-ghost use Rattle.ice_commands.specs.Parts.{IsSaid};
-ghost use Rattle.ice_commands.specs.Refusals.{fault_of, refusal_text, refusal_status};
+ghost use Rattle.ice_command_parts.specs.Parts.{IsSaid};
+ghost use Rattle.ice_command_parts.specs.Refusals.{fault_of, refusal_text, refusal_status};
 
 use crate::say::ended;
 use ice_edge::{Sink, SinkFault, Status};
