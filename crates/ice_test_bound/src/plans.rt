@@ -3,7 +3,9 @@
 
 use ice_best::Mark;
 use ice_bound::Multipliers;
-use ice_plan::{Bounds, Marks, Plan, Seen, Side, Sides, Split, Tries, drop_idle, make, pull};
+use ice_plan::{
+    Bounds, Marks, Plan, Seen, Side, Sides, Split, Tries, drop_idle, make, pull, rebuild,
+};
 use ice_planner::plan_of_log;
 use ice_refute::{Log, Step};
 use ice_relaxation::Candidate;
@@ -233,5 +235,38 @@ fn plan_is_made_small(rt: HostRuntime) -> Result<(), Fail> {
     assert!(rt; make(alloc, &mut fake, &seed, 3)?.is_some());
     assert!(rt; make(alloc, &mut fake, &seed, 2)?.is_none());
     assert!(rt; fake.is_free());
+    Ok(())
+}
+
+/// The plan that splits at node 0, at both its sides at node 1, and at all theirs at node 2.
+fn all_planned(alloc: Global) -> Result<Plan, AllocError> {
+    let mut log = Log::new(alloc);
+    log.push(branch(0))?;
+    for _side in 0..2 {
+        log.push(branch(1))?;
+        for _below in 0..2 {
+            log.push(branch(2))?;
+            log.push(leaf())?;
+            log.push(leaf())?;
+        }
+    }
+    plan_of_log(alloc, &log)
+}
+
+/// So many splits that plan has when its trees of at most so many are made anew, where node 2
+/// closes both its sides alone.
+fn rebuilt(alloc: Global, most: usize) -> Result<usize, AllocError> {
+    let closed: [Marked; 2] = [&[(2, Mark::Must)], &[(2, Mark::Never)]];
+    let mut fake = Fake::new(&closed);
+    let plan = all_planned(alloc)?;
+    let made = rebuild(alloc, &plan, &mut fake, most)?;
+    Ok(made.len())
+}
+
+#[test]
+fn small_tree_is_made_anew(rt: HostRuntime) -> Result<(), Fail> {
+    assert_eq!(rt; rebuilt(rt.alloc(), 7)?, 1);
+    // the trees below have three splits, and those of fewer than four stay as they are
+    assert_eq!(rt; rebuilt(rt.alloc(), 6)?, 7);
     Ok(())
 }
