@@ -7,4 +7,4 @@ pub(crate) const TOTAL: i64 = 400_000_000_000_000;
 pub(crate) const MULTIPLIER: i64 = 72_057_594_037_927_936;
 
 /// The greatest denominator, and the greatest weight of a row: 2^32.
-pub(crate) const DEN: u64 = 4_294_967_296;
+pub(crate) const DENOMINATOR: u64 = 4_294_967_296;

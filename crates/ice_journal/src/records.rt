@@ -2,7 +2,7 @@
 ghost use Rattle.std.specs.Prelude.{◌∷◌, [], codes};
 ghost use Rattle.ice_journal.specs.Reading.{FindsAfter};
 
-use crate::limits::{DEN, MULTIPLIER, TOTAL};
+use crate::limits::{DENOMINATOR, MULTIPLIER, TOTAL};
 use crate::line::Line;
 use crate::lists::{changes, integers, submission};
 use crate::rows;
@@ -208,7 +208,7 @@ pub fn accuracy_record(fields: Fields<'_>) -> Option<Line>
 pub fn balance_record(fields: Fields<'_>) -> Option<Line>
     ensures { FindsAfter (codes "balance" ∷ []) result fields.entry }
 {
-    let den = rows::one_natural(fields, 1, DEN)?;
+    let den = rows::one_natural(fields, 1, DENOMINATOR)?;
     Some(Line::Balance { den })
 }
 

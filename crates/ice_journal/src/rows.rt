@@ -13,7 +13,7 @@ use crate::items::{
     bound_number, file_place, journal_kind, last_word, limit_kind, node_bits, pricing_stage,
     version, violation_number,
 };
-use crate::limits::{DEN, TOTAL};
+use crate::limits::{DENOMINATOR, TOTAL};
 use crate::line::{EndWord, Kind, LowestFraction, Version};
 use crate::lists::{amounts, integers};
 use arrayvec::ArrayVec;
@@ -175,7 +175,7 @@ pub fn branch(mut fields: Fields<'_>) -> Option<(u8, u16)>
 pub fn prices(mut fields: Fields<'_>) -> Option<Prices>
     ensures { Finds result ArePricesRecord (λ prices. decimal prices.den ∷ map signed_decimal prices.nums) fields.entry }
 {
-    let den = natural(fields.next()?, 1, DEN)?;
+    let den = natural(fields.next()?, 1, DENOMINATOR)?;
     let nums = integers(fields, 0, 4_611_686_018_427_387_904)?;
     Some(Prices::from_terms(den, nums))
 }
@@ -185,7 +185,7 @@ pub fn accuracy(mut fields: Fields<'_>) -> Option<(i128, u64)>
     ensures { Finds result (λ found. IsViolationField found.0 × IsDen found.1) (λ found. signed_decimal found.0 ∷ decimal found.1 ∷ []) fields.entry }
 {
     let violation = violation_number(fields.next()?)?;
-    let den = natural(fields.next()?, 1, DEN)?;
+    let den = natural(fields.next()?, 1, DENOMINATOR)?;
     if !fields.is_end() {
         return None;
     }
@@ -197,7 +197,7 @@ pub fn weighted_set(mut fields: Fields<'_>) -> Option<(u8, u64, NodeSet)>
     ensures { Finds result (λ row. IsBidderNumber row.0 × IsDen row.1 × IsBits row.2) (λ row. decimal row.0 ∷ decimal row.1 ∷ bits row.2 ∷ []) fields.entry }
 {
     let bidder = natural(fields.next()?, 0, 39)? as u8;
-    let weight = natural(fields.next()?, 1, DEN)?;
+    let weight = natural(fields.next()?, 1, DENOMINATOR)?;
     let set = node_bits(fields.next()?)?;
     if !fields.is_end() {
         return None;
@@ -262,7 +262,7 @@ pub fn limit(mut fields: Fields<'_>) -> Option<(PricingStage, LimitKind, i128, u
     let stage = pricing_stage(fields.next()?)?;
     let kind = limit_kind(fields.next()?)?;
     let violation = violation_number(fields.next()?)?;
-    let den = natural(fields.next()?, 1, DEN)?;
+    let den = natural(fields.next()?, 1, DENOMINATOR)?;
     if !fields.is_end() {
         return None;
     }

@@ -119,7 +119,7 @@ fn try_first(
     requires feasible { IsFeasible (trees_of exchange.now) (exact_of exchange.now) first.now }
     requires meets { MeetsAll first.now start.now }
     requires from { AreMultipliersOf (exact_of exchange.now) known.now.from.now }
-    requires more { 500 < branches.old }
+    requires more { 600 < branches.old }
     requires branches { branches.old ≤ 50000 }
     // On success
     ensures found { IfOk result

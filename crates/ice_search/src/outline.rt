@@ -10,7 +10,7 @@ use std::alloc::{AllocError, Global};
 
 /// A search is planned that has not closed after so many branches, or that follows a log of at
 /// least as many.
-pub(crate) const TRIED: u32 = 500;
+pub(crate) const TRIED: u32 = 600;
 
 /// Whether a log may be long enough to plan by it at once.
 fn is_long(log: Option<&Log>) -> bool {
@@ -23,7 +23,7 @@ fn is_long(log: Option<&Log>) -> bool {
 /// Whether a search of so many goods is tried first with few of its branches: one that is planned
 /// where they don't suffice.
 pub(crate) fn is_tried_first(goods: u8, known: &Known, branches: u32) -> bool
-    ensures { IsTrue result → 500 < branches }
+    ensures { IsTrue result → 600 < branches }
 {
     if branches <= TRIED {
         return false;
