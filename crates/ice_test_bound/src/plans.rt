@@ -173,6 +173,19 @@ fn plan_follows_log(rt: HostRuntime) -> Result<(), Fail> {
 }
 
 #[test]
+fn plan_goes_on_at_first_free_node(rt: HostRuntime) -> Result<(), Fail> {
+    let plan = planned(rt.alloc(), true, false)?;
+    let mut fake = Fake::new(&[]);
+    assert_eq!(rt; plan.free_split(plan.root(), &fake), from_last(&plan, 0));
+    fake.mark(node(0), Mark::Must);
+    assert_eq!(rt; plan.free_split(plan.root(), &fake), from_last(&plan, 1));
+    // at the other side of node 0 there is a leaf
+    fake.mark(node(0), Mark::Never);
+    assert_eq!(rt; plan.free_split(plan.root(), &fake), None);
+    Ok(())
+}
+
+#[test]
 fn common_split_is_pulled(rt: HostRuntime) -> Result<(), Fail> {
     let alloc = rt.alloc();
     // node 1 closes its Must side alone, and its Never side with either mark of node 0
