@@ -45,7 +45,7 @@ from_begun version kind rest s v k l = record {
   standing = leads_standing [] (begun version kind) s rest (record { kind = k; place = refl }) l;
 }
 
-standing_journal : (journal : List Record) (s : State) → s.kind ≡ assign_kind → Leads nothing journal (passing s) → IsStanding_after_head journal s
+pub standing_journal : (journal : List Record) (s : State) → s.kind ≡ assign_kind → Leads nothing journal (passing s) → IsStanding_after_head journal s
 standing_journal journal s kind l =
     let h = headed journal s l in
     let k : h.kind ≡ assign_kind = sym h.same_kind ∙ kind in

@@ -169,7 +169,7 @@ no_log front first found = ap (λ (rs : List Record). front ++ rs) (sym (append-
 is_empty : (x : NodeSet) → ¬ (¬ IsEmpty x) → IsEmpty x
 is_empty x h n l = false_from_ne_true (has x n) (λ e. h (λ empty. true≢false (sym e ∙ empty n l)))
 
-left_more : (s : State) (g : Group) (found : Stated) (x : NodeSet) → IsLeftOut g found.sets → ¬ Fails rule.Fixing (go_to (at_sets g found) s) (line.set x) → IsLeftOut g (found.sets ++ x ∷ [])
+pub left_more : (s : State) (g : Group) (found : Stated) (x : NodeSet) → IsLeftOut g found.sets → ¬ Fails rule.Fixing (go_to (at_sets g found) s) (line.set x) → IsLeftOut g (found.sets ++ x ∷ [])
 left_more s Assign found x left pass = tt
 left_more s Final found x left pass = tt
 left_more s Rival found x left pass = tt
@@ -269,7 +269,7 @@ dead_bidder ts side b h = (is_below b (length ts) (λ no. h (λ is. no is.0)), �
 abbrev taken : Group → Stated → Side → Multipliers → Step → Taken
 taken g found side m x = record { group = g; target = found.value; side = side; before = m; step = x }
 
-step_passes : (s : State) (g : Group) (found : Stated) (side : Side) (m : Multipliers) (x : Step) → ¬ HasSign s x → ¬ IsFixed s side x → ¬ IsAlive s side x → IsClosing s (taken g found side m x) x
+pub step_passes : (s : State) (g : Group) (found : Stated) (side : Side) (m : Multipliers) (x : Step) → ¬ HasSign s x → ¬ IsFixed s side x → ¬ IsAlive s side x → IsClosing s (taken g found side m x) x
     → PassesAt (trees_at s) (exact_at s) (weights_at s g) found.value side x
 step_passes s g found side m (branch b n) sign fixed alive closing = free_node (trees_at s) side b n fixed
 step_passes s g found side m (leaf new) sign fixed alive closing = (sign, closing)

@@ -80,6 +80,11 @@ module _ (lawful : SectionIsLawful) (described : SectionRecords) (refutes : LogR
   checks_give_regret (other ∷ rest) of_kind records (checked, tested) = absurd checked
   checks_give_regret [] of_kind records (checked, tested) = absurd checked
 
+-- what stands where the records after a head of kind regret have come
+pub regret_stands : (version : Version) (rest : List Record) (s : State) → AllByRecursion IsRecord rest → Leads (passing (begun version regret_kind)) rest (passing s) → IsStanding version rest s
+regret_stands version rest s all l =
+    leads_standing section_is_lawful section_records_are log_refutes perturbed_gives_regret version [] (begun version regret_kind) s rest all (record { same_version = refl; kind = refl; place = refl }) l
+
 pub done_is_right : DoneIsRegretted
 done_is_right = done_is_regretted section_is_lawful section_records_are log_refutes perturbed_gives_regret
 

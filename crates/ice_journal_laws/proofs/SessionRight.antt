@@ -132,6 +132,12 @@ module _ (lawful : SectionIsLawful) (described : SectionRecords) (refutes : LogR
       let (x, is) = done_is_right journal s records l place kind in
       (x, is.says, is.right, headline x is.right, sym is.regret, sym is.surplus)
 
+-- what stands where the records after a head of kind session have come
+pub session_stands : (version : Version) (rest : List Record) (s : State) → AllByRecursion IsRecord rest → Leads (passing (begun version session_kind)) rest (passing s) → IsStanding version rest s
+session_stands version rest s all l =
+    leads_standing section_is_lawful section_records_are log_refutes perturbed_gives_regret tests_give_balanced version [] (begun version session_kind) s rest all
+    (record { same_version = refl; kind = refl; place = (refl, refl, refl, refl) }) l
+
 pub done_is_session : DoneIsRight
 done_is_session = done_is_right section_is_lawful section_records_are log_refutes perturbed_gives_regret tests_give_balanced
 

@@ -1,0 +1,4 @@
+-- a journal has one answer
+pub mod Single
+-- what a gap says is right
+-- pub mod Right
