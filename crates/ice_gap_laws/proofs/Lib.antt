@@ -1,4 +1,6 @@
 -- a journal has one answer
 pub mod Single
+-- where the head of a group is awaited, the exchange is lawful
+pub mod Ready
 -- what a gap says is right
--- pub mod Right
+pub mod Right

@@ -1,7 +1,6 @@
 -- A journal has one answer.
 use Rattle.std.proofs.Common.{◌≡◌, ℕ, Bool, true, false, cond, List, [], ◌∷◌, refl, sym, ◌∙◌, ap, subst}
-use Rattle.std.specs.Prelude.{◌≢◌, ◌-◌, Some, None, Result, Ok, Err}
-use Rattle.std.proofs.lemmas.Option.{none-some}
+use Rattle.std.specs.Prelude.{◌-◌, Result, Ok, Err}
 use Rattle.ice_journal.specs.Records.{Record, Version, Kind}
 use Rattle.ice_journal.specs.Records as line
 use Rattle.ice_journal.specs.Journal.{LinesFault, grammar, unended, IsJournal, IsLinesFault}
@@ -13,9 +12,8 @@ use Rattle.ice_journal_laws.specs.declared.rule.Rule.{Rule}
 use Rattle.ice_journal_laws.specs.State.{State, begun}
 use Rattle.ice_journal_laws.specs.Next.{next}
 use Rattle.ice_journal_laws.specs.Tests.{ended_list}
-use Rattle.ice_journal_laws.specs.Checks.{Failure, is_checked, IsChecked}
+use Rattle.ice_journal_laws.specs.Checks.{is_checked, IsChecked}
 use Rattle.ice_journal_laws.specs.Progress.{Progress, nothing, other_kind, passing, failed, out_of_memory, after_head, TakesOn, passes_on, fails_at, list_fails_at, IsAfter}
-use Rattle.ice_journal_laws.specs.Answers.{AnswersBytes}
 use Rattle.ice_journal_laws.proofs.Single.{some_same, same_first}
 use Rattle.ice_journal_laws.proofs.Answered.{one_answer_of_bytes, ok_same, ok_err}
 use Rattle.ice_gap_laws.specs.declared.answer.GapAnswer.{GapAnswer}

@@ -11,7 +11,6 @@ use Rattle.ice_journal_laws.specs.declared.rule.Rule.TheVariants as rule
 use Rattle.ice_journal_laws.specs.Fields.{is_end}
 use Rattle.ice_journal_laws.specs.State.{Place, at_section, at_group, at_sets, at_log, State}
 use Rattle.ice_journal_laws.specs.Next.{go_to, to_line, section_ended}
-use Rattle.ice_journal_laws.specs.Checks.{Failure}
 use Rattle.ice_journal_laws.specs.Progress.{Progress, passing, failed, TakesOn, IsAfter}
 
 -- what a `spent` record says, and the group in whose place it stands

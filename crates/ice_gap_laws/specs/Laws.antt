@@ -1,5 +1,5 @@
 -- What the answers of `gap` mean, as statements.
-use Rattle.std.specs.Prelude.{ℕ, ◌≡◌, ◌≢◌, List, [], ◌∷◌, ◌++◌, map, ℤ, ◌≤ℤ◌, ◌<ℤ◌, Some, Result, Ok, Err}
+use Rattle.std.specs.Prelude.{ℕ, ◌≡◌, ◌≢◌, List, [], ◌∷◌, ◌++◌, map, ◌≤ℤ◌, ◌<ℤ◌, Some, Result, Ok, Err}
 use Rattle.ice_defs.specs.Trade.{Assignment, IsFeasible, MeetsAll, total_value}
 use Rattle.ice_defs.specs.Set.{Weights}
 use Rattle.ice_defs.specs.Bounds.{Bounds}
@@ -39,6 +39,10 @@ pub record IsGap (ex : Exchange) (bounds : List Bounds) (final : Assignment) (ga
 
 -- ---- of a journal
 
+-- of the exchange, the bounds and the final sets of a state
+abbrev pub IsGapAt : State → Gap → Assignment → Type 0
+IsGapAt s gap sets = IsGap (exchange_at s) s.bounds s.final.sets gap sets
+
 -- its records pass every test of `check` up to the place of a group's head; there it states a gap,
 -- its sets and the steps of its log
 pub record StatesGap (journal : List Record) (gap : Gap) : Type 0 where
@@ -49,7 +53,7 @@ pub record StatesGap (journal : List Record) (gap : Gap) : Type 0 where
   pub state : State
   pub leads : Leads nothing before (passing state)
   pub awaits : awaited state.kind state.place ≡ Some gap.group
-  pub is : IsGap (exchange_at state) (before_head state.place state).bounds state.final.sets gap sets
+  pub is : IsGapAt (before_head state.place state) gap sets
 
 abbrev pub GapIsRight : Type 0
 GapIsRight = (bytes : List ℕ) (gap : Gap) → AnswersGap bytes (Ok (answer.Gap gap.group gap.value gap.bound))

@@ -13,8 +13,13 @@ pub enum GapAnswer {
         bound: i128,
     },
     /// The first failed test: its line, from 1, and its rule.
-    No { line: u64, rule: Rule },
+    No {
+        line: u64,
+        rule: Rule,
+    },
     /// Every test passes up to here, and no gap is stated here: the journal stops otherwise, or the
     /// value isn't below the bound, or the journal is whole.
-    NoGap { line: u64 },
+    NoGap {
+        line: u64,
+    },
 }

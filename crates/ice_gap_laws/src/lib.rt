@@ -2,7 +2,7 @@
 //! what it means that they pass. It has no code but a plain enum.
 #![tactic(auto)]
 
-ghost use Rattle.ice_gap_laws.specs.Laws.{OneGapAnswer};
+ghost use Rattle.ice_gap_laws.specs.Laws.{OneGapAnswer, GapIsRight};
 
 mod answer;
 
@@ -12,4 +12,11 @@ pub use answer::GapAnswer;
 #[tactic(auto, using(crate::proofs::Single::one_gap_answer))]
 pub fn bytes_have_one_gap_answer()
     ensures { OneGapAnswer }
+{}
+
+/// The sets of a gap can be done and have its value, and nothing that can be done is worth more
+/// than its bound.
+#[tactic(auto, using(crate::proofs::Right::gap_is_right))]
+pub fn gap_is_right()
+    ensures { GapIsRight }
 {}

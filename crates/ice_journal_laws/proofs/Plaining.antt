@@ -117,7 +117,7 @@ unchanged_is goods m (dead b) x e =
     let is : dead b ≡ x = some_same (Some (dead b)) (dead b) x refl e in
     (is, subst (CountsGoods goods) is tt, subst (λ (y : Step). multipliers_after m y ≡ m) is refl)
 
-changed_length : (m : Multipliers) (changes : List Change) → length (changed m changes) ≡ length m
+pub changed_length : (m : Multipliers) (changes : List Change) → length (changed m changes) ≡ length m
 changed_length m [] = refl
 changed_length m (c ∷ later) = changed_length _ later ∙ length-set m c.good c.multiplier
 

@@ -1,0 +1,95 @@
+-- Where the head of a group is awaited: the exchange is lawful, and whom the group leaves out is one of its bidders.
+use Rattle.std.proofs.Common.{◌≡◌, ◌<◌, ℕ, true, List, length, refl, ◌∙◌, subst}
+use Rattle.std.specs.Prelude.{Some}
+use Rattle.std.specs.List.{AllByRecursion}
+use Rattle.std.proofs.lemmas.Bool.{false≢true}
+use Rattle.std.proofs.lemmas.Option.{none-some, same_Some}
+use Rattle.ice_defs.specs.declared.Group.{Group}
+use Rattle.ice_defs.specs.declared.Group.TheVariants.{Assign, Final, Rival, Provisional, Without}
+use Rattle.ice_defs.specs.Lawful.{IsExchange}
+use Rattle.ice_journal.specs.Records.{Record, Version, version_1, version_2, Kind, assign_kind, regret_kind, session_kind, exchange_kind, prices_kind}
+use Rattle.ice_journal.specs.Ranges.{IsRecord}
+use Rattle.ice_section.specs.Section.{may_end}
+use Rattle.ice_section.proofs.Whole.{section_is_lawful, section_records_are}
+use Rattle.ice_refute.proofs.Refutes.{log_refutes}
+use Rattle.ice_journal_laws.specs.State.{Place, at_section, at_group, State, begun, exchange_at, trees_at}
+use Rattle.ice_journal_laws.specs.Tests.{is_valued}
+use Rattle.ice_journal_laws.specs.Checks.{is_checked}
+use Rattle.ice_journal_laws.specs.Progress.{nothing, passing, Leads}
+use Rattle.ice_journal_laws.proofs.Heads.{Headed, headed}
+use Rattle.ice_journal_laws.proofs.Assigned.{standing_journal}
+use Rattle.ice_journal_laws.proofs.Assigning as assigning
+use Rattle.ice_journal_laws.proofs.Regretting as regretting
+use Rattle.ice_journal_laws.proofs.Regretting.{section_told}
+use Rattle.ice_journal_laws.proofs.Regretted.{regret_stands}
+use Rattle.ice_journal_laws.proofs.Sessions as sessions
+use Rattle.ice_journal_laws.proofs.SessionRight.{session_stands}
+use Rattle.ice_gap_laws.specs.Gap.{awaited, before_head}
+
+-- a group that leaves out a bidder leaves out one that is there
+abbrev pub IsThere : ℕ → Group → Type 0
+IsThere bidders (Without b) = b < bidders
+IsThere bidders other = Unit {0}
+
+pub record IsAwaited (g : Group) (now : State) : Type 0 where
+  pub exchange : IsExchange (exchange_at now)
+  pub valued : is_valued g ≡ true
+  pub there : IsThere (length (trees_at now)) g
+
+of_group : (mine g : Group) (now : State) → Some mine ≡ Some g → IsAwaited mine now → IsAwaited g now
+of_group mine g now e h = subst (λ (x : Group). IsAwaited x now) (same_Some mine g e) h
+
+-- a section that may not end awaits none
+abbrev pub EndsThere : State → Place → Type 0
+EndsThere s at_section = may_end s.section ≡ true
+EndsThere s place = Unit {0}
+
+-- in a session
+in_session : (rest : List Record) (s : State) (place : Place) (g : Group) → sessions.IsAt rest s place → awaited session_kind place ≡ Some g → IsAwaited g (before_head place s)
+in_session rest s (at_group Final) g (past, opened, tells) e = of_group Final g s e (record { exchange = tells.exchange; valued = refl; there = tt })
+in_session rest s (at_group Rival) g (past, log, opened, final, tells) e = of_group Rival g s e (record { exchange = tells.exchange; valued = refl; there = tt })
+in_session rest s (at_group Provisional) g (past, x, opened, settled, tells) e = of_group Provisional g s e (record { exchange = tells.exchange; valued = refl; there = tt })
+in_session rest s (at_group (Without b)) g (past, x, ps, earlier, settled, withouts, there, tells) e =
+    of_group (Without b) g s e (record { exchange = tells.exchange; valued = refl; there = there })
+in_session rest s (at_group Assign) g at e = absurd at
+in_session rest s other g at e = absurd (none-some g e)
+
+-- in a regret journal
+in_regret : (rest : List Record) (s : State) (place : Place) (g : Group) → AllByRecursion IsRecord rest → regretting.IsAt rest s place → EndsThere s place
+    → awaited regret_kind place ≡ Some g → IsAwaited g (before_head place s)
+in_regret rest s at_section g records taken ended e =
+    let tells = section_told section_is_lawful section_records_are log_refutes rest s records taken ended in
+    of_group Final g (before_head at_section s) e (record { exchange = tells.exchange; valued = refl; there = tt })
+in_regret rest s (at_group Rival) g records (log, opening, final, tells) ended e = of_group Rival g s e (record { exchange = tells.exchange; valued = refl; there = tt })
+in_regret rest s (at_group other) g records at ended e = absurd at
+in_regret rest s other g records at ended e = absurd (none-some g e)
+
+-- in an assign journal
+in_assign : (rest : List Record) (s : State) (place : Place) (g : Group) → assigning.IsAt rest s place → awaited assign_kind place ≡ Some g → ⊥
+in_assign rest s (at_group other) g at e = at
+in_assign rest s other g at e = none-some g e
+
+unchecked_exchange : (v : Version) → is_checked v exchange_kind ≡ true → ⊥
+unchecked_exchange version_1 e = false≢true e
+unchecked_exchange version_2 e = false≢true e
+
+unchecked_prices : (v : Version) → is_checked v prices_kind ≡ true → ⊥
+unchecked_prices version_1 e = false≢true e
+unchecked_prices version_2 e = false≢true e
+
+module _ (journal : List Record) (s : State) (g : Group) (records : AllByRecursion IsRecord journal) (l : Leads nothing journal (passing s)) (ended : EndsThere s s.place) where
+  of_kind : (h : Headed journal s) (kind : Kind) → h.kind ≡ kind → awaited kind s.place ≡ Some g → IsAwaited g (before_head s.place s)
+  of_kind h assign_kind k e =
+      let there = standing_journal journal s (h.same_kind ∙ k) l in
+      absurd (in_assign there.rest s s.place g there.standing.place e)
+  of_kind h regret_kind k e =
+      in_regret h.rest s s.place g (subst (AllByRecursion IsRecord) h.is records).1
+      (regret_stands h.version h.rest s (subst (AllByRecursion IsRecord) h.is records).1 (subst (λ (x : Kind). Leads (passing (begun h.version x)) h.rest (passing s)) k h.leads)).place ended e
+  of_kind h session_kind k e =
+      in_session h.rest s s.place g
+      (session_stands h.version h.rest s (subst (AllByRecursion IsRecord) h.is records).1 (subst (λ (x : Kind). Leads (passing (begun h.version x)) h.rest (passing s)) k h.leads)).place e
+  of_kind h exchange_kind k e = absurd (unchecked_exchange h.version (subst (λ (x : Kind). is_checked h.version x ≡ true) k h.checked))
+  of_kind h prices_kind k e = absurd (unchecked_prices h.version (subst (λ (x : Kind). is_checked h.version x ≡ true) k h.checked))
+
+  pub is_awaited : awaited s.kind s.place ≡ Some g → IsAwaited g (before_head s.place s)
+  is_awaited e = let h = headed journal s l in of_kind h h.kind refl (subst (λ (x : Kind). awaited x s.place ≡ Some g) h.same_kind e)
