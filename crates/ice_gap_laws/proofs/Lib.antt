@@ -4,3 +4,5 @@ pub mod Single
 pub mod Ready
 -- what a gap says is right
 pub mod Right
+-- a `spent` record is read as the head of its group
+pub mod Heading

@@ -147,7 +147,7 @@ log_follows s Provisional found v = refl
 log_follows s (Without b) found v = refl
 
 -- behind the log the group is left
-log_leaves : (s : State) (g : Group) (found : Stated) → is_valued g ≡ true → is_in_group (after_log s g found).place ≡ false
+pub log_leaves : (s : State) (g : Group) (found : Stated) → is_valued g ≡ true → is_in_group (after_log s g found).place ≡ false
 log_leaves s Assign found v = absurd (false≢true v)
 log_leaves s Final found v = refl
 log_leaves s Rival found v = refl
@@ -384,7 +384,7 @@ ends_there s n at_section value bound h = by (may_end s.section) refl h
 ends_there s n other value bound h = tt
 
 -- no list of rows fails so
-no_list : (place : Place) (r : Record) → ended_list place r ≡ Some rule.Closed → ⊥
+pub no_list : (place : Place) (r : Record) → ended_list place r ≡ Some rule.Closed → ⊥
 no_list (at_accuracy_rows den rows) r e = by (is_none (row_in r) && may_have_row rows) e
   where
     by : (b : Bool) → cond b (Some rule.Accuracy) None ≡ Some rule.Closed → ⊥

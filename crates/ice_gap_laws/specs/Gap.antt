@@ -3,7 +3,7 @@
 -- whose place it stands, but for the target of the log, which is the stated bound.
 use Rattle.std.specs.Prelude.{ℕ, suc, Bool, true, false, if◌then◌else◌, int_lt, ◌≡◌, List, [], ◌∷◌, ℤ, Option, Some, None, option_map}
 use Rattle.ice_defs.specs.declared.Group.{Group}
-use Rattle.ice_defs.specs.declared.Group.TheVariants.{Final}
+use Rattle.ice_defs.specs.declared.Group.TheVariants.{Assign, Final}
 use Rattle.ice_journal.specs.Records.{Record, Kind, regret_kind, spent_end}
 use Rattle.ice_journal.specs.Records as line
 use Rattle.ice_journal_laws.specs.declared.rule.Rule.{Rule}
@@ -19,8 +19,10 @@ pub record Gap : Type 0 where
   pub value : ℤ
   pub bound : ℤ
 
--- the group whose head may stand here; the first one of a regret journal comes behind its exchange
+-- the group whose head may stand here; the first one of a regret journal comes behind its exchange,
+-- and the sets of an assignment have no head
 abbrev pub awaited : Kind → Place → Option Group
+awaited kind (at_group Assign) = None
 awaited kind (at_group g) = Some g
 awaited regret_kind at_section = Some Final
 awaited kind place = None
