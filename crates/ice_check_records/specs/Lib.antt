@@ -9,3 +9,4 @@ pub mod Taking
 pub mod Due
 pub mod Checking
 pub mod Closed
+pub mod Gaps

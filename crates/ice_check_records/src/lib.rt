@@ -9,6 +9,7 @@ mod describing;
 mod due;
 mod end;
 mod group;
+mod gap;
 mod groups;
 mod halt;
 mod head;
