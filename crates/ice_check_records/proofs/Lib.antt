@@ -22,3 +22,5 @@ pub mod Reading
 pub mod Staged
 -- a journal that has not ended leaves no session
 pub mod Leaving
+-- what the stages of a checker of gaps stand for
+pub mod Gapping

@@ -1,16 +1,22 @@
 -- What a checker of gaps stands for.
-use Rattle.std.specs.Prelude.{ℕ, suc, ◌≡◌, ◌<◌, Bool, true, false, IsTrue, ◌↔◌, List, [], length, ℤ, Option, Some, None, Result, Ok, Err}
+use Rattle.std.specs.Prelude.{ℕ, suc, int_lt, if◌then◌else◌, ◌≡◌, ◌<◌, Bool, true, false, IsTrue, ◌↔◌, List, [], length, ℤ, Option, Some, None, Result, Ok, Err}
 use Rattle.ice_defs.specs.declared.Group.{Group}
 use Rattle.ice_defs.specs.Exchange.{trees_of, exact_of}
 use Rattle.ice_journal.specs.Records.{Record}
+use Rattle.ice_journal_laws.specs.declared.answer.Answer.{Answer}
+use Rattle.ice_journal_laws.specs.declared.answer.Answer.TheVariants as answer
+use Rattle.ice_journal_laws.specs.declared.answer.CheckEnd.{CheckEnd}
 use Rattle.ice_journal_laws.specs.declared.rule.Rule.{Rule}
 use Rattle.ice_journal_laws.specs.declared.rule.Rule.TheVariants as rule
 use Rattle.ice_journal_laws.specs.State.{State}
-use Rattle.ice_journal_laws.specs.Progress.{Progress, passing}
+use Rattle.ice_journal_laws.specs.Checks.{Failure}
+use Rattle.ice_journal_laws.specs.Progress.{Progress, passing, failed}
 use Rattle.ice_journal_laws.specs.Stepping.{PassesStep, FailsStep}
 use Rattle.ice_journal_laws.specs.Tests.{is_valued}
 use Rattle.ice_check_offer.specs.declared.fault.Fault.{Fault}
 use Rattle.ice_check_offer.specs.declared.fault.Fault.TheVariants.{Here}
+use Rattle.ice_gap_laws.specs.declared.answer.GapAnswer.{GapAnswer}
+use Rattle.ice_gap_laws.specs.declared.answer.GapAnswer.TheVariants as gap_answer
 use Rattle.ice_gap_laws.specs.Gap.{Gap, awaited, gap_in, aimed, GapProgress, checking, in_group, at_close, ended, no_gap, IsGapAfter}
 use Rattle.ice_check_records.specs.declared.gap.Spent.{Spent}
 use Rattle.ice_check_records.specs.declared.gap.GapStage.{GapStage}
@@ -50,8 +56,14 @@ IsInGroup group (next.Set other) = other ≡ group
 IsInGroup group (next.Step other) = other ≡ group
 IsInGroup group other = ⊥
 
-abbrev pub IsInside : ℕ → Gap → Groups → GapProgress → Type 0
-IsInside line g groups p = (s : State) × (p ≡ in_group g (aimed g.bound s)) × (s.line ≡ line) × StandsFor groups s
+-- they come next in this line, in a state of which this is known
+pub record IsInside (line : ℕ) (g : Gap) (groups : Groups) (p : GapProgress) : Type 0 where
+  pub state : State
+  pub come : p ≡ in_group g (aimed g.bound state)
+  pub line_is : state.line ≡ line
+  pub stands : StandsFor groups state
+  pub next_is : IsInGroup g.group groups.next
+  pub valued : is_valued g.group ≡ true
 
 -- at this stage the tests have come so far, where this line is next
 abbrev pub IsGapProgress : ℕ → GapStage → GapProgress → Type 0
@@ -60,6 +72,7 @@ IsGapProgress line (gap.Inside groups spent) p = IsInside line (gap_of spent) gr
 IsGapProgress line (gap.Close spent) p = p ≡ at_close (gap_of spent) line
 IsGapProgress line (gap.Ended spent) p = p ≡ ended (gap_of spent) line
 IsGapProgress line (gap.NoGap there) p = p ≡ no_gap there
+IsGapProgress line (gap.Failed there test) p = p ≡ checking (failed (record { line = there; rule = test }))
 
 -- a stop is no failed test
 abbrev pub is_no_stop : Rule → Bool
@@ -70,16 +83,10 @@ abbrev pub IsOpen : Stage → Type 0
 IsOpen (stage.Failed line rule) = is_no_stop rule ≡ true
 IsOpen other = Unit {0}
 
-pub record IsKeptInside (spent : Spent) (groups : Groups) : Type 0 where
-  pub kept : AreKept groups
-  pub ready : IsReady groups groups.next
-  pub in_group : IsInGroup spent.group groups.next
-  pub valued : is_valued spent.group ≡ true
-
 -- what each stage keeps
 abbrev pub IsGapKept : ℕ → GapStage → Type 0
 IsGapKept line (gap.Before before) = IsAtLine line before × IsOpen before
-IsGapKept line (gap.Inside groups spent) = IsKeptInside spent groups.value
+IsGapKept line (gap.Inside groups spent) = AreKept groups.value × IsReady groups.value groups.value.next
 IsGapKept line other = Unit {0}
 
 -- a stop that states no gap
@@ -87,11 +94,20 @@ abbrev pub gap_stage : Stage → GapStage
 gap_stage (stage.Failed line rule.Closed) = gap.NoGap line
 gap_stage s = gap.Before s
 
+-- where the head of a gap's group was read, in this line
+abbrev pub opened_stage : ℕ → Spent → Stage → GapStage
+opened_stage line spent (stage.Behind groups) = if int_lt spent.value spent.bound then gap.Inside groups spent else gap.NoGap line
+opened_stage line spent s = gap_stage s
+
 -- a record takes the tests on, from this line to the next
 pub record TakesGapFurther (n : ℕ) (next : GapStage) (p : GapProgress) (r : Record) : Type 0 where
   pub after : GapProgress
   pub leads : IsGapAfter p r after
   pub stands : IsGapProgress (suc n) next after
+
+-- the same in the sets or the log of a gap
+abbrev pub LeadsInside : ℕ → Spent → Groups → Record → GapStage → Type 0
+LeadsInside n spent groups r next = (p : GapProgress) → IsInside n (gap_of spent) groups p → TakesGapFurther n next p r
 
 abbrev pub LeadsGapOn : ℕ → GapStage → Record → GapStage → Type 0
 LeadsGapOn n s r next = (p : GapProgress) → IsGapProgress n s p → TakesGapFurther n next p r
@@ -118,3 +134,13 @@ StopsAt target g r fault = (y : Rule) × (fault ≡ Here y) × FailsStep (trees_
 abbrev pub TakesAimed : ℤ → Groups → Record → Result Bool Fault → Groups → Type 0
 TakesAimed target g r (Ok closed) after = WalksOn target g r closed after
 TakesAimed target g r (Err fault) after = StopsAt target g r fault
+
+-- the stage of the first failed test
+abbrev pub failed_gap : Failure → GapStage
+failed_gap failure = gap.Failed failure.line failure.rule
+
+-- what is found where the tests of `check` find this, with no stop
+abbrev pub found_of : ℕ → Result Answer CheckEnd → Result GapAnswer CheckEnd
+found_of line (Ok (answer.No there test)) = Ok (gap_answer.No there test)
+found_of line (Ok other) = Ok (gap_answer.NoGap line)
+found_of line (Err end) = Err end
