@@ -10,3 +10,4 @@ pub mod Due
 pub mod Checking
 pub mod Closed
 pub mod Gaps
+pub mod GapChecking

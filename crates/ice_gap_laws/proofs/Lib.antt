@@ -6,3 +6,5 @@ pub mod Ready
 pub mod Right
 -- a `spent` record is read as the head of its group
 pub mod Heading
+-- what is answered at the end
+pub mod Ending

@@ -8,6 +8,7 @@ use Rattle.ice_defs.specs.Exchange.{Exchange, trees_of, exact_of}
 use Rattle.ice_defs.specs.Lawful.{IsExchange}
 use Rattle.ice_journal.specs.Records.{Record, spent_end}
 use Rattle.ice_journal.specs.Records as line
+use Rattle.ice_journal.specs.Journal.{IsJournal}
 use Rattle.ice_journal_laws.specs.declared.answer.CheckEnd.{CheckEnd}
 use Rattle.ice_journal_laws.specs.declared.answer.CheckEnd.TheVariants.{NoMemory}
 use Rattle.ice_journal_laws.specs.State.{State, exchange_at}
@@ -15,8 +16,8 @@ use Rattle.ice_journal_laws.specs.Progress.{nothing, passing, Leads}
 use Rattle.ice_journal_laws.specs.Answers.{OfJournal}
 use Rattle.ice_gap_laws.specs.declared.answer.GapAnswer.{GapAnswer}
 use Rattle.ice_gap_laws.specs.declared.answer.GapAnswer.TheVariants as answer
-use Rattle.ice_gap_laws.specs.Gap.{Gap, awaited, before_head}
-use Rattle.ice_gap_laws.specs.Answers.{AnswersGap}
+use Rattle.ice_gap_laws.specs.Gap.{Gap, awaited, before_head, GapProgress, checking, GapLeads}
+use Rattle.ice_gap_laws.specs.Answers.{gap_answer, AnswersGap}
 
 -- ---- in words of the market
 
@@ -63,3 +64,8 @@ GapIsRight = (bytes : List ℕ) (gap : Gap) → AnswersGap bytes (Ok (answer.Gap
 abbrev pub OneGapAnswer : Type 0
 OneGapAnswer = (bytes : List ℕ) (one other : Result GapAnswer CheckEnd) → AnswersGap bytes one → AnswersGap bytes other → one ≢ Err NoMemory
     → other ≢ Err NoMemory → one ≡ other
+
+-- what is answered where the records end is the answer to their bytes
+abbrev pub GapEndIsAnswer : Type 0
+GapEndIsAnswer = (bytes : List ℕ) (journal : List Record) (p : GapProgress) → IsJournal bytes journal → GapLeads (checking nothing) journal p
+    → AnswersGap bytes (gap_answer p)

@@ -2,7 +2,7 @@
 //! what it means that they pass. It has no code but a plain enum.
 #![tactic(auto)]
 
-ghost use Rattle.ice_gap_laws.specs.Laws.{OneGapAnswer, GapIsRight};
+ghost use Rattle.ice_gap_laws.specs.Laws.{OneGapAnswer, GapIsRight, GapEndIsAnswer};
 
 mod answer;
 
@@ -12,6 +12,12 @@ pub use answer::GapAnswer;
 #[tactic(auto, using(crate::proofs::Single::one_gap_answer))]
 pub fn bytes_have_one_gap_answer()
     ensures { OneGapAnswer }
+{}
+
+/// What is answered where the records end is the answer to their bytes.
+#[tactic(auto, using(crate::proofs::Ending::gap_end_is_answer))]
+pub fn gap_end_is_answer()
+    ensures { GapEndIsAnswer }
 {}
 
 /// The sets of a gap can be done and have its value, and nothing that can be done is worth more

@@ -1,0 +1,7 @@
+//! What a journal shows that stops at a search that spent its branches, from its bytes.
+#![tactic(auto)]
+
+mod reading;
+
+pub use ice_check_records::{CheckEnd, GapAnswer, Rule};
+pub use reading::gap;
