@@ -1,6 +1,6 @@
 use Rattle.std.proofs.Common.{◌∷◌, length, refl, ap, arith, length-append}
 use Rattle.ice_journal.specs.Lines.{record_of}
-use Rattle.ice_gap.proofs.Reading.{none_read, one_read, few_read}
+use Rattle.ice_gap.proofs.Taken.{none_read, one_read, few_read}
 use Rattle.ice_gap.proofs.reading.read_all.Goals as goal
 
 pub loop-rest-init : goal.loop-rest-init

@@ -1,5 +1,5 @@
 use Rattle.std.proofs.Common.{length}
-use Rattle.ice_gap.proofs.Reading.{HasRead}
+use Rattle.ice_gap.proofs.Taken.{HasRead}
 use Rattle.ice_gap.proofs.reading.read_all.Given as goal
 
 abbrev pub invariant-loop-rest : goal.invariant-loop-rest
