@@ -29,7 +29,7 @@ gap_of g value bound = record { group = g; value = value; bound = bound }
 abbrev pub order_at : State → Progress
 order_at s = failed (record { line = s.line; rule = rule.Order })
 
-abbrev closed_at : State → Progress
+abbrev pub closed_at : State → Progress
 closed_at s = failed (record { line = s.line; rule = rule.Closed })
 
 -- either both may stand there, or neither

@@ -8,3 +8,5 @@ pub mod Right
 pub mod Heading
 -- what is answered at the end
 pub mod Ending
+-- what a writer writes is a gap
+pub mod Written

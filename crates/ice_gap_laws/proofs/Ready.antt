@@ -25,6 +25,7 @@ use Rattle.ice_journal_laws.proofs.Regretted.{regret_stands}
 use Rattle.ice_journal_laws.proofs.Sessions as sessions
 use Rattle.ice_journal_laws.proofs.SessionRight.{session_stands}
 use Rattle.ice_gap_laws.specs.Gap.{awaited, before_head}
+use Rattle.ice_gap_laws.specs.Laws.{EndsThere}
 
 -- a group that leaves out a bidder leaves out one that is there
 abbrev pub IsThere : ℕ → Group → Type 0
@@ -38,11 +39,6 @@ pub record IsAwaited (g : Group) (now : State) : Type 0 where
 
 of_group : (mine g : Group) (now : State) → Some mine ≡ Some g → IsAwaited mine now → IsAwaited g now
 of_group mine g now e h = subst (λ (x : Group). IsAwaited x now) (same_Some mine g e) h
-
--- a section that may not end awaits none
-abbrev pub EndsThere : State → Place → Type 0
-EndsThere s at_section = may_end s.section ≡ true
-EndsThere s place = Unit {0}
 
 -- in a session
 in_session : (rest : List Record) (s : State) (place : Place) (g : Group) → sessions.IsAt rest s place → awaited session_kind place ≡ Some g → IsAwaited g (before_head place s)

@@ -46,8 +46,8 @@ use Rattle.ice_gap_laws.specs.declared.answer.GapAnswer.{GapAnswer}
 use Rattle.ice_gap_laws.specs.declared.answer.GapAnswer.TheVariants as answer
 use Rattle.ice_gap_laws.specs.Gap.{Gap, awaited, gap_in, before_head, opened, is_in_group, aimed, GapProgress, checking, in_group, at_close, ended, no_gap, from_stop, unless_stopped, in_its_group, out_of_order, IsGapAfter, GapLeads, stays, goes}
 use Rattle.ice_gap_laws.specs.Answers.{ended_at, gap_answer}
-use Rattle.ice_gap_laws.specs.Laws.{IsGap, StatesGap, GapIsRight}
-use Rattle.ice_gap_laws.proofs.Ready.{IsThere, IsAwaited, EndsThere, is_awaited}
+use Rattle.ice_gap_laws.specs.Laws.{EndsThere, IsGap, StatesGap, GapIsRight}
+use Rattle.ice_gap_laws.proofs.Ready.{IsThere, IsAwaited, is_awaited}
 
 abbrev spent_record : Gap → Record
 spent_record gap = line.spent gap.value gap.bound
@@ -139,7 +139,7 @@ step_counts version_1 goods m other x count e = absurd (none-some x e)
 step_counts version_2 goods m other x count e = absurd (none-some x e)
 
 -- a log follows the sets
-log_follows : (s : State) (g : Group) (found : Stated) → is_valued g ≡ true → after_sets s g found ≡ go_to (at_log g found (start_of (trees_at s) g ∷ []) (all_zero (goods_at s))) s
+pub log_follows : (s : State) (g : Group) (found : Stated) → is_valued g ≡ true → after_sets s g found ≡ go_to (at_log g found (start_of (trees_at s) g ∷ []) (all_zero (goods_at s))) s
 log_follows s Assign found v = absurd (false≢true v)
 log_follows s Final found v = refl
 log_follows s Rival found v = refl

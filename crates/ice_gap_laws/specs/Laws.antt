@@ -1,23 +1,33 @@
 -- What the answers of `gap` mean, as statements.
-use Rattle.std.specs.Prelude.{ℕ, ◌≡◌, ◌≢◌, List, [], ◌∷◌, ◌++◌, map, ◌≤ℤ◌, ◌<ℤ◌, Some, Result, Ok, Err}
+use Rattle.std.specs.Prelude.{ℕ, ℤ, length, ◌<◌, true, ◌≡◌, ◌≢◌, List, [], ◌∷◌, ◌++◌, map, ◌≤ℤ◌, ◌<ℤ◌, Some, Result, Ok, Err}
+use Rattle.std.specs.List.{AllByRecursion}
 use Rattle.ice_defs.specs.Trade.{Assignment, IsFeasible, MeetsAll, total_value}
 use Rattle.ice_defs.specs.Set.{Weights}
 use Rattle.ice_defs.specs.Bounds.{Bounds}
 use Rattle.ice_defs.specs.Group.{start_of, group_weights}
 use Rattle.ice_defs.specs.Exchange.{Exchange, trees_of, exact_of}
 use Rattle.ice_defs.specs.Lawful.{IsExchange}
-use Rattle.ice_journal.specs.Records.{Record, spent_end}
+use Rattle.ice_defs.specs.declared.Group.{Group}
+use Rattle.ice_defs.specs.Log.{Passes}
+use Rattle.ice_defs.specs.Session.{Proved}
+use Rattle.ice_refute.specs.Code.{CountsGoods}
+use Rattle.ice_section.specs.Section.{may_end}
+use Rattle.ice_journal.specs.Plain.{all_zero}
+use Rattle.ice_journal.specs.Records.{Record, Version, Kind, spent_end}
 use Rattle.ice_journal.specs.Records as line
 use Rattle.ice_journal.specs.Journal.{IsJournal}
 use Rattle.ice_journal_laws.specs.declared.answer.CheckEnd.{CheckEnd}
 use Rattle.ice_journal_laws.specs.declared.answer.CheckEnd.TheVariants.{NoMemory}
-use Rattle.ice_journal_laws.specs.State.{State, exchange_at}
+use Rattle.ice_journal_laws.specs.State.{Place, at_section, State, begun, exchange_at, trees_at, exact_at, goods_at, weights_at}
+use Rattle.ice_journal_laws.specs.Checks.{is_checked}
+use Rattle.ice_journal_laws.specs.Carrying.{Carries}
+use Rattle.ice_journal_laws.specs.Showing.{LeavesOut, step_records}
 use Rattle.ice_journal_laws.specs.Progress.{nothing, passing, Leads}
 use Rattle.ice_journal_laws.specs.Answers.{OfJournal}
 use Rattle.ice_gap_laws.specs.declared.answer.GapAnswer.{GapAnswer}
 use Rattle.ice_gap_laws.specs.declared.answer.GapAnswer.TheVariants as answer
 use Rattle.ice_gap_laws.specs.Gap.{Gap, awaited, before_head, GapProgress, checking, GapLeads}
-use Rattle.ice_gap_laws.specs.Answers.{gap_answer, AnswersGap}
+use Rattle.ice_gap_laws.specs.Answers.{gap_answer, GivesGap, AnswersGap}
 
 -- ---- in words of the market
 
@@ -69,3 +79,31 @@ OneGapAnswer = (bytes : List ℕ) (one other : Result GapAnswer CheckEnd) → An
 abbrev pub GapEndIsAnswer : Type 0
 GapEndIsAnswer = (bytes : List ℕ) (journal : List Record) (p : GapProgress) → IsJournal bytes journal → GapLeads (checking nothing) journal p
     → AnswersGap bytes (gap_answer p)
+
+-- ---- what a writer writes
+
+-- the sets of a search that spent its branches: they compete, and have a value below the bound, at
+-- which its log passes
+pub record IsShownGap (s : State) (g : Group) (p : Proved) (bound : ℤ) : Type 0 where
+  pub feasible : IsFeasible (trees_at s) (exact_at s) p.sets
+  pub value : total_value p.sets (weights_at s g) ≡ p.value
+  pub left_out : LeavesOut g p.sets
+  pub counts : AllByRecursion (CountsGoods (goods_at s)) p.log
+  pub passes : Passes (trees_at s) (exact_at s) (weights_at s g) bound (start_of (trees_at s) g) p.log
+  pub below : p.value <ℤ bound
+
+-- a section that awaits a group may end
+abbrev pub EndsThere : State → Place → Type 0
+EndsThere s at_section = may_end s.section ≡ true
+EndsThere s place = Unit {0}
+
+-- the records of a gap
+abbrev pub gap_records : State → Proved → ℤ → List Record
+gap_records s p bound = line.spent p.value bound ∷ (map line.set p.sets ++ (step_records s.version (all_zero (goods_at s)) p.log ++ line.end spent_end ∷ []))
+
+-- where records lead to the head of a group, and a gap stands in its place, the gap is answered
+abbrev pub GapIsWritten : Type 0
+GapIsWritten = (kind : Kind) (v : Version) (before : List Record) (s : State) (g : Group) (p : Proved) (bound : ℤ)
+    → is_checked v kind ≡ true → Carries (begun v kind) before s → awaited s.kind s.place ≡ Some g → EndsThere s s.place
+    → 0 < length (trees_at (before_head s.place s)) → IsShownGap (before_head s.place s) g p bound
+    → GivesGap (line.head v kind ∷ (before ++ gap_records (before_head s.place s) p bound)) (answer.Gap g p.value bound)

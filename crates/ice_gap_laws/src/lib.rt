@@ -2,7 +2,7 @@
 //! what it means that they pass. It has no code but a plain enum.
 #![tactic(auto)]
 
-ghost use Rattle.ice_gap_laws.specs.Laws.{OneGapAnswer, GapIsRight, GapEndIsAnswer};
+ghost use Rattle.ice_gap_laws.specs.Laws.{OneGapAnswer, GapIsRight, GapEndIsAnswer, GapIsWritten};
 
 mod answer;
 
@@ -25,4 +25,10 @@ pub fn gap_end_is_answer()
 #[tactic(auto, using(crate::proofs::Right::gap_is_right))]
 pub fn gap_is_right()
     ensures { GapIsRight }
+{}
+
+/// What a writer writes where a search spent its branches, is a gap to the checker.
+#[tactic(auto, using(crate::proofs::Written::gap_is_written))]
+pub fn gap_is_written()
+    ensures { GapIsWritten }
 {}

@@ -39,13 +39,13 @@ kept_empty Provisional value all front rest x left e h = h
 kept_empty (Without b) value all front rest x left e (here, full) = full (subst IsEmpty (set_there all front rest x e) (subst (λ (k : ℕ). IsEmpty (set_of all k)) (sym here) left))
 
 module _ (s : State) (g : Group) (value : ℤ) (all : Assignment) (feasible : IsFeasible (trees_at s) (exact_at s) all) (valued : IsTrue (is_valued g) → total_value all (weights_at s g) ≡ value) (left : LeavesOut g all) where
-  count_there : (front rest : Assignment) (x : NodeSet) → front ++ x ∷ rest ≡ all → length front + suc (length rest) ≡ length (trees_at s)
+  pub count_there : (front rest : Assignment) (x : NodeSet) → front ++ x ∷ rest ≡ all → length front + suc (length rest) ≡ length (trees_at s)
   count_there front rest x e = sym (length-append front (x ∷ rest)) ∙ ap length e ∙ feasible.same_length
 
   sat : (front rest : Assignment) (x : NodeSet) → front ++ x ∷ rest ≡ all → IsSatisfied (tree_of (trees_at s) (length front)) x
   sat front rest x e = subst (IsSatisfied (tree_of (trees_at s) (length front))) (set_there all front rest x e) (feasible.satisfied (length front) (omega (arith, count_there front rest x e)))
 
-  fit : (n : ℕ) (front rest : Assignment) (x : NodeSet) → front ++ x ∷ rest ≡ all → IsFit (to_line n s) g (record { value = value; sets = front }) x
+  pub fit : (n : ℕ) (front rest : Assignment) (x : NodeSet) → front ++ x ∷ rest ≡ all → IsFit (to_line n s) g (record { value = value; sets = front }) x
   fit n front rest x e = record {
     counted = record {
       count = (sat front rest x e).same_length;
