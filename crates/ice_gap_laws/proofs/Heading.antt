@@ -54,9 +54,9 @@ module _ (s : State) (value bound : ℤ) where
       → (TakesOn At (line.final value) (passing (opened (gap_of Final value bound) At)) × TakesOn At (line.spent value bound) (closed_at At))
       ⊎ (TakesOn At (line.final value) (order_at At) × TakesOn At (line.spent value bound) (order_at At))
   behind_section true e = inl (
-      passes_on (λ z f. absurd (none-some z f)) quiet (record { leaf = tt; violation = tt; list = tt; verdict = tt }) is,
-      fails_at (λ z f. absurd (none-some z f)) ((refl, subst (λ (b : Bool). Stands b) (sym e) refl), λ z l f. absurd (omega (arith, l))),
-    )
+    passes_on (λ z f. absurd (none-some z f)) quiet (record { leaf = tt; violation = tt; list = tt; verdict = tt }) is,
+    fails_at (λ z f. absurd (none-some z f)) ((refl, subst (λ (b : Bool). Stands b) (sym e) refl), λ z l f. absurd (omega (arith, l))),
+  )
     where
       Stands : Bool → Type 0
       Stands b = IsSome (option_map (to_line (suc s.line)) (cond b (after_section (section_ended At) regret_kind (line.spent value bound)) None))
@@ -70,9 +70,9 @@ module _ (s : State) (value bound : ℤ) where
       quiet rule.Exchange h = false≢true h.1
       quiet other h = h
   behind_section false e = inr (
-      fails_order At (line.final value) refl (ap (λ (b : Bool). option_map (to_line (suc s.line)) (cond b (after_section (section_ended At) regret_kind (line.final value)) None)) e),
-      fails_order At (line.spent value bound) refl (ap (λ (b : Bool). option_map (to_line (suc s.line)) (cond b (after_section (section_ended At) regret_kind (line.spent value bound)) None)) e),
-    )
+    fails_order At (line.final value) refl (ap (λ (b : Bool). option_map (to_line (suc s.line)) (cond b (after_section (section_ended At) regret_kind (line.final value)) None)) e),
+    fails_order At (line.spent value bound) refl (ap (λ (b : Bool). option_map (to_line (suc s.line)) (cond b (after_section (section_ended At) regret_kind (line.spent value bound)) None)) e),
+  )
 
 at_place : (s : State) (kind : Kind) (place : Place) (g : Group) (value bound : ℤ) → is_valued g ≡ true → awaited kind place ≡ Some g
     → StandAlike (record s { place = place; kind = kind }) g value bound

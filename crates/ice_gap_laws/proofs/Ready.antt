@@ -6,7 +6,16 @@ use Rattle.std.proofs.lemmas.Bool.{false≢true}
 use Rattle.std.proofs.lemmas.Option.{none-some, same_Some}
 use Rattle.ice_defs.specs.declared.Group.{Group}
 use Rattle.ice_defs.specs.declared.Group.TheVariants.{Assign, Final, Rival, Provisional, Without}
+use Rattle.std.proofs.Common.{ℤ, [], sym}
 use Rattle.ice_defs.specs.Lawful.{IsExchange}
+use Rattle.ice_defs.specs.Trade.{Assignment, IsBestOfAll}
+use Rattle.ice_defs.specs.Bounds.{Bounds}
+use Rattle.ice_defs.specs.Weighing.{lower_weights}
+use Rattle.ice_defs.specs.Exchange.{Exchange, trees_of, exact_of, opening_bounds}
+use Rattle.ice_defs.specs.Session.{Proved, Going}
+use Rattle.ice_defs.specs.Right.{IsBestFound}
+use Rattle.ice_journal_laws.proofs.Past.{IsPast}
+use Rattle.ice_journal_laws.proofs.Grouping.{so_far}
 use Rattle.ice_journal.specs.Records.{Record, Version, version_1, version_2, Kind, assign_kind, regret_kind, session_kind, exchange_kind, prices_kind}
 use Rattle.ice_journal.specs.Ranges.{IsRecord}
 use Rattle.ice_section.specs.Section.{may_end}
@@ -25,7 +34,7 @@ use Rattle.ice_journal_laws.proofs.Regretted.{regret_stands}
 use Rattle.ice_journal_laws.proofs.Sessions as sessions
 use Rattle.ice_journal_laws.proofs.SessionRight.{session_stands}
 use Rattle.ice_gap_laws.specs.Gap.{awaited, before_head}
-use Rattle.ice_gap_laws.specs.Laws.{EndsThere}
+use Rattle.ice_gap_laws.specs.Laws.{EndsThere, HasFinal, IsReached, IsReachedAt}
 
 -- a group that leaves out a bidder leaves out one that is there
 abbrev pub IsThere : ℕ → Group → Type 0
@@ -36,17 +45,37 @@ pub record IsAwaited (g : Group) (now : State) : Type 0 where
   pub exchange : IsExchange (exchange_at now)
   pub valued : is_valued g ≡ true
   pub there : IsThere (length (trees_at now)) g
+  pub reached : IsReachedAt now g
 
 of_group : (mine g : Group) (now : State) → Some mine ≡ Some g → IsAwaited mine now → IsAwaited g now
 of_group mine g now e h = subst (λ (x : Group). IsAwaited x now) (same_Some mine g e) h
 
+-- by the settlements before this one
+past_reached : (g : Group) (ex : Exchange) (number : ℕ) (bounds : List Bounds) (past : List Going) (final : Assignment) → IsPast ex number bounds past → HasFinal g ex bounds final → IsReached g ex bounds final
+past_reached g ex number bounds past final is best = record { past = past; earlier = is.going; bounds_are = is.after; final_is = best }
+
+-- at the bounds of the exchange
+first_reached : (g : Group) (ex : Exchange) (bounds : List Bounds) (final : Assignment) → bounds ≡ opening_bounds ex → HasFinal g ex bounds final → IsReached g ex bounds final
+first_reached g ex bounds final opening best = record { past = []; earlier = tt; bounds_are = sym opening; final_is = best }
+
+final_is_best : (ex : Exchange) (bounds : List Bounds) (p : Proved) → IsBestFound ex bounds (lower_weights bounds) p → HasFinal Rival ex bounds p.sets
+final_is_best ex bounds p is = (is.feasible, subst (λ (v : ℤ). IsBestOfAll (trees_of ex) (exact_of ex) (lower_weights bounds) v) (sym is.value) is.best)
+
 -- in a session
 in_session : (rest : List Record) (s : State) (place : Place) (g : Group) → sessions.IsAt rest s place → awaited session_kind place ≡ Some g → IsAwaited g (before_head place s)
-in_session rest s (at_group Final) g (past, opened, tells) e = of_group Final g s e (record { exchange = tells.exchange; valued = refl; there = tt })
-in_session rest s (at_group Rival) g (past, log, opened, final, tells) e = of_group Rival g s e (record { exchange = tells.exchange; valued = refl; there = tt })
-in_session rest s (at_group Provisional) g (past, x, opened, settled, tells) e = of_group Provisional g s e (record { exchange = tells.exchange; valued = refl; there = tt })
+in_session rest s (at_group Final) g (past, opened, tells) e =
+    of_group Final g s e (record { exchange = tells.exchange; valued = refl; there = tt; reached = past_reached Final (exchange_at s) s.number s.bounds past s.final.sets opened.earlier tt })
+in_session rest s (at_group Rival) g (past, log, opened, final, tells) e =
+    of_group Rival g s e (record {
+      exchange = tells.exchange;
+      valued = refl;
+      there = tt;
+      reached = past_reached Rival (exchange_at s) s.number s.bounds past s.final.sets opened.earlier (final_is_best (exchange_at s) s.bounds (so_far s.final log) final);
+    })
+in_session rest s (at_group Provisional) g (past, x, opened, settled, tells) e =
+    of_group Provisional g s e (record { exchange = tells.exchange; valued = refl; there = tt; reached = past_reached Provisional (exchange_at s) s.number s.bounds past s.final.sets opened.earlier tt })
 in_session rest s (at_group (Without b)) g (past, x, ps, earlier, settled, withouts, there, tells) e =
-    of_group (Without b) g s e (record { exchange = tells.exchange; valued = refl; there = there })
+    of_group (Without b) g s e (record { exchange = tells.exchange; valued = refl; there = there; reached = past_reached (Without b) (exchange_at s) s.number s.bounds past s.final.sets earlier tt })
 in_session rest s (at_group Assign) g at e = absurd at
 in_session rest s other g at e = absurd (none-some g e)
 
@@ -55,8 +84,19 @@ in_regret : (rest : List Record) (s : State) (place : Place) (g : Group) → All
     → awaited regret_kind place ≡ Some g → IsAwaited g (before_head place s)
 in_regret rest s at_section g records taken ended e =
     let tells = section_told section_is_lawful section_records_are log_refutes rest s records taken ended in
-    of_group Final g (before_head at_section s) e (record { exchange = tells.exchange; valued = refl; there = tt })
-in_regret rest s (at_group Rival) g records (log, opening, final, tells) ended e = of_group Rival g s e (record { exchange = tells.exchange; valued = refl; there = tt })
+    of_group Final g (before_head at_section s) e (record {
+      exchange = tells.exchange;
+      valued = refl;
+      there = tt;
+      reached = first_reached Final (exchange_at s) (opening_bounds (exchange_at s)) s.final.sets refl tt;
+    })
+in_regret rest s (at_group Rival) g records (log, opening, final, tells) ended e =
+    of_group Rival g s e (record {
+      exchange = tells.exchange;
+      valued = refl;
+      there = tt;
+      reached = first_reached Rival (exchange_at s) s.bounds s.final.sets opening (final_is_best (exchange_at s) s.bounds (so_far s.final log) final);
+    })
 in_regret rest s (at_group other) g records at ended e = absurd at
 in_regret rest s other g records at ended e = absurd (none-some g e)
 

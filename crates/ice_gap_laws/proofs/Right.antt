@@ -358,6 +358,7 @@ close_on before gap n r true (front, t, sets, steps, from, text, is) e = record 
   state = t;
   leads = from.leads;
   awaits = from.awaits;
+  reached = from.is.reached;
   is = is_gap front gap t sets from is;
 }
 close_on before gap n r false is e = tt

@@ -82,7 +82,7 @@ opens_gap s g value bound e there below = (
   closed_at s,
   spent_stops s s.kind s.place g value bound e there,
   sym (ap (λ (o : Option Group). from_stop s (option_map (λ x. record { group = x; value = value; bound = bound }) o)) e
-  ∙ ap (λ (b : Bool). cond b (in_group (gap_of g value bound) (opened (gap_of g value bound) s)) (no_gap s.line)) (is_below value bound below)),
+      ∙ ap (λ (b : Bool). cond b (in_group (gap_of g value bound) (opened (gap_of g value bound) s)) (no_gap s.line)) (is_below value bound below)),
 )
 
 -- ---- the sets and the log
@@ -118,17 +118,19 @@ module _ (now : State) (g : Group) (p : Proved) (bound : ℤ) (valued : is_value
 
       same : InLog (suc n) (start_of (trees_at now) g ∷ []) (all_zero (goods_at now)) ≡ in_its_group Mine (passing Last)
       same = sym (
-        ap (λ (t : State). in_its_group Mine (passing (to_line (suc n) t))) (log_follows (go_to (at_sets g (record { value = p.value; sets = front })) (to_line n now)) g (record { value = p.value; sets = front ++ x ∷ [] }) valued)
-        ∙ ap (λ (sets : Assignment). in_group Mine (to_line (suc n) (go_to (at_log g (record { value = bound; sets = sets }) (start_of (trees_at now) g ∷ []) (all_zero (goods_at now))) now))) e
-      )
+          ap (λ (t : State). in_its_group Mine (passing (to_line (suc n) t))) (log_follows (go_to (at_sets g (record { value = p.value; sets = front })) (to_line n now)) g (record { value = p.value; sets = front ++ x ∷ [] }) valued)
+          ∙ ap (λ (sets : Assignment). in_group Mine (to_line (suc n) (go_to (at_log g (record { value = bound; sets = sets }) (start_of (trees_at now) g ∷ []) (all_zero (goods_at now))) now))) e
+          )
   sets_lead n front (y ∷ rest) x e =
-      let next = sets_lead (suc n) (front ++ x ∷ []) rest y (append_assoc front (x ∷ []) (y ∷ rest) ∙ e) in
-      (next.0, goes (
-        passing (to_line (suc n) (go_to (at_sets g (record { value = p.value; sets = front ++ x ∷ [] })) now)),
-        set_on (to_line n now) g (record { value = p.value; sets = front }) x (fit now g p.value p.sets is.feasible (λ v. is.value) is.left_out n front (y ∷ rest) x e)
-        (λ last. omega (arith, last, count_there now g p.value p.sets is.feasible (λ v. is.value) is.left_out front (y ∷ rest) x e)),
-        refl,
-      ) next.1)
+      let next = sets_lead (suc n) (front ++ x ∷ []) rest y (append_assoc front (x ∷ []) (y ∷ rest) ∙ e) in (
+        next.0,
+        goes (
+          passing (to_line (suc n) (go_to (at_sets g (record { value = p.value; sets = front ++ x ∷ [] })) now)),
+          set_on (to_line n now) g (record { value = p.value; sets = front }) x (fit now g p.value p.sets is.feasible (λ v. is.value) is.left_out n front (y ∷ rest) x e)
+              (λ last. omega (arith, last, count_there now g p.value p.sets is.feasible (λ v. is.value) is.left_out front (y ∷ rest) x e)),
+          refl,
+        ) next.1,
+      )
 
   abbrev Counts : List Step → Type 0
   Counts log = AllByRecursion (CountsGoods (goods_at now)) log
@@ -160,8 +162,8 @@ module _ (now : State) (g : Group) (p : Proved) (bound : ℤ) (valued : is_value
       let next = on (suc n) (multipliers_after m x) after (subst Counts e all) in (
         next.0,
         goes (step_leads n side others m x count counts passes)
-        (subst (λ (l : List Side). GapLeads (InLog (suc n) l (multipliers_after m x)) (step_records now.version (multipliers_after m x) rest) (at_close Mine next.0)) (sym sides)
-        (subst (λ (l : List Step). GapLeads (InLog (suc n) others (multipliers_after m x)) (step_records now.version (multipliers_after m x) l) (at_close Mine next.0)) (sym e) next.1)),
+            (subst (λ (l : List Side). GapLeads (InLog (suc n) l (multipliers_after m x)) (step_records now.version (multipliers_after m x) rest) (at_close Mine next.0)) (sym sides)
+            (subst (λ (l : List Step). GapLeads (InLog (suc n) others (multipliers_after m x)) (step_records now.version (multipliers_after m x) l) (at_close Mine next.0)) (sym e) next.1)),
       )
 
   log_leads : {side : Side} {log : List Step} {end : Result (List Step) Fault} → Reads (trees_at now) (exact_at now) (weights_at now g) bound side log end
@@ -198,8 +200,8 @@ module _ (now : State) (g : Group) (p : Proved) (bound : ℤ) (valued : is_value
       let log = log_leads is.passes [] refl sets.0 [] (all_zero (goods_at now)) (length-replicate (goods_at now) _) is.counts (λ k m count counts. (k, stays)) in (
         suc log.0,
         gap_joins (InSets n []) (InLog sets.0 (start_of (trees_at now) g ∷ []) (all_zero (goods_at now))) (ended Mine (suc log.0)) (map line.set p.sets) (step_records now.version (all_zero (goods_at now)) p.log ++ line.end spent_end ∷ []) sets.1
-        (gap_joins (InLog sets.0 (start_of (trees_at now) g ∷ []) (all_zero (goods_at now))) (at_close Mine log.0) (ended Mine (suc log.0)) (step_records now.version (all_zero (goods_at now)) p.log) (line.end spent_end ∷ []) log.1
-        (goes refl stays)),
+            (gap_joins (InLog sets.0 (start_of (trees_at now) g ∷ []) (all_zero (goods_at now))) (at_close Mine log.0) (ended Mine (suc log.0)) (step_records now.version (all_zero (goods_at now)) p.log) (line.end spent_end ∷ []) log.1
+            (goes refl stays)),
       )
 
 -- ---- the whole journal
@@ -232,10 +234,10 @@ gap_is_written kind v before s g p bound checked carries e there some is =
     let gap = gap_leads (before_head s.place s) g p bound (awaited_valued s.kind s.place g e) is (suc m) some in (
       ended (gap_of g p.value bound) gap.0,
       goes (after_head (line.head v kind), refl, head_read v kind checked)
-      (gap_joins (checking (passing (begun v kind))) (checking (passing (to_line m s))) (ended (gap_of g p.value bound) gap.0) before (gap_records (before_head s.place s) p bound)
-      (gap_before (begun v kind) (to_line m s) before l)
-      (goes (opens_gap (to_line m s) g p.value bound e (there_in m s s.place there) is.below)
-      (subst (λ (t : State). GapLeads (in_group (gap_of g p.value bound) t) (map line.set p.sets ++ (step_records (before_head s.place s).version (all_zero (goods_at (before_head s.place s))) p.log ++ line.end spent_end ∷ [])) (ended (gap_of g p.value bound) gap.0))
-      (sym (opened_same m s s.place g p.value bound)) gap.1))),
+          (gap_joins (checking (passing (begun v kind))) (checking (passing (to_line m s))) (ended (gap_of g p.value bound) gap.0) before (gap_records (before_head s.place s) p bound)
+          (gap_before (begun v kind) (to_line m s) before l)
+          (goes (opens_gap (to_line m s) g p.value bound e (there_in m s s.place there) is.below)
+          (subst (λ (t : State). GapLeads (in_group (gap_of g p.value bound) t) (map line.set p.sets ++ (step_records (before_head s.place s).version (all_zero (goods_at (before_head s.place s))) p.log ++ line.end spent_end ∷ [])) (ended (gap_of g p.value bound) gap.0))
+          (sym (opened_same m s s.place g p.value bound)) gap.1))),
       refl,
     )

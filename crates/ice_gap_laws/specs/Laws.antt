@@ -1,15 +1,19 @@
 -- What the answers of `gap` mean, as statements.
 use Rattle.std.specs.Prelude.{ℕ, ℤ, length, ◌<◌, true, ◌≡◌, ◌≢◌, List, [], ◌∷◌, ◌++◌, map, ◌≤ℤ◌, ◌<ℤ◌, Some, Result, Ok, Err}
 use Rattle.std.specs.List.{AllByRecursion}
-use Rattle.ice_defs.specs.Trade.{Assignment, IsFeasible, MeetsAll, total_value}
+use Rattle.ice_defs.specs.Trade.{Assignment, IsFeasible, MeetsAll, IsBestOfAll, total_value}
 use Rattle.ice_defs.specs.Set.{Weights}
 use Rattle.ice_defs.specs.Bounds.{Bounds}
 use Rattle.ice_defs.specs.Group.{start_of, group_weights}
-use Rattle.ice_defs.specs.Exchange.{Exchange, trees_of, exact_of}
+use Rattle.ice_defs.specs.Exchange.{Exchange, trees_of, exact_of, opening_bounds}
+use Rattle.ice_defs.specs.Weighing.{lower_weights}
+use Rattle.ice_defs.specs.Right.{bounds_after_rounds}
+use Rattle.ice_journal_laws.specs.Stops.{AreGoing}
+use Rattle.ice_defs.specs.declared.Group.TheVariants.{Rival}
 use Rattle.ice_defs.specs.Lawful.{IsExchange}
 use Rattle.ice_defs.specs.declared.Group.{Group}
 use Rattle.ice_defs.specs.Log.{Passes}
-use Rattle.ice_defs.specs.Session.{Proved}
+use Rattle.ice_defs.specs.Session.{Proved, Going}
 use Rattle.ice_refute.specs.Code.{CountsGoods}
 use Rattle.ice_section.specs.Section.{may_end}
 use Rattle.ice_journal.specs.Plain.{all_zero}
@@ -48,11 +52,27 @@ pub record IsGap (ex : Exchange) (bounds : List Bounds) (final : Assignment) (ga
   pub worth : total_value sets (values_of ex bounds final gap) ≡ gap.value
   pub bound_is : (a : Assignment) → Competes ex gap a → total_value a (values_of ex bounds final gap) ≤ℤ gap.bound
 
+-- the final sets are best at lower values, where they matter
+abbrev pub HasFinal : Group → Exchange → List Bounds → Assignment → Type 0
+HasFinal Rival ex bounds final = IsFeasible (trees_of ex) (exact_of ex) final
+    × IsBestOfAll (trees_of ex) (exact_of ex) (lower_weights bounds) (total_value final (lower_weights bounds))
+HasFinal g ex bounds final = Unit {0}
+
+-- right settlements that go on lead to these bounds, from those of the exchange
+pub record IsReached (g : Group) (ex : Exchange) (bounds : List Bounds) (final : Assignment) : Type 0 where
+  pub past : List Going
+  pub earlier : AreGoing ex 0 (opening_bounds ex) past
+  pub bounds_are : bounds_after_rounds ex (opening_bounds ex) past ≡ bounds
+  pub final_is : HasFinal g ex bounds final
+
 -- ---- of a journal
 
 -- of the exchange, the bounds and the final sets of a state
 abbrev pub IsGapAt : State → Gap → Assignment → Type 0
 IsGapAt s gap sets = IsGap (exchange_at s) s.bounds s.final.sets gap sets
+
+abbrev pub IsReachedAt : State → Group → Type 0
+IsReachedAt s g = IsReached g (exchange_at s) s.bounds s.final.sets
 
 -- its records pass every test of `check` up to the place of a group's head; there it states a gap,
 -- its sets and the steps of its log
@@ -64,6 +84,7 @@ pub record StatesGap (journal : List Record) (gap : Gap) : Type 0 where
   pub state : State
   pub leads : Leads nothing before (passing state)
   pub awaits : awaited state.kind state.place ≡ Some gap.group
+  pub reached : IsReachedAt (before_head state.place state) gap.group
   pub is : IsGapAt (before_head state.place state) gap sets
 
 abbrev pub GapIsRight : Type 0
