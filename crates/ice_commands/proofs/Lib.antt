@@ -24,3 +24,5 @@ pub mod Auditing
 pub mod FairWritable
 -- what `fair` answers
 pub mod Fairing
+-- from the gap that a file states to what `gap` answers
+pub mod Gaps

@@ -18,3 +18,4 @@ pub mod AuditServed
 pub mod AuditParts
 pub mod FairServed
 pub mod FairParts
+pub mod GapServed

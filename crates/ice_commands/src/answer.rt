@@ -13,7 +13,7 @@ use ice_frac::Frac;
 use ice_line::LineWriter;
 
 /// The word that a rule is printed as.
-fn rule_word(rule: Rule) -> &'static [u8]
+pub(crate) fn rule_word(rule: Rule) -> &'static [u8]
     ensures word { result.now ≡ rule_word rule }
     ensures short { length result.now ≤ 9 }
 {

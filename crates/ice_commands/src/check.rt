@@ -16,7 +16,7 @@ use std::alloc::Global;
 pub const JOURNAL_LIMIT: usize = 134_217_728;
 
 /// Why bytes have no answer, as what is wrong with the first file.
-fn refusal_of(end: CheckEnd) -> Refusal
+pub(crate) fn refusal_of(end: CheckEnd) -> Refusal
     ensures { IsFaultOf 1 (IsEndFault end) result }
 {
     let fault = match end {

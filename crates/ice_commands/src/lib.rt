@@ -9,6 +9,7 @@ mod best_set;
 pub mod check;
 pub mod fair;
 mod fair_prices;
+pub mod gap;
 pub mod migrate;
 pub mod regret;
 mod regret_journal;
