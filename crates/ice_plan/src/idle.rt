@@ -62,6 +62,38 @@ fn join<S: Sides>(
     plan.push(split)
 }
 
+/// Goes through a plan, and joins the trees at both sides of each of its splits, the lowest first.
+/// It owns nothing, so that an early end lets nothing go.
+fn join_all<S: Sides>(
+    alloc: Global,
+    plan: &Plan,
+    sides: &mut S,
+    made: &mut Plan,
+    walk: &mut Walk,
+    done: &mut Vec<Side>,
+) -> Result<(), AllocError> {
+    for _task in 0..Walk::most_tasks(plan) {
+        match walk.next(plan, sides)? {
+            Event::End => break,
+            Event::Between => {}
+            Event::Leaf(number) => done.push(Side::Leaf(number))?,
+            Event::Free(split) => walk.enter(split, sides)?,
+            Event::Left(split) => {
+                let must = pop_side(done);
+                let never = pop_side(done);
+                let split = Split {
+                    node: split.node,
+                    must,
+                    never,
+                };
+                let side = join(alloc, made, sides, split)?;
+                done.push(side)?;
+            }
+        }
+    }
+    Ok(())
+}
+
 /// The plan without idle splits, the lowest first: where one side of a split is a leaf, and the
 /// tree at the other side closes the whole without it, that tree takes its place.
 pub fn drop_idle<S: Sides>(alloc: Global, plan: &Plan, sides: &mut S) -> Result<Plan, AllocError>
@@ -70,25 +102,7 @@ pub fn drop_idle<S: Sides>(alloc: Global, plan: &Plan, sides: &mut S) -> Result<
     let mut made = Plan::new(alloc);
     let mut walk = Walk::from(alloc, plan.root())?;
     let mut done: Vec<Side> = Vec::new(alloc);
-    for _task in 0..Walk::most_tasks(plan) {
-        match walk.next(plan, sides)? {
-            Event::End => break,
-            Event::Between => {}
-            Event::Leaf(number) => done.push(Side::Leaf(number))?,
-            Event::Free(split) => walk.enter(split, sides)?,
-            Event::Left(split) => {
-                let must = pop_side(&mut done);
-                let never = pop_side(&mut done);
-                let split = Split {
-                    node: split.node,
-                    must,
-                    never,
-                };
-                let side = join(alloc, &mut made, sides, split)?;
-                done.push(side)?;
-            }
-        }
-    }
+    join_all(alloc, plan, sides, &mut made, &mut walk, &mut done)?;
     walk.leave_all(sides);
     no_larger(alloc, &made, pop_side(&mut done), plan)
 }

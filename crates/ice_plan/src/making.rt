@@ -128,6 +128,39 @@ fn within(plan: Plan, most: usize) -> Option<Plan>
     if plan.len() <= most { Some(plan) } else { None }
 }
 
+/// Looks at the whole, which is the first part.
+fn begin<S: Bounds>(
+    parts: &mut Parts<S::Basis>,
+    sides: &mut S,
+    seed: &Plan,
+) -> Result<(), AllocError> {
+    let start = sides.start()?;
+    let whole = sides.look(&start)?;
+    let target = sides.target();
+    parts.add(Candidate::default(), Mark::Free, seed.root(), whole, target)
+}
+
+/// Splits parts until none is left whose bound isn't below the target, and answers whether that
+/// took at most so many splits.
+fn split_all<S: Bounds>(
+    parts: &mut Parts<S::Basis>,
+    sides: &mut S,
+    seed: &Plan,
+    most: usize,
+) -> Result<bool, AllocError> {
+    for splits in 0..=most {
+        let Some(part) = parts.next(sides.target()) else {
+            return Ok(true);
+        };
+        if splits == most {
+            break;
+        }
+        parts.look_at(part, sides);
+        split(parts, sides, seed)?;
+    }
+    Ok(false)
+}
+
 /// A plan of the side that is looked at: a part of the greatest bound is split, until each bound is
 /// below the target. It follows another plan as far as that goes, and else tries up to eight nodes
 /// at each part. None where that takes more than `most` splits. The marks stay.
@@ -140,22 +173,12 @@ pub fn make<S: Bounds>(
     ensures { IfOk result (λ made. IfSome made (λ plan. length plan ≤ most)) }
 {
     let mut parts = Parts::new(alloc);
-    let start = sides.start()?;
-    let whole = sides.look(&start)?;
-    let target = sides.target();
-    parts.add(Candidate::default(), Mark::Free, seed.root(), whole, target)?;
-    for splits in 0..=most {
-        let Some(part) = parts.next(sides.target()) else {
-            parts.look_at_whole(sides);
-            let plan = parts.plan(alloc, sides.target())?;
-            return Ok(within(plan, most));
-        };
-        if splits == most {
-            break;
-        }
-        parts.look_at(part, sides);
-        split(&mut parts, sides, seed)?;
-    }
+    begin(&mut parts, sides, seed)?;
+    let is_done = split_all(&mut parts, sides, seed, most)?;
     parts.look_at_whole(sides);
-    Ok(None)
+    if !is_done {
+        return Ok(None);
+    }
+    let plan = parts.plan(alloc, sides.target())?;
+    Ok(within(plan, most))
 }

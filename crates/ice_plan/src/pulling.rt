@@ -185,15 +185,16 @@ fn join<S: Sides>(
     Ok(Done { side, may })
 }
 
-/// The plan with nodes pulled up, the lowest first: a node that both trees below a split are split
-/// at is split once above them, where that takes fewer splits in all. It is tried only at the
-/// lowest such split: a higher side is larger.
-pub fn pull<S: Sides>(alloc: Global, plan: &Plan, sides: &mut S) -> Result<Plan, AllocError>
-    ensures { IfOk result (λ made. length made ≤ length plan.now) }
-{
-    let mut made = Plan::new(alloc);
-    let mut walk = Walk::from(alloc, plan.root())?;
-    let mut done: Vec<Done> = Vec::new(alloc);
+/// Goes through a plan, and joins the trees at both sides of each of its splits, the lowest first.
+/// It owns nothing, so that an early end lets nothing go.
+fn join_all<S: Sides>(
+    alloc: Global,
+    plan: &Plan,
+    sides: &mut S,
+    made: &mut Plan,
+    walk: &mut Walk,
+    done: &mut Vec<Done>,
+) -> Result<(), AllocError> {
     for _task in 0..Walk::most_tasks(plan) {
         match walk.next(plan, sides)? {
             Event::End => break,
@@ -204,13 +205,26 @@ pub fn pull<S: Sides>(alloc: Global, plan: &Plan, sides: &mut S) -> Result<Plan,
             })?,
             Event::Free(split) => walk.enter(split, sides)?,
             Event::Left(split) => {
-                let must = pop_done(&mut done);
-                let never = pop_done(&mut done);
-                let joined = join(alloc, &mut made, sides, split.node, &must, &never)?;
+                let must = pop_done(done);
+                let never = pop_done(done);
+                let joined = join(alloc, made, sides, split.node, &must, &never)?;
                 done.push(joined)?;
             }
         }
     }
+    Ok(())
+}
+
+/// The plan with nodes pulled up, the lowest first: a node that both trees below a split are split
+/// at is split once above them, where that takes fewer splits in all. It is tried only at the
+/// lowest such split: a higher side is larger.
+pub fn pull<S: Sides>(alloc: Global, plan: &Plan, sides: &mut S) -> Result<Plan, AllocError>
+    ensures { IfOk result (λ made. length made ≤ length plan.now) }
+{
+    let mut made = Plan::new(alloc);
+    let mut walk = Walk::from(alloc, plan.root())?;
+    let mut done: Vec<Done> = Vec::new(alloc);
+    join_all(alloc, plan, sides, &mut made, &mut walk, &mut done)?;
     walk.leave_all(sides);
     no_larger(alloc, &made, pop_done(&mut done).side, plan)
 }

@@ -119,6 +119,34 @@ fn join<S: Bounds>(
     Ok(joined)
 }
 
+/// Goes through a plan, and joins the trees at both sides of each of its splits, the lowest first.
+/// It owns nothing, so that an early end lets nothing go.
+fn join_all<S: Bounds>(
+    alloc: Global,
+    plan: &Plan,
+    sides: &mut S,
+    most: usize,
+    made: &mut Plan,
+    walk: &mut Walk,
+    done: &mut Vec<Done>,
+) -> Result<(), AllocError> {
+    for _task in 0..Walk::most_tasks(plan) {
+        match walk.next(plan, sides)? {
+            Event::End => break,
+            Event::Between => {}
+            Event::Leaf(number) => done.push(Done::leaf(number))?,
+            Event::Free(split) => walk.enter(split, sides)?,
+            Event::Left(split) => {
+                let must = pop_done(done);
+                let never = pop_done(done);
+                let joined = join(alloc, made, sides, split.node, &must, &never, most)?;
+                done.push(joined)?;
+            }
+        }
+    }
+    Ok(())
+}
+
 /// The plan with trees of at most so many splits made anew where that takes fewer, the lowest
 /// first.
 pub fn rebuild<S: Bounds>(
@@ -132,20 +160,7 @@ pub fn rebuild<S: Bounds>(
     let mut made = Plan::new(alloc);
     let mut walk = Walk::from(alloc, plan.root())?;
     let mut done: Vec<Done> = Vec::new(alloc);
-    for _task in 0..Walk::most_tasks(plan) {
-        match walk.next(plan, sides)? {
-            Event::End => break,
-            Event::Between => {}
-            Event::Leaf(number) => done.push(Done::leaf(number))?,
-            Event::Free(split) => walk.enter(split, sides)?,
-            Event::Left(split) => {
-                let must = pop_done(&mut done);
-                let never = pop_done(&mut done);
-                let joined = join(alloc, &mut made, sides, split.node, &must, &never, most)?;
-                done.push(joined)?;
-            }
-        }
-    }
+    join_all(alloc, plan, sides, most, &mut made, &mut walk, &mut done)?;
     walk.leave_all(sides);
     no_larger(alloc, &made, pop_done(&mut done).side, plan)
 }
