@@ -77,13 +77,13 @@ module _ (l : LastTrade) (is : IsLast l) (t : ProvisionalTrade) (trades : t ≡ 
     short = subst (AllByRecursion IsShortPayment) (sym same) is.short;
   }
 
-  module _ (cut : ℕ) (cuts : cut ≡ l.cut) (delta delta1 : ℤ) (den den1 : ℕ) (deltas : delta1 ≡ delta) (dens : den1 ≡ den) (p : Prices) (accurate : AreAccurate l.paid p) (violates : HasViolationOf l.paid p delta) (own : p.den ≡ den) where
+  module _ (cut : ℕ) (cuts : cut ≡ l.cut) (delta delta1 : ℤ) (den den1 : ℕ) (deltas : delta1 ≡ delta) (dens : den1 ≡ den) (p : Pricing) (priced : IsPriced (trade_of l.paid) p) (own-delta : p.delta ≡ delta) (own : p.prices.den ≡ den) where
     pub stage-stop : (stop : FairStop) → IsFairStop t payments cut delta1 den1 stop → IsStageStop l stop
     stage-stop (Limit limit) (at, over, ends) =
         let limits : limit.delta ≡ delta = at ∙ deltas in
         let limit_dens : limit.den ≡ den = over ∙ dens in
         record {
-          accurate = (p, accurate, subst (HasViolationOf l.paid p) (sym limits) violates, own ∙ sym limit_dens);
+          priced = (p, priced, own-delta ∙ sym limits, own ∙ sym limit_dens);
           ends =
               subst (λ (z : PaidTrade). EndsAtFairLimit z l.cut limit.delta limit.den (limit_of limit.kind) limit.pool.items) paid-is
               (subst (λ (n : ℕ). EndsAtFairLimit (paid_with t payments) n limit.delta limit.den (limit_of limit.kind) limit.pool.items) cuts

@@ -4,7 +4,8 @@ use Rattle.ice_defs.specs.Prices.{Prices}
 use Rattle.ice_defs.specs.PricingLimit.{limit_of}
 use Rattle.ice_fair_laws.specs.Fair.{AreAccurate, HasViolationOf}
 use Rattle.ice_fair_laws.specs.FairRun.{EndsAtFairLimit}
-use Rattle.ice_price.specs.Ends.{IsPriceEnd}
+use Rattle.ice_pricing.specs.declared.certificate.Pricing.{Pricing}
+use Rattle.ice_price.specs.Ends.{IsPriceEnd, IsPriced}
 use Rattle.ice_price.specs.declared.ends.PriceEnd.TheVariants.{Limit as PriceRunLimit}
 use Rattle.ice_fair_stage.specs.declared.ends.FairLimit.{FairLimit}
 use Rattle.ice_fair_stage.specs.declared.ends.FairStop.{FairStop}
@@ -16,7 +17,7 @@ use Rattle.ice_fair.specs.declared.ends.FairEnd.TheVariants.{Price, Limit, NoMem
 -- the fairness stage ends at this limit, from the violation
 -- of accurate prices over their denominator
 pub record IsFairLimit (l : LastTrade) (limit : FairLimit) : Type 0 where
-  pub accurate : (p : Prices) × AreAccurate l.paid p × HasViolationOf l.paid p limit.delta × (p.den ≡ limit.den)
+  pub priced : (p : Pricing) × IsPriced (trade_of l.paid) p × (p.delta ≡ limit.delta) × (p.prices.den ≡ limit.den)
   pub ends : EndsAtFairLimit l.paid l.cut limit.delta limit.den (limit_of limit.kind) limit.pool.items
 
 -- pricing ends at its limit, or the fairness stage does; want of memory has no cause

@@ -26,7 +26,7 @@ end_of-requires c =
     let v : to_z w128 (of_z w128 c.args.pricing.now.delta) ≡ c.args.pricing.now.delta = search rules in
     let same : to_z w64 (of_z w64 c.den-den.result) ≡ pos c.args.pricing.now.prices.den = omega (arith, ints, c.den-den.ensures.den, c.den-den.ensures.limits.den.1) in
     stage-stop c.args.last.now c.trade-trade.ensures.lawful c.trade-trade.result c.trade-trade.ensures.value c.payments.result.now c.payments.ensures.value c.cut.result c.cut.ensures.value
-    c.args.pricing.now.delta _ c.args.pricing.now.prices.den _ v (ap unsigned_abs same) c.args.pricing.now.prices c.requires.balanced.accurate c.requires.passes.violates refl c.in-Err.stop c.in-Err.ensures.stopped
+    c.args.pricing.now.delta _ c.args.pricing.now.prices.den _ v (ap unsigned_abs same) c.args.pricing.now c.requires refl refl c.in-Err.stop c.in-Err.ensures.stopped
 
 pub returns-in-Ok-clause-fair : goal.returns-in-Ok-clause-fair
 returns-in-Ok-clause-fair c =
