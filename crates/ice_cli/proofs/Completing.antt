@@ -10,7 +10,7 @@ use Rattle.ice_journal_laws.specs.declared.answer.CheckEnd.TheVariants as ending
 use Rattle.ice_journal_laws.specs.Answers.{AnswersBytes}
 use Rattle.ice_journal_laws.proofs.Answered.{one_answer_of_bytes}
 use Rattle.ice_command_parts.specs.Call.{Call, IsTold, journal_limit, OfTold, too_long, at_fault}
-use Rattle.ice_cli.specs.Command.{check, best, regret, xor, run, gen, migrate, simulate, IsCommand, replay, statement, audit, fair}
+use Rattle.ice_words.specs.Command.{check, best, regret, xor, run, gen, migrate, simulate, IsCommand, replay, statement, audit, fair}
 use Rattle.ice_commands.specs.CheckServed.{IsEndFault, CheckAnswers, WritesAnswer, answer_line, answer_status}
 use Rattle.ice_command_parts.specs.Lines.{refused_line}
 use Rattle.ice_command_parts.specs.Refusals.{other_kind}

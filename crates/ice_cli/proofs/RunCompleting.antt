@@ -8,7 +8,7 @@ use Rattle.ice_edge.specs.declared.status.Status.{Status}
 use Rattle.ice_edge.specs.declared.status.Status.TheVariants.{Done, Words, Input, No, Spent, Limit, ReadFault, WriteFault, NoMemory, StillOpen}
 use Rattle.ice_branch_laws.specs.Branches.{enough_for_session}
 use Rattle.ice_command_parts.specs.Call.{Call}
-use Rattle.ice_cli.specs.Command.{check, best, regret, xor, replay, gen, run, migrate, simulate, statement, audit, fair, IsCommand}
+use Rattle.ice_words.specs.Command.{check, best, regret, xor, replay, gen, run, migrate, simulate, statement, audit, fair, IsCommand}
 use Rattle.ice_session_commands.specs.RunServed.{RunAnswers, RunRefused, RunUnread}
 use Rattle.ice_session_commands.specs.RunServed as served
 use Rattle.ice_cli.specs.Served.{IsServed, no_command, answers, cut_short}

@@ -9,7 +9,7 @@ use Rattle.ice_command_parts.specs.Call.{Call, SinkFaultRose}
 use Rattle.ice_command_parts.specs.Lines.{words_line}
 use Rattle.ice_command_parts.specs.Parts.{HasPart, IsSaid, Serves}
 use Rattle.ice_command_parts.proofs.Parts.{later_refl}
-use Rattle.ice_cli.specs.Command.{Command, IsCommand, IsNoCommand}
+use Rattle.ice_words.specs.Command.{Command, IsCommand, IsNoCommand}
 use Rattle.ice_cli.specs.Served.{CommandAnswers, IsServed, no_command, answers, cut_short}
 
 -- a count of faults that rose in the sink rose in the call

@@ -1,4 +1,2 @@
-pub mod Command
-pub mod Words
 pub mod Served
 pub mod Completeness

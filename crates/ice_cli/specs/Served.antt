@@ -2,8 +2,8 @@
 use Rattle.std.specs.Prelude.{◌≡◌, ℕ, List}
 use Rattle.ice_edge.specs.declared.status.Status.{Status}
 use Rattle.ice_edge.specs.declared.status.Status.TheVariants.{Words, WriteFault}
-use Rattle.ice_cli.specs.Command.{Command, check, best, regret, xor, run, gen, migrate, simulate, IsCommand, IsNoCommand, replay, statement}
-use Rattle.ice_cli.specs.Command.{audit, fair}
+use Rattle.ice_words.specs.Command.{Command, check, best, regret, xor, run, gen, migrate, simulate, IsCommand, IsNoCommand, replay, statement}
+use Rattle.ice_words.specs.Command.{audit, fair}
 use Rattle.ice_command_parts.specs.Call.{Call, SinkFaultRose, IsPrefix}
 use Rattle.ice_command_parts.specs.Lines.{words_line}
 use Rattle.ice_commands.specs.CheckServed.{CheckAnswers}

@@ -6,7 +6,6 @@ ghost use Rattle.ice_command_parts.specs.Keeping.{KeepsTold};
 ghost use Rattle.ice_command_parts.specs.Parts.{IsSaid};
 ghost use Rattle.ice_cli.specs.Served.{IsServed};
 
-use crate::command::{Command, command_in};
 use ice_command_parts::ended;
 use ice_commands::audit::audit;
 use ice_commands::best::best;
@@ -21,6 +20,7 @@ use ice_edge::{Shelf, Sink, Status};
 use ice_session_commands::generated::generated;
 use ice_session_commands::run::run;
 use ice_session_commands::simulate::simulate;
+use ice_words::command::{Command, command_in};
 use std::alloc::Global;
 
 /// Refuses the words.

@@ -1,6 +1,6 @@
 use Rattle.std.proofs.Common.{refl, [], map, string_bytes}
 use Rattle.ice_command_parts.specs.Call.{Call}
-use Rattle.ice_cli.specs.Command.{check, best, regret, xor, run, gen, migrate, simulate, replay, statement, audit, fair}
+use Rattle.ice_words.specs.Command.{check, best, regret, xor, run, gen, migrate, simulate, replay, statement, audit, fair}
 use Rattle.ice_commands.specs.CheckServed.{CheckAnswers}
 use Rattle.ice_commands.specs.BestServed.{BestAnswers}
 use Rattle.ice_commands.specs.RegretServed.{RegretAnswers}

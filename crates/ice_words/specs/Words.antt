@@ -1,8 +1,8 @@
 -- The command that the program's words are.
 use Rattle.std.specs.Prelude.{map, string_bytes}
-use Rattle.ice_cli.specs.declared.command.Command as declared
-use Rattle.ice_cli.specs.declared.command.Command.TheVariants as called
-use Rattle.ice_cli.specs.Command.{Command, check, best, regret, xor, run, gen, migrate, simulate, replay, statement, audit, fair}
+use Rattle.ice_words.specs.declared.command.Command as declared
+use Rattle.ice_words.specs.declared.command.Command.TheVariants as called
+use Rattle.ice_words.specs.Command.{Command, check, best, regret, xor, run, gen, migrate, simulate, replay, statement, audit, fair}
 
 abbrev pub command_of : declared.Command → Command
 command_of (called.Check journal) = check journal.now

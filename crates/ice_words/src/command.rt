@@ -1,7 +1,7 @@
 //! The words behind the program's name.
 ghost use Rattle.std.specs.Prelude.{◌<◌, ◌≤◌, ◌^◌, length, decimal, ◌≡◌, ◌∷◌, [], ℕ, List, map, string_bytes, MatchOption};
-ghost use Rattle.ice_cli.specs.Command.{IsCommand, IsNoCommand};
-ghost use Rattle.ice_cli.specs.Words.{command_of};
+ghost use Rattle.ice_words.specs.Command.{IsCommand, IsNoCommand};
+ghost use Rattle.ice_words.specs.Words.{command_of};
 
 use ice_line::natural;
 
