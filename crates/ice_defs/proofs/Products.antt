@@ -75,3 +75,39 @@ times_not_positive (negsuc k) u p q = absurd (omega (arith, ints))
 pub times-le : (n : ℕ) (a b : ℤ) → a ≤ℤ b → (pos n *ℤ a) ≤ℤ (pos n *ℤ b)
 times-le zero a b h = omega (arith, ints, zero-*ℤ a, zero-*ℤ b)
 times-le (suc n) a b h = omega (arith, ints, suc_ℤ-*ℤ (pos n) a, suc_ℤ-*ℤ (pos n) b, times-le n a b h)
+
+-- bounds of a product, one of whose factors isn't below 0
+pub product_high : (a b : ℤ) (m n : ℕ) → pos 0 ≤ℤ a → a ≤ℤ pos m → b ≤ℤ pos n → (a *ℤ b) ≤ℤ pos (n * m)
+product_high (pos k) b m n is top high =
+    let one : (pos k *ℤ b) ≤ℤ (pos k *ℤ pos n) = times-le k b (pos n) high in
+    let two : (pos k *ℤ pos n) ≤ℤ pos (n * m) = times-high (pos k) m n top in
+    omega (arith, ints, one, two)
+product_high (negsuc k) b m n is top high = absurd (omega (arith, ints, is))
+
+pub product_low : (a b : ℤ) (m n : ℕ) → pos 0 ≤ℤ a → a ≤ℤ pos m → neg_ℤ (pos n) ≤ℤ b → neg_ℤ (pos (n * m)) ≤ℤ (a *ℤ b)
+product_low (pos k) b m n is top low =
+    let one : (pos k *ℤ neg_ℤ (pos n)) ≤ℤ (pos k *ℤ b) = times-le k (neg_ℤ (pos n)) b low in
+    let two : (pos k *ℤ pos n) ≤ℤ pos (n * m) = times-high (pos k) m n top in
+    omega (arith, ints, one, two, times_neg (pos k) (pos n))
+product_low (negsuc k) b m n is top low = absurd (omega (arith, ints, is))
+
+pub product_not_negative : (a b : ℤ) → pos 0 ≤ℤ a → pos 0 ≤ℤ b → pos 0 ≤ℤ (a *ℤ b)
+product_not_negative (pos k) b is low =
+    let one : (pos k *ℤ pos 0) ≤ℤ (pos k *ℤ b) = times-le k (pos 0) b low in
+    omega (arith, ints, one, *ℤ-zero (pos k))
+product_not_negative (negsuc k) b is low = absurd (omega (arith, ints, is))
+
+-- the same where the second factor isn't below 0
+pub product_high_of : (a b : ℤ) (m n : ℕ) → pos 0 ≤ℤ b → b ≤ℤ pos m → a ≤ℤ pos n → (a *ℤ b) ≤ℤ pos (n * m)
+product_high_of a (pos k) m n is top high =
+    let one : (a *ℤ pos k) ≤ℤ pos (k * n) = times-high a n k high in
+    let two : (pos k *ℤ pos n) ≤ℤ pos (n * m) = times-high (pos k) m n top in
+    omega (arith, ints, one, two)
+product_high_of a (negsuc k) m n is top high = absurd (omega (arith, ints, is))
+
+pub product_low_of : (a b : ℤ) (m n : ℕ) → pos 0 ≤ℤ b → b ≤ℤ pos m → neg_ℤ (pos n) ≤ℤ a → neg_ℤ (pos (n * m)) ≤ℤ (a *ℤ b)
+product_low_of a (pos k) m n is top low =
+    let one : neg_ℤ (pos (k * n)) ≤ℤ (a *ℤ pos k) = times-low a n k low in
+    let two : (pos k *ℤ pos n) ≤ℤ pos (n * m) = times-high (pos k) m n top in
+    omega (arith, ints, one, two)
+product_low_of a (negsuc k) m n is top low = absurd (omega (arith, ints, is))

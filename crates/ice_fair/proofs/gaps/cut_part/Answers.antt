@@ -1,0 +1,30 @@
+use Rattle.std.proofs.Common.{◌≡◌, ◌∙◌, ◌^◌, ◌*◌, ◌*ℤ◌, ◌≤ℤ◌, neg_ℤ, pos, ap, arith, to_z, of_z}
+use mir.Syntax.{w128}
+use Rattle.std.proofs.lemmas.Int.{ints}
+use Rattle.ice_defs.proofs.Products.{product_high, product_low}
+use Rattle.ice_fair.proofs.gaps.cut_part.Goals as goal
+
+-- the factors as they are read, and bounds of their product
+product : (c : goal.After-from) → to_z w128 (of_z w128 c.from.result) *ℤ to_z w128 (of_z w128 c.args.cost) ≡ pos c.args.cut *ℤ c.args.cost
+product c =
+    let one : to_z w128 (of_z w128 c.from.result) ≡ pos c.args.cut = omega (arith, ints, c.from.ensures, c.requires.cut) in
+    let other : to_z w128 (of_z w128 c.args.cost) ≡ c.args.cost = omega (arith, ints, c.requires.low, c.requires.high) in
+    ap (λ z. z *ℤ to_z w128 (of_z w128 c.args.cost)) one ∙ ap (λ z. (pos c.args.cut) *ℤ z) other
+
+most : (c : goal.After-from) → (pos c.args.cut *ℤ c.args.cost) ≤ℤ pos ((2 ^ 85) * 1000)
+most c = product_high (pos c.args.cut) c.args.cost 1000 (2 ^ 85) (omega (arith, ints)) (omega (arith, ints, c.requires.cut)) c.requires.high
+
+least : (c : goal.After-from) → neg_ℤ (pos ((2 ^ 85) * 1000)) ≤ℤ (pos c.args.cut *ℤ c.args.cost)
+least c = product_low (pos c.args.cut) c.args.cost 1000 (2 ^ 85) (omega (arith, ints)) (omega (arith, ints, c.requires.cut)) c.requires.low
+
+pub overflow_mul-result : goal.overflow_mul-result
+overflow_mul-result c = omega (arith, ints, product c, least c, most c)
+
+pub returns-clause-value : goal.returns-clause-value
+returns-clause-value c = ap (λ z. to_z w128 (of_z w128 z)) (product c) ∙ omega (arith, ints, least c, most c)
+
+pub returns-clause-low : goal.returns-clause-low
+returns-clause-low c = omega (arith, ints, returns-clause-value c, least c)
+
+pub returns-clause-high : goal.returns-clause-high
+returns-clause-high c = omega (arith, ints, returns-clause-value c, most c)
