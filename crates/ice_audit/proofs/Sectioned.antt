@@ -19,7 +19,7 @@ use Rattle.ice_journal_laws.specs.Tests.{is_refusal}
 use Rattle.ice_journal_laws.specs.Fields.{payment_in}
 use Rattle.ice_verdicts.specs.Judges.{IsRoundOf}
 use Rattle.ice_statement_laws.specs.Statement.{named, shown}
-use Rattle.ice_statement_laws.specs.Audit.{at_name, at_section, at_regret, AuditState, no_bidder, bidder_at, is_named, section_taken, section_next, begin_settlement, move_to, to_line, audit_next}
+use Rattle.ice_statement_laws.specs.Audit.{at_name, at_section, at_regret, AuditState, no_bidder, bidder_at, is_named, with_section, section_next, begin_settlement, move_to, to_line, audit_next}
 use Rattle.ice_statement_laws.specs.Sections.{Before, Complete, IsOwnSection}
 use Rattle.ice_statement_laws.specs.Texts.{payment_or}
 use Rattle.ice_statement_laws.proofs.Walking.{quiet}
@@ -76,11 +76,11 @@ complete_of own (inr c) e = c
 
 module _ (own : OwnSection) (r : Record) (k : IsOwnSection own.name own.section) (more : may_end own.section ≡ false) where
   section_at : (s : AuditState) → InSection own s → (b : Bool) → is_named_by own.name r ≡ b → (o : Result Section SectionFault) → take_record own.section r ≡ o
-      → section_next (move_to at_section s) r ≡ cond b (section_taken (move_to at_section s) o) None
+      → section_next (move_to at_section s) r ≡ cond b (with_section (move_to at_section s) o) None
   section_at s st b e o f =
-      ap (λ (c : Bool). cond c (begin_settlement (record (move_to at_section s) { bounds = (bidder_at s).bounds }) 0 r) (cond (is_named s r) (section_taken (move_to at_section s) (take_record s.section r)) None)) (ap may_end st.section ∙ more)
-      ∙ ap (λ (c : Bool). cond c (section_taken (move_to at_section s) (take_record s.section r)) None) (named_same s r ∙ ap (λ (n : List ℕ). is_named_by n r) st.name ∙ e)
-      ∙ ap (λ (x : Result Section SectionFault). cond b (section_taken (move_to at_section s) x) None) (ap (λ (x : Section). take_record x r) st.section ∙ f)
+      ap (λ (c : Bool). cond c (begin_settlement (record (move_to at_section s) { bounds = (bidder_at s).bounds }) 0 r) (cond (is_named s r) (with_section (move_to at_section s) (take_record s.section r)) None)) (ap may_end st.section ∙ more)
+      ∙ ap (λ (c : Bool). cond c (with_section (move_to at_section s) (take_record s.section r)) None) (named_same s r ∙ ap (λ (n : List ℕ). is_named_by n r) st.name ∙ e)
+      ∙ ap (λ (x : Result Section SectionFault). cond b (with_section (move_to at_section s) x) None) (ap (λ (x : Section). take_record x r) st.section ∙ f)
 
   pub misnamed : is_named_by own.name r ≡ false → (s : AuditState) → InSection own s → FailsFirst s (shown r) rule.Order
   misnamed e s st = fails_from s at_section (shown r) rule.Order st.spot (order_fails (move_to at_section s) (shown r) (section_at s st false e (take_record own.section r) refl))
@@ -107,7 +107,7 @@ module _ (own : OwnSection) (r : Record) (k : IsOwnSection own.name own.section)
     disordered : take_record own.section r ≡ Err order → (s : AuditState) → InSection own s → FailsFirst s (shown r) rule.Order
     disordered e s st = fails_from s at_section (shown r) rule.Order st.spot (order_fails (move_to at_section s) (shown r) (section_at s st true called (Err order) e))
 
-    refused_with : (f : SectionFault) (s : AuditState) → InSection own s → take_record own.section r ≡ Err f → section_taken (move_to at_section s) (Err f) ≡ Some (move_to at_section s) → is_refusal (Err f) ≡ true → FailsFirst s (shown r) rule.Exchange
+    refused_with : (f : SectionFault) (s : AuditState) → InSection own s → take_record own.section r ≡ Err f → with_section (move_to at_section s) (Err f) ≡ Some (move_to at_section s) → is_refusal (Err f) ≡ true → FailsFirst s (shown r) rule.Exchange
     refused_with f s st e stays is =
         fails_from s at_section (shown r) rule.Exchange st.spot
         (exchange_fails (move_to at_section s) (move_to at_section s) (shown r) (section_at s st true called (Err f) e ∙ stays) (ap is_refusal (ap (λ (x : Section). take_record x r) st.section ∙ e) ∙ is))
@@ -153,7 +153,7 @@ settled own x k ends exchange round bounds after marks sets number start = recor
   goes = λ s st.
       let state : AuditState = to_line (suc s.line) (move_to at_regret (record s { bounds = (bidder_at s).bounds; number = 0; judged = [] })) in
       let is : audit_next (move_to at_section s) (shown (line.settle 0)) ≡ Some state =
-      ap (λ (b : Bool). option_map (to_line (suc s.line)) (cond b (begin_settlement (record (move_to at_section s) { bounds = (bidder_at s).bounds }) 0 (line.settle 0)) (section_taken (move_to at_section s) (Err order)))) (ap may_end st.section ∙ ends) in
+      ap (λ (b : Bool). option_map (to_line (suc s.line)) (cond b (begin_settlement (record (move_to at_section s) { bounds = (bidder_at s).bounds }) 0 (line.settle 0)) (with_section (move_to at_section s) (Err order)))) (ap may_end st.section ∙ ends) in
       let same : exchange_in s.section ≡ x.exchange = ap exchange_in st.section ∙ sym exchange in
       let own_bounds : (bidder_at s).bounds ≡ bounds_of (opening_bounds (exchange_in own.section)) 0 =
       ap (λ (t : Section). (slice_index_or t.bidders 0 no_bidder).bounds) st.section ∙ ap (λ (bs : List Bidder). (slice_index_or bs 0 no_bidder).bounds) c.one ∙ sym (first_bounds own.section.bidders c.bidder c.one) in

@@ -8,7 +8,7 @@ use Rattle.ice_defs.specs.Set.{has, weight_of}
 use Rattle.ice_defs.specs.Trade.{Assignment, tree_of, set_of}
 use Rattle.ice_defs.specs.Bounds.{Bounds, bounds_of}
 use Rattle.ice_defs.specs.Lawful.{AreBounds}
-use Rattle.ice_defs.specs.Weighing.{weighted, weighted_list, perturbed_list, lower_weights, weighted_weights, perturbed_weights}
+use Rattle.ice_defs.specs.Weighing.{weighted_value, weighted_list, perturbed_list, lower_weights, weighted_weights, perturbed_weights}
 use Rattle.ice_tree.proofs.Filling.{length-weighted_list, get_or-weighted_list, length-perturbed_list, get_or-perturbed_list, weights_of-lower, weights_of-weighted, weights_of-perturbed, length-lower, length-weighted, length-perturbed}
 use Rattle.ice_tree.specs.Alike.{AreAlike}
 use Rattle.ice_defs.specs.Conditions.{AreModest, AreWeightsOf, AreBoundsOf}
@@ -43,10 +43,10 @@ scaled_low w z h = subst (λ p. neg_ℤ (pos (w * 1000000000)) ≤ℤ p) (*ℤ_c
 scaled_high : (w : ℕ) (z : ℤ) → z ≤ℤ pos 1000000000 → (pos w *ℤ z) ≤ℤ pos (w * 1000000000)
 scaled_high w z h = subst (λ p. p ≤ℤ pos (w * 1000000000)) (*ℤ_comm z (pos w)) (times-high z 1000000000 w h)
 
-weighted_low : (w : ℕ) (lo hi : ℤ) → w ≤ 100 → neg_ℤ (pos 1000000000) ≤ℤ lo → neg_ℤ (pos 1000000000) ≤ℤ hi → neg_ℤ (pos 100000000000) ≤ℤ weighted w lo hi
+weighted_low : (w : ℕ) (lo hi : ℤ) → w ≤ 100 → neg_ℤ (pos 1000000000) ≤ℤ lo → neg_ℤ (pos 1000000000) ≤ℤ hi → neg_ℤ (pos 100000000000) ≤ℤ weighted_value w lo hi
 weighted_low w lo hi few l h = omega (arith, ints, scaled_low w lo l, scaled_low (100 - w) hi h, few)
 
-weighted_high : (w : ℕ) (lo hi : ℤ) → w ≤ 100 → lo ≤ℤ pos 1000000000 → hi ≤ℤ pos 1000000000 → weighted w lo hi ≤ℤ pos 100000000000
+weighted_high : (w : ℕ) (lo hi : ℤ) → w ≤ 100 → lo ≤ℤ pos 1000000000 → hi ≤ℤ pos 1000000000 → weighted_value w lo hi ≤ℤ pos 100000000000
 weighted_high w lo hi few l h = omega (arith, ints, scaled_high w lo l, scaled_high (100 - w) hi h, few)
 
 weighted_at : (w nodes : ℕ) (x : Bounds) → w ≤ 100 → AreBounds nodes x → AreModest (weighted_list w x.lo x.hi)

@@ -5,11 +5,11 @@ use Rattle.ice_defs.specs.declared.Verdict.{Verdict}
 use Rattle.ice_defs.specs.Bound.{Multipliers}
 use Rattle.ice_defs.specs.Steps.{Step, leaf}
 use Rattle.ice_defs.specs.Round.{Submission}
-use Rattle.ice_defs.specs.Fraction.{whole}
+use Rattle.ice_defs.specs.Fraction.{whole_number}
 use Rattle.ice_journal.specs.Records.{Record, Version, version_1, version_2, Kind, assign_kind, session_kind, Change}
 use Rattle.ice_journal.specs.Records as line
 use Rattle.ice_journal.specs.Journal.{LinesFault}
-use Rattle.ice_journal.specs.Plain.{plain, plain_records, changed, goods_in, all_zero}
+use Rattle.ice_journal.specs.Plain.{plain, plain_records, after_changes, goods_in, all_zero}
 use Rattle.ice_journal.proofs.Journals.{one_answer}
 use Rattle.ice_headline_laws.proofs.Promised.{right_gives_headline}
 use Rattle.ice_journal_laws.specs.Fields.{amount_in, Closing, threshold_in}
@@ -46,8 +46,8 @@ module _ {X : Type 0} (f : Record → Option X) (head : (v : Version) (k : Kind)
   said_records : (goods : ℕ) (m : Multipliers) (a : X) (records : List Record) → told f a (plain_records goods m records) ≡ told f a records
   said_records goods m a [] = refl
   said_records goods m a (line.near cs ∷ rest) =
-      quiet a (line.step (leaf (changed m cs))) (plain_records goods (changed m cs) rest) (step (leaf (changed m cs)))
-      ∙ said_records goods (changed m cs) a rest ∙ sym (quiet a (line.near cs) rest (near cs))
+      quiet a (line.step (leaf (after_changes m cs))) (plain_records goods (after_changes m cs) rest) (step (leaf (after_changes m cs)))
+      ∙ said_records goods (after_changes m cs) a rest ∙ sym (quiet a (line.near cs) rest (near cs))
   said_records goods m a (line.step s ∷ rest) = said_records goods m (unwrap_or (f (line.step s)) a) rest
   said_records goods m a (r ∷ rest) = said_records goods (all_zero goods) (unwrap_or (f r) a) rest
 
@@ -67,7 +67,7 @@ regret_alike order = said_alike amount_in (λ v k. refl) (λ x. refl) (λ v. ref
 
 surplus_alike : {one other : List Record} → Reordered one other → surplus_said (plain one) ≡ surplus_said (plain other)
 surplus_alike order =
-    said_alike (λ (r : Record). option_map (λ (c : Closing). c.surplus) (threshold_in r)) (λ v k. refl) (λ x. refl) (λ v. refl) (λ cs. refl) (λ s. refl) (whole (pos 0)) order
+    said_alike (λ (r : Record). option_map (λ (c : Closing). c.surplus) (threshold_in r)) (λ v k. refl) (λ x. refl) (λ v. refl) (λ cs. refl) (λ s. refl) (whole_number (pos 0)) order
 
 -- ---- the kind
 

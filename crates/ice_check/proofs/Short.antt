@@ -14,7 +14,7 @@ use Rattle.ice_defs.specs.PricingLimit as limits
 use Rattle.ice_journal.specs.Records as line
 use Rattle.ice_journal.specs.Records.{Record, Change}
 use Rattle.ice_journal.specs.Ranges.{IsRecord, IsName, IsValue, IsTotal, IsMultiplier, IsDen, IsViolationField, IsFractionField, IsChange}
-use Rattle.ice_journal.specs.Spelling.{version_word, kind_word, end_word, stage_word, limit_word, bit_byte, fraction_text, counted, change_fields, fields_of}
+use Rattle.ice_journal.specs.Spelling.{version_word, kind_word, end_word, stage_word, limit_word, bit_byte, fraction_text, counted_list, change_fields, fields_of}
 use Rattle.ice_journal.proofs.Clear.{abs_between, abs_from}
 use Rattle.ice_journal.proofs.Joined.{value_length}
 use Rattle.ice_check.specs.Standing.{RecordsAreShort}
@@ -85,7 +85,7 @@ values : (xs : List ℤ) → AllByRecursion IsValue xs → width (map signed_dec
 values [] h = omega arith
 values (x ∷ xs) h = omega (arith, value x h.0, values xs h.1)
 
-counted_values : (xs : List ℤ) → length xs ≤ 200 → AllByRecursion IsValue xs → width (counted xs) ≤ 2640
+counted_values : (xs : List ℤ) → length xs ≤ 200 → AllByRecursion IsValue xs → width (counted_list xs) ≤ 2640
 counted_values xs le h = omega (arith, le, digits (length xs) (omega (arith, le)), values xs h)
 
 changes : (cs : List Change) → AllByRecursion IsChange cs → width (flat_map change_fields cs) ≤ 82 * length cs
@@ -166,7 +166,7 @@ fields (line.accuracy x d) h = omega (arith, violation x h.0, den d h.1)
 fields (line.balance d) h = omega (arith, den d h)
 fields (line.row b w s) h = omega (arith, digits b (omega (arith, h.0)), den w h.1, bits s h.2.1)
 fields (line.submit s) h =
-    omega (arith, name s.name h.name, counted_values s.lo h.lo_count h.lo, counted_values s.hi h.hi_count h.hi, width-append (counted s.lo) (counted s.hi))
+    omega (arith, name s.name h.name, counted_values s.lo h.lo_count h.lo, counted_values s.hi h.hi_count h.hi, width-append (counted_list s.lo) (counted_list s.hi))
 fields (line.verdict verdict.Accepted) h = omega arith
 fields (line.verdict (verdict.Loosened n)) h = omega (arith, digits n (omega (arith, h)))
 fields (line.verdict (verdict.Crossed n)) h = omega (arith, digits n (omega (arith, h)))

@@ -1,8 +1,8 @@
 -- The parts of a line, tested one by one: it passes where all hold, and only there.
 use Rattle.std.proofs.Common.{◌≡◌, List, ℤ, pos, ◌-ℤ◌, ◌*ℤ◌, ◌≤ℤ◌, ◌<ℤ◌, [], refl, sym, ◌∙◌, subst}
 use Rattle.ice_defs.specs.Sum.{sum_over}
-use Rattle.ice_defs.specs.Fraction.{Fraction, whole, IsFraction, AtMost, Equals}
-use Rattle.ice_defs.specs.Cut.{cut_down}
+use Rattle.ice_defs.specs.Fraction.{Fraction, whole_number, IsFraction, AtMost, Equals}
+use Rattle.ice_defs.specs.Cut.{discount_at_cut}
 use Rattle.ice_defs.specs.Session.{Payment}
 use Rattle.ice_threshold.specs.CutOff.{cut_num}
 use Rattle.ice_journal_laws.specs.Tests.{IsThresholdLine, IsPaymentLine}
@@ -24,7 +24,7 @@ module _ (withouts : List ℤ) (total : ℤ) (cut surplus : Fraction) (proper : 
   all = total *ℤ pos cut.den
 
   abbrev Reaches : ℤ → Type 0
-  Reaches v = AtMost cut (whole v)
+  Reaches v = AtMost cut (whole_number v)
 
   abbrev Rests : ℤ → Type 0
   Rests rest = Equals surplus (record { num = rest; den = cut.den })
@@ -97,12 +97,12 @@ module _ (vickrey worth : ℤ) (cut : Fraction) (p : Payment) where
   pub line_of_paid : p.vickrey ≡ vickrey → IsPaidAt cut p.vickrey worth p.discount p.payment → IsPaymentLine vickrey worth cut p
   line_of_paid same is = record {
     vickrey_is = same;
-    discount = subst (λ (z : ℤ). Equals p.discount (cut_down cut z)) same is.discounted;
+    discount = subst (λ (z : ℤ). Equals p.discount (discount_at_cut cut z)) same is.discounted;
     payment = is.paid;
   }
 
   pub paid_of_line : IsPaymentLine vickrey worth cut p → IsPaidAt cut p.vickrey worth p.discount p.payment
   paid_of_line line = record {
-    discounted = subst (λ (z : ℤ). Equals p.discount (cut_down cut z)) (sym line.vickrey_is) line.discount;
+    discounted = subst (λ (z : ℤ). Equals p.discount (discount_at_cut cut z)) (sym line.vickrey_is) line.discount;
     paid = line.payment;
   }

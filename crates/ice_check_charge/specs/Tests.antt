@@ -1,7 +1,7 @@
 -- What is tested of a closing session, in whole numbers.
 use Rattle.std.specs.Prelude.{◌≡◌, ◌*◌, ◌^◌, List, map, Any, ℤ, pos, neg_ℤ, ◌-ℤ◌, ◌≤ℤ◌, ◌<ℤ◌}
-use Rattle.ice_defs.specs.Fraction.{Fraction, whole, AtMost, Equals, less}
-use Rattle.ice_defs.specs.Cut.{cut_down}
+use Rattle.ice_defs.specs.Fraction.{Fraction, whole_number, AtMost, Equals, minus}
+use Rattle.ice_defs.specs.Cut.{discount_at_cut}
 
 -- the Vickrey discounts by the total and the values without each bidder
 abbrev pub vickreys_of : ℤ → List ℤ → List ℤ
@@ -16,7 +16,7 @@ pub record IsSpent (num left total : ℤ) : Type 0 where
 
 -- some Vickrey discount is at least the cut
 abbrev pub IsReached : Fraction → ℤ → List ℤ → Type 0
-IsReached cut total withouts = Any (λ without. AtMost cut (whole (total -ℤ without))) withouts
+IsReached cut total withouts = Any (λ without. AtMost cut (whole_number (total -ℤ without))) withouts
 
 -- the value of a set
 pub record IsWorth (worth : ℤ) : Type 0 where
@@ -26,5 +26,5 @@ pub record IsWorth (worth : ℤ) : Type 0 where
 -- the discount that the cut leaves of a Vickrey discount, and the payment that the discount
 -- leaves of the value of a set
 pub record IsPaidAt (cut : Fraction) (vickrey worth : ℤ) (discount payment : Fraction) : Type 0 where
-  pub discounted : Equals discount (cut_down cut vickrey)
-  pub paid : Equals payment (less (whole worth) discount)
+  pub discounted : Equals discount (discount_at_cut cut vickrey)
+  pub paid : Equals payment (minus (whole_number worth) discount)

@@ -1,6 +1,6 @@
 //! The amounts of a charge in whole numbers.
 ghost use Rattle.std.specs.Prelude.{◌≡◌, ◌≤◌, ◌*◌, ◌^◌, ◌↔◌, IsTrue, false, pos, ◌-ℤ◌, ◌*ℤ◌, ◌≤ℤ◌, length, unsigned_abs};
-ghost use Rattle.ice_defs.specs.Fraction.{whole, AtMost, Equals};
+ghost use Rattle.ice_defs.specs.Fraction.{whole_number, AtMost, Equals};
 ghost use Rattle.ice_defs.specs.Sum.{sum_over};
 ghost use Rattle.ice_journal.specs.Lines.{fraction_of};
 ghost use Rattle.ice_threshold.specs.CutOff.{cut_num};
@@ -54,7 +54,7 @@ pub(crate) fn sum_cut_off(withouts: &[i64], total: i64, cut: &LowestFraction) ->
 /// Whether a Vickrey discount is at least the cut.
 fn reaches(vickrey: i128, cut: &LowestFraction) -> bool
     requires sized { unsigned_abs vickrey ≤ 2 ^ 65 }
-    ensures { IsTrue result ↔ AtMost (fraction_of cut.now) (whole vickrey) }
+    ensures { IsTrue result ↔ AtMost (fraction_of cut.now) (whole_number vickrey) }
 {
     i128::from(cut.num) <= scaled(vickrey, cut.den)
 }

@@ -1,6 +1,6 @@
 //! The cut and the surplus of a session that closes.
 ghost use Rattle.std.specs.Prelude.{◌≡◌, ◌<◌, ◌≤◌, pos};
-ghost use Rattle.ice_defs.specs.Fraction.{whole};
+ghost use Rattle.ice_defs.specs.Fraction.{whole_number};
 ghost use Rattle.ice_frac.specs.Lowest.{IsLowest};
 ghost use Rattle.ice_journal.specs.Lines.{fraction_of};
 ghost use Rattle.ice_journal.specs.Ranges.{IsFractionField};
@@ -38,8 +38,8 @@ impl Model for Charge {
 impl Charge {
     /// No cut and no surplus, as before a session closes.
     pub fn none() -> Charge
-        ensures cut { result.cut ≡ whole (pos 0) }
-        ensures surplus { result.surplus ≡ whole (pos 0) }
+        ensures cut { result.cut ≡ whole_number (pos 0) }
+        ensures surplus { result.surplus ≡ whole_number (pos 0) }
     {
         let nothing = LowestFraction { num: 0, den: 1 };
         Charge {

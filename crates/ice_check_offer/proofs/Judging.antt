@@ -14,7 +14,7 @@ use Rattle.ice_journal.specs.Records as line
 use Rattle.ice_journal_laws.specs.declared.rule.Rule.TheVariants as rule
 use Rattle.ice_journal_laws.specs.State.{State, at_round, at_verdict, exchange_at}
 use Rattle.ice_journal_laws.specs.Fields.{submission_in, settlement_in, verdict_in}
-use Rattle.ice_journal_laws.specs.Next.{to_line, go_to, if_true, settled, to_settlement}
+use Rattle.ice_journal_laws.specs.Next.{to_line, go_to, if_true, next_settlement, to_settlement}
 use Rattle.ice_journal_laws.specs.Progress.{passing, TakesOn}
 use Rattle.ice_journal_laws.proofs.Priced.{round_submits, round_settles, round_missing, verdict_missing, verdict_wrong, verdict_right}
 use Rattle.ice_round_laws.proofs.Taking.{verdict_is_one}
@@ -45,7 +45,7 @@ module _ (ex : Exchange) (number : ℕ) (o : Offer) where
         prices = at.1;
         after = at.2;
         submits = λ x e. subst (λ (y : Record). TakesOn s y (passing (to_line (suc s.line) (go_to (at_verdict x) s)))) (sym e) (from_place s at_round (line.submit x) _ at.0 (round_submits s x));
-        settles = λ e. subst (λ (y : Record). TakesOn s y (passing (to_line (suc s.line) (settled s)))) (sym e) (from_place s at_round (line.settle (suc s.number)) _ at.0 (round_settles s (suc s.number) (eq-eqb (suc s.number) (suc s.number) refl)));
+        settles = λ e. subst (λ (y : Record). TakesOn s y (passing (to_line (suc s.line) (next_settlement s)))) (sym e) (from_place s at_round (line.settle (suc s.number)) _ at.0 (round_settles s (suc s.number) (eq-eqb (suc s.number) (suc s.number) refl)));
         fails = λ e f. from_place s at_round r _ at.0 (round_missing s r e f);
       }
 
@@ -86,14 +86,14 @@ module _ (ex : Exchange) (number : ℕ) (o : Offer) where
   -- ---- the next settlement
 
   not_settled : (s : State) (other : ℕ) → s.number ≡ number → eqb other (suc number) ≡ false → to_settlement s (line.settle other) ≡ None
-  not_settled s other n e = ap (λ (t : Bool). if_true t (settled s)) (ap (λ k. eqb other (suc k)) n ∙ e)
+  not_settled s other n e = ap (λ (t : Bool). if_true t (next_settlement s)) (ap (λ k. eqb other (suc k)) n ∙ e)
 
   pub settlement_misnumbered : (other : ℕ) → eqb other (suc number) ≡ false → CanOpen ex number o (line.settle other) → FailsBy ex number o (line.settle other) (Here rule.Order)
   settlement_misnumbered other e opens s st n = (opens s st n).fails refl (not_settled s other n e)
 
   -- neither a submission nor a settlement
   no_settlement : (s : State) (r : Record) → settlement_in r ≡ None → to_settlement s r ≡ None
-  no_settlement s r none = ap (λ (found : Option ℕ). option_and_then (λ k. if_true (eqb k (suc s.number)) (settled s)) found) none
+  no_settlement s r none = ap (λ (found : Option ℕ). option_and_then (λ k. if_true (eqb k (suc s.number)) (next_settlement s)) found) none
 
   pub round_other : (r : Record) → submission_in r ≡ None → settlement_in r ≡ None → CanOpen ex number o r → FailsBy ex number o r (Here rule.Order)
   round_other r none other opens s st n = (opens s st n).fails none (no_settlement s r other)

@@ -17,7 +17,7 @@ use Rattle.ice_journal_laws.specs.declared.rule.Rule.{Rule}
 use Rattle.ice_journal_laws.specs.declared.rule.Rule.TheVariants as rule
 use Rattle.ice_journal_laws.specs.State.{State, at_balance_rows, at_verdict, trees_at}
 use Rattle.ice_journal_laws.specs.Fields.{row_in, balance_in, is_round_stop}
-use Rattle.ice_journal_laws.specs.Next.{to_line, go_to, settled}
+use Rattle.ice_journal_laws.specs.Next.{to_line, go_to, next_settlement}
 use Rattle.ice_journal_laws.specs.Assigning.{rule_of}
 use Rattle.ice_journal_laws.specs.Progress.{passing, failed, TakesOn}
 use Rattle.ice_journal_laws.proofs.PricedRows as places
@@ -218,6 +218,6 @@ module _ (ex : Exchange) (number : ℕ) (o : Offer) where
           prices = at.1;
           after = at.3;
           submits = λ x e. subst (λ (y : Record). TakesOn s y (passing (to_line (suc s.line) (go_to (at_verdict x) s)))) (sym e) (from_place s _ (line.submit x) _ at.0.place (places.b_submits s o.den at.0.rows holds x));
-          settles = λ e. subst (λ (y : Record). TakesOn s y (passing (to_line (suc s.line) (settled s)))) (sym e) (from_place s _ (line.settle (suc s.number)) _ at.0.place (places.b_settles s o.den at.0.rows holds (suc s.number) (eq-eqb (suc s.number) (suc s.number) refl)));
+          settles = λ e. subst (λ (y : Record). TakesOn s y (passing (to_line (suc s.line) (next_settlement s)))) (sym e) (from_place s _ (line.settle (suc s.number)) _ at.0.place (places.b_settles s o.den at.0.rows holds (suc s.number) (eq-eqb (suc s.number) (suc s.number) refl)));
           fails = λ e f. from_place s _ r _ at.0.place (places.b_ended_other s o.den at.0.rows holds r none (ap (λ k. is_round_stop (k + 2) r) n ∙ other) e f);
         }

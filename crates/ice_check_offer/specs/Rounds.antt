@@ -7,7 +7,7 @@ use Rattle.ice_journal.specs.Records as line
 use Rattle.ice_journal_laws.specs.declared.rule.Rule.TheVariants as rule
 use Rattle.ice_journal_laws.specs.State.{State, at_verdict}
 use Rattle.ice_journal_laws.specs.Fields.{submission_in}
-use Rattle.ice_journal_laws.specs.Next.{to_line, go_to, settled, to_settlement}
+use Rattle.ice_journal_laws.specs.Next.{to_line, go_to, next_settlement, to_settlement}
 use Rattle.ice_journal_laws.specs.Progress.{passing, failed, TakesOn}
 use Rattle.ice_check_offer.specs.declared.offer.Offer.{Offer}
 use Rattle.ice_check_offer.specs.declared.lines.Submitted.{Submitted}
@@ -19,7 +19,7 @@ pub record Opens (ex : Exchange) (o : Offer) (s : State) (r : Record) : Type 0 w
   pub prices : s.prices ≡ o.judge.prices
   pub after : IsAfter ex s.judged o.judge
   pub submits : (x : Submission) → r ≡ line.submit x → TakesOn s r (passing (to_line (suc s.line) (go_to (at_verdict x) s)))
-  pub settles : r ≡ line.settle (suc s.number) → TakesOn s r (passing (to_line (suc s.line) (settled s)))
+  pub settles : r ≡ line.settle (suc s.number) → TakesOn s r (passing (to_line (suc s.line) (next_settlement s)))
   pub fails : submission_in r ≡ None → to_settlement s r ≡ None → TakesOn s r (failed (record { line = s.line; rule = rule.Order }))
 
 abbrev pub CanOpen : Exchange → ℕ → Offer → Record → Type 0

@@ -3,7 +3,7 @@ use Rattle.std.specs.Prelude.{ℕ, suc, ◌-◌, ◌≡◌, Result, Ok, Err}
 use Rattle.ice_defs.specs.Exchange.{Exchange}
 use Rattle.ice_journal.specs.Records.{Record}
 use Rattle.ice_journal_laws.specs.State.{State}
-use Rattle.ice_journal_laws.specs.Next.{to_line, settled}
+use Rattle.ice_journal_laws.specs.Next.{to_line, next_settlement}
 use Rattle.ice_journal_laws.specs.Progress.{passing, failed, TakesOn}
 use Rattle.ice_check_offer.specs.declared.fault.Fault.{Fault}
 use Rattle.ice_check_offer.specs.declared.fault.Fault.TheVariants.{Here, List as OfList}
@@ -30,8 +30,8 @@ pub record GoesOn (ex : Exchange) (number : ℕ) (o : Offer) (r : Record) (after
 pub record GoesToSettlement (ex : Exchange) (number : ℕ) (o : Offer) (r : Record) (after : Offer) : Type 0 where
   pub kept : IsKept ex after
   pub fresh : IsFresh ex after.judge
-  pub passes : (s : State) → IsOfferOf ex o s → s.number ≡ number → TakesOn s r (passing (to_line (suc s.line) (settled s)))
-  pub bounds : (s : State) → IsOfferOf ex o s → s.number ≡ number → (settled s).bounds ≡ after.judge.bounds
+  pub passes : (s : State) → IsOfferOf ex o s → s.number ≡ number → TakesOn s r (passing (to_line (suc s.line) (next_settlement s)))
+  pub bounds : (s : State) → IsOfferOf ex o s → s.number ≡ number → (next_settlement s).bounds ≡ after.judge.bounds
 
 -- it fails this test first; or the list of rows before it does
 abbrev pub FailsBy : Exchange → ℕ → Offer → Record → Fault → Type 0

@@ -7,7 +7,7 @@ use Rattle.ice_bound.specs.Multipliers.{IsInRange, AreInRange}
 use Rattle.ice_journal.specs.Records as records
 use Rattle.ice_journal.specs.Ranges.{IsMultiplier, IsChange}
 use Rattle.ice_journal.specs.Lines.{change_of}
-use Rattle.ice_journal.specs.Plain.{changed}
+use Rattle.ice_journal.specs.Plain.{after_changes}
 use Rattle.ice_journal.specs.declared.line.Change.{Change}
 use Rattle.ice_check_records.specs.Logs.{AreChangesInRange}
 
@@ -19,16 +19,16 @@ rest_from changes i l = drop-cons changes i none l ∙ ap (λ (n : ℕ). get_or 
 
 -- one more change
 pub changed_more : (m : Multipliers) (changes : List Change) (i : ℕ) → i < length changes
-    → changed m (map change_of (drop i changes)) ≡ changed (set m (get_or changes i (record { good = 0; multiplier = pos 0 })).good (get_or changes i (record { good = 0; multiplier = pos 0 })).multiplier) (map change_of (drop (i + 1) changes))
-changed_more m changes i l = ap (λ (rest : List Change). changed m (map change_of rest)) (rest_from changes i l)
+    → after_changes m (map change_of (drop i changes)) ≡ after_changes (set m (get_or changes i (record { good = 0; multiplier = pos 0 })).good (get_or changes i (record { good = 0; multiplier = pos 0 })).multiplier) (map change_of (drop (i + 1) changes))
+changed_more m changes i l = ap (λ (rest : List Change). after_changes m (map change_of rest)) (rest_from changes i l)
 
-pub none_left : (m : Multipliers) (changes : List Change) (i : ℕ) → length changes ≤ i → changed m (map change_of (drop i changes)) ≡ m
-none_left m changes i h = ap (λ (rest : List Change). changed m (map change_of rest)) (drop_all i changes h)
+pub none_left : (m : Multipliers) (changes : List Change) (i : ℕ) → length changes ≤ i → after_changes m (map change_of (drop i changes)) ≡ m
+none_left m changes i h = ap (λ (rest : List Change). after_changes m (map change_of rest)) (drop_all i changes h)
 
 pub range_at : (changes : List Change) (i : ℕ) → i < length changes → AreChangesInRange (drop i changes) → IsInRange (get_or changes i (record { good = 0; multiplier = pos 0 })).multiplier × AreChangesInRange (drop (i + 1) changes)
 range_at changes i l h = let both = subst AreChangesInRange (rest_from changes i l) h in (both.0, both.1)
 
-pub length-changed : (m : Multipliers) (changes : List records.Change) → length (changed m changes) ≡ length m
+pub length-changed : (m : Multipliers) (changes : List records.Change) → length (after_changes m changes) ≡ length m
 length-changed m [] = refl
 length-changed m (c ∷ later) = length-changed (set m c.good c.multiplier) later ∙ length-set m c.good c.multiplier
 

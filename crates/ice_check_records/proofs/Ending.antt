@@ -6,7 +6,7 @@ use Rattle.std.proofs.lemmas.Bool.{eqb-false, or_parts, false≢true}
 use Rattle.arrayvec.specs.ArrayVec.{ArrayVec}
 use Rattle.ice_defs.specs.declared.Group.TheVariants.{Assign, Final, Provisional, Without}
 use Rattle.ice_defs.specs.Bounds.{Bounds}
-use Rattle.ice_defs.specs.Fraction.{whole}
+use Rattle.ice_defs.specs.Fraction.{whole_number}
 use Rattle.ice_defs.specs.Trade.{Assignment}
 use Rattle.ice_defs.specs.Weighing.{weighted_weights}
 use Rattle.ice_defs.specs.Exchange.{Exchange, trees_of, opening_bounds}
@@ -20,8 +20,8 @@ use Rattle.ice_journal_laws.specs.declared.answer.Answer.{Answer}
 use Rattle.ice_journal_laws.specs.declared.rule.Rule.{Rule}
 use Rattle.ice_journal_laws.specs.State.{Place, at_group, at_payment, at_end, done, State}
 use Rattle.ice_journal_laws.specs.Fields.{Closing, is_end, same_end}
-use Rattle.ice_journal_laws.specs.Next.{to_line, go_to, settled}
-use Rattle.ice_journal_laws.specs.Assigning.{described}
+use Rattle.ice_journal_laws.specs.Next.{to_line, go_to, next_settlement}
+use Rattle.ice_journal_laws.specs.Assigning.{exchange_state}
 use Rattle.ice_journal_laws.specs.Answers.{EndsWith}
 use Rattle.ice_journal_laws.specs.Progress.{passing, TakesOn, is_ready_at}
 use Rattle.ice_journal_laws.proofs.Settling.{amount_right, ends}
@@ -135,11 +135,11 @@ module _ (g : Groups) (r : Record) (kept : AreKept g) (offered : HasOffered g) w
   pub offer_settles : (o : Offer) → offering.GoesToSettlement g.stated.exchange g.number g.offer r o → IsTaken coming.Offer g r (record g { offer = o; number = suc g.number; next = coming.Head Final })
   offer_settles o h = record {
     goes = λ s at. record {
-      state = to_line (suc s.line) (settled (known_in g coming.Offer s));
+      state = to_line (suc s.line) (next_settlement (known_in g coming.Offer s));
       passes = h.passes (known_in g coming.Offer s) at refl;
       line = refl;
       stands = record {
-        known = λ i. record (to_line (suc s.line) (settled (known_in g coming.Offer s))) { bounds = h.bounds (known_in g coming.Offer s) at refl i; withouts = sym offered.withouts i };
+        known = λ i. record (to_line (suc s.line) (next_settlement (known_in g coming.Offer s))) { bounds = h.bounds (known_in g coming.Offer s) at refl i; withouts = sym offered.withouts i };
         offer = tt;
       };
     };
@@ -312,7 +312,7 @@ module _ (h : Head) (ex : Exchange) (sets : Assignment) (offer : Offer) (without
   }
 
   module _ (lawful : IsExchange ex) (kept : AreKept (Made Settlement)) (none : withouts.items ≡ []) (fresh : offers.IsFresh ex offer.judge) (bounds : offer.judge.bounds ≡ opening_bounds ex)
-      (cut : charge.cut ≡ whole (pos 0)) (surplus : charge.surplus ≡ whole (pos 0)) (weights : log.weights ≡ group_weights ex.settings.weight offer.judge.bounds sets Final) where
+      (cut : charge.cut ≡ whole_number (pos 0)) (surplus : charge.surplus ≡ whole_number (pos 0)) (weights : log.weights ≡ group_weights ex.settings.weight offer.judge.bounds sets Final) where
     pub begins : (opening : Opening) → CanOpen h opening → Begins h ex opening (Made opening)
     begins opening (r, is) = by h opening r is
       where
@@ -321,7 +321,7 @@ module _ (h : Head) (ex : Exchange) (sets : Assignment) (offer : Offer) (without
           kept = record { lawful = kept.lawful; walk = kept.walk; room = kept.room; offer = kept.offer; number = kept.number };
           ready = (record { of = tt; there = tt; withouts = ap length none; round = tt; fresh = fresh }, (few_trees ex lawful).0, weights);
           stands = λ n. record {
-            known = λ i. record (go_to (opened_place (Sets Assign value)) (described (version_of_head head.Assign) (kind_of_head head.Assign) n ex)) { bounds = sym bounds i; withouts = sym none i; cut = sym cut i; surplus = sym surplus i };
+            known = λ i. record (go_to (opened_place (Sets Assign value)) (exchange_state (version_of_head head.Assign) (kind_of_head head.Assign) n ex)) { bounds = sym bounds i; withouts = sym none i; cut = sym cut i; surplus = sym surplus i };
             offer = tt;
           };
         }
@@ -329,7 +329,7 @@ module _ (h : Head) (ex : Exchange) (sets : Assignment) (offer : Offer) (without
           kept = record { lawful = kept.lawful; walk = kept.walk; room = kept.room; offer = kept.offer; number = kept.number };
           ready = (record { of = tt; there = tt; withouts = ap length none; round = tt; fresh = fresh }, (few_trees ex lawful).0, weights);
           stands = λ n. record {
-            known = λ i. record (go_to (opened_place (Sets Final value)) (described (version_of_head (head.Regret v)) (kind_of_head (head.Regret v)) n ex)) { bounds = sym bounds i; withouts = sym none i; cut = sym cut i; surplus = sym surplus i };
+            known = λ i. record (go_to (opened_place (Sets Final value)) (exchange_state (version_of_head (head.Regret v)) (kind_of_head (head.Regret v)) n ex)) { bounds = sym bounds i; withouts = sym none i; cut = sym cut i; surplus = sym surplus i };
             offer = tt;
           };
         }
@@ -337,7 +337,7 @@ module _ (h : Head) (ex : Exchange) (sets : Assignment) (offer : Offer) (without
           kept = record { lawful = kept.lawful; walk = kept.walk; room = kept.room; offer = kept.offer; number = kept.number };
           ready = (record { of = tt; there = tt; withouts = ap length none; round = tt; fresh = fresh }, refl);
           stands = λ n. record {
-            known = λ i. record (go_to (opened_place Settlement) (described (version_of_head (head.Session v)) (kind_of_head (head.Session v)) n ex)) { bounds = sym bounds i; withouts = sym none i; cut = sym cut i; surplus = sym surplus i };
+            known = λ i. record (go_to (opened_place Settlement) (exchange_state (version_of_head (head.Session v)) (kind_of_head (head.Session v)) n ex)) { bounds = sym bounds i; withouts = sym none i; cut = sym cut i; surplus = sym surplus i };
             offer = tt;
           };
         }

@@ -26,7 +26,7 @@ use Rattle.ice_journal_laws.specs.Progress.{Progress, nothing, other_kind, passi
 use Rattle.ice_journal_laws.specs.Answers.{EndsWith}
 use Rattle.ice_journal_laws.specs.Showing.{head_of_group}
 use Rattle.ice_journal_laws.specs.Stepping.{PassesStep, FailsStep}
-use Rattle.ice_journal_laws.specs.Assigning.{describing}
+use Rattle.ice_journal_laws.specs.Assigning.{section_state}
 use Rattle.ice_journal_laws.proofs.Walking.{record_fails, record_passes}
 use Rattle.ice_check_offer.specs.declared.fault.Fault.{Fault}
 use Rattle.ice_check_offer.specs.declared.fault.Fault.TheVariants.{Here}
@@ -40,7 +40,7 @@ use Rattle.ice_check_offer.specs.declared.place.CertificateList.TheVariants as l
 use Rattle.ice_check_offer.specs.Offers as offers
 use Rattle.ice_gap_laws.specs.declared.answer.GapAnswer.{GapAnswer}
 use Rattle.ice_gap_laws.specs.declared.answer.GapAnswer.TheVariants as gap_is
-use Rattle.ice_gap_laws.specs.Gap.{Gap, awaited, gap_in, opened, is_in_group, aimed_place, aimed, GapProgress, checking, in_group, at_close, ended, no_gap, in_its_group, is_closed, IsGapAfter}
+use Rattle.ice_gap_laws.specs.Gap.{Gap, next_group, gap_in, at_gap_sets, is_in_group, aimed_place, with_target, GapProgress, checking, in_group, at_close, ended, no_gap, in_its_group, is_closed, IsGapAfter}
 use Rattle.ice_gap_laws.specs.Answers.{ended_at, gap_answer}
 use Rattle.ice_gap_laws.proofs.Right.{log_leaves}
 use Rattle.ice_gap_laws.proofs.Heading as heading
@@ -79,7 +79,7 @@ open_progress n stage.OutOfMemory p h is = ap is_stopped is
 usual_stands : (n : ℕ) (s : Stage) (q : Progress) → IsProgress n s q → IsGapProgress n (gap_stage s) (usual q)
 usual_stands n stage.Begin q is = (nothing, ap usual is, refl)
 usual_stands n stage.OtherKind q is = (other_kind, ap usual is, refl)
-usual_stands n (stage.Describing head section) q is = (passing (describing (version_of_head head) (kind_of_head head) n section.value), ap usual is, refl)
+usual_stands n (stage.Describing head section) q is = (passing (section_state (version_of_head head) (kind_of_head head) n section.value), ap usual is, refl)
 usual_stands n (stage.Behind groups) q (s, is, at, stands) = (passing s, ap usual is, (s, refl, at, stands))
 usual_stands n (stage.Failed there rule.Closed) q is = ap usual is
 usual_stands n (stage.Failed there other) q is = (failed (record { line = there; rule = other }), ap usual is, refl)
@@ -101,7 +101,7 @@ usual_leads n before after r open_end none takes p is =
 
 -- ---- at a stop
 
-awaited_valued : (kind : Kind) (place : Place) (g : Group) → awaited kind place ≡ Some g → is_valued g ≡ true
+awaited_valued : (kind : Kind) (place : Place) (g : Group) → next_group kind place ≡ Some g → is_valued g ≡ true
 awaited_valued kind (at_group Assign) g e = absurd (none-some g e)
 awaited_valued kind (at_group Final) g e = ap is_valued (sym (same_Some Final g e))
 awaited_valued kind (at_group Rival) g e = ap is_valued (sym (same_Some Rival g e))
@@ -155,32 +155,32 @@ next_in g s group stands e = by g.next (subst (λ (t : State). GroupOf t.place �
     by coming.End e h = absurd (none-some group e)
     by coming.Nothing e h = absurd (none-some group e)
 
-opens_in : (n : ℕ) (after : Stage) (s : State) (spent : Spent) (q : Progress) → s.line ≡ n → is_valued spent.group ≡ true → q ≡ passing (opened (gap_of spent) s) → IsProgress (suc n) after q
-    → IsGapProgress (suc n) (opened_stage n spent after) (cond (int_lt spent.value spent.bound) (in_group (gap_of spent) (opened (gap_of spent) s)) (no_gap s.line))
+opens_in : (n : ℕ) (after : Stage) (s : State) (spent : Spent) (q : Progress) → s.line ≡ n → is_valued spent.group ≡ true → q ≡ passing (at_gap_sets (gap_of spent) s) → IsProgress (suc n) after q
+    → IsGapProgress (suc n) (opened_stage n spent after) (cond (int_lt spent.value spent.bound) (in_group (gap_of spent) (at_gap_sets (gap_of spent) s)) (no_gap s.line))
 opens_in n (stage.Behind groups) s spent q at v e (t, is, line_is, stands) = by (int_lt spent.value spent.bound)
   where
-    here : t ≡ opened (gap_of spent) s
-    here = same_passing t (opened (gap_of spent) s) (sym is ∙ e)
+    here : t ≡ at_gap_sets (gap_of spent) s
+    here = same_passing t (at_gap_sets (gap_of spent) s) (sym is ∙ e)
 
-    known : StandsFor groups.value (opened (gap_of spent) s)
+    known : StandsFor groups.value (at_gap_sets (gap_of spent) s)
     known = subst (StandsFor groups.value) here stands
 
-    by : (b : Bool) → IsGapProgress (suc n) (cond b (gap.Inside groups spent) (gap.NoGap n)) (cond b (in_group (gap_of spent) (opened (gap_of spent) s)) (no_gap s.line))
+    by : (b : Bool) → IsGapProgress (suc n) (cond b (gap.Inside groups spent) (gap.NoGap n)) (cond b (in_group (gap_of spent) (at_gap_sets (gap_of spent) s)) (no_gap s.line))
     by true = record {
-      state = opened (gap_of spent) s;
+      state = at_gap_sets (gap_of spent) s;
       come = refl;
       line_is = ap suc at;
       stands = known;
-      next_is = next_in groups.value (opened (gap_of spent) s) spent.group known refl;
+      next_is = next_in groups.value (at_gap_sets (gap_of spent) s) spent.group known refl;
       valued = v;
     }
     by false = ap no_gap at
-opens_in n stage.Begin s spent q at v e is = absurd (let f : nothing ≡ passing (opened (gap_of spent) s) = sym is ∙ e in cc)
-opens_in n stage.OtherKind s spent q at v e is = absurd (let f : other_kind ≡ passing (opened (gap_of spent) s) = sym is ∙ e in cc)
+opens_in n stage.Begin s spent q at v e is = absurd (let f : nothing ≡ passing (at_gap_sets (gap_of spent) s) = sym is ∙ e in cc)
+opens_in n stage.OtherKind s spent q at v e is = absurd (let f : other_kind ≡ passing (at_gap_sets (gap_of spent) s) = sym is ∙ e in cc)
 opens_in n (stage.Describing head section) s spent q at v e is =
-    absurd (none-some spent.group (ap (λ (t : State). GroupOf t.place) (same_passing _ (opened (gap_of spent) s) (sym is ∙ e))))
-opens_in n (stage.Failed there x) s spent q at v e is = absurd (let f : failed (record { line = there; rule = x }) ≡ passing (opened (gap_of spent) s) = sym is ∙ e in cc)
-opens_in n stage.OutOfMemory s spent q at v e is = absurd (let f : out_of_memory ≡ passing (opened (gap_of spent) s) = sym is ∙ e in cc)
+    absurd (none-some spent.group (ap (λ (t : State). GroupOf t.place) (same_passing _ (at_gap_sets (gap_of spent) s) (sym is ∙ e))))
+opens_in n (stage.Failed there x) s spent q at v e is = absurd (let f : failed (record { line = there; rule = x }) ≡ passing (at_gap_sets (gap_of spent) s) = sym is ∙ e in cc)
+opens_in n stage.OutOfMemory s spent q at v e is = absurd (let f : out_of_memory ≡ passing (at_gap_sets (gap_of spent) s) = sym is ∙ e in cc)
 
 misplaced_in : (n : ℕ) (after : Stage) (s : State) (spent : Spent) (q : Progress) → q ≡ order_at s → IsProgress (suc n) after q
     → IsGapProgress (suc n) (opened_stage n spent after) (checking (order_at s))
@@ -204,7 +204,7 @@ stated_leads n before after spent awaits takes p is = by p is (awaits n p is) (t
       where
         on : AsHead s spent.group spent.value spent.bound x.after → TakesGapFurther n (opened_stage n spent after) (checking (passing s)) (line.spent spent.value spent.bound)
         on (inl (e, leads)) = record {
-          after = cond (int_lt spent.value spent.bound) (in_group (gap_of spent) (opened (gap_of spent) s)) (no_gap s.line);
+          after = cond (int_lt spent.value spent.bound) (in_group (gap_of spent) (at_gap_sets (gap_of spent) s)) (no_gap s.line);
           leads = leads;
           stands = opens_in n after s spent x.after (line_at n before s is) (awaited_valued s.kind s.place spent.group tells) e x.stands;
         }
@@ -226,7 +226,7 @@ in_group_of (at_sets h found) g e = refl
 in_group_of (at_log h found sides m) g e = refl
 in_group_of other g e = absurd (none-some g e)
 
-aimed_same : (target : ℤ) (s : State) (g : Group) (found : Stated) → s.place ≡ at_sets g found → aimed target s ≡ s
+aimed_same : (target : ℤ) (s : State) (g : Group) (found : Stated) → s.place ≡ at_sets g found → with_target target s ≡ s
 aimed_same target s g found e = ap (λ (p : Place). go_to (aimed_place target p) s) e ∙ sym (ap (λ (p : Place). go_to p s) e)
 
 takes_next : (s : State) (r : Record) (t : State) → TakesOn s r (passing t) → next s r ≡ Some t
@@ -254,10 +254,10 @@ sets_place g s group stands now = ap (λ (t : State). t.place) stands.known ∙ 
 pub sets_pass : (n : ℕ) (spent : Spent) (g after : Groups) (r : Record) (group : Group) → g.next ≡ coming.Set group → IsTaken g.next g r after → (p : GapProgress) → IsInside n (gap_of spent) g p
     → GoesInside n spent after p r
 sets_pass n spent g after r group now taken p is = record {
-  after = in_group (gap_of spent) (aimed spent.bound x.state);
-  leads = subst (λ (q : GapProgress). IsGapAfter q r (in_group (gap_of spent) (aimed spent.bound x.state)))
+  after = in_group (gap_of spent) (with_target spent.bound x.state);
+  leads = subst (λ (q : GapProgress). IsGapAfter q r (in_group (gap_of spent) (with_target spent.bound x.state)))
       (sym (is.come ∙ ap (in_group (gap_of spent)) (aimed_same spent.bound is.state group (at_hand g) place)))
-      (passing x.state, x.passes, sym (ap (λ (b : Bool). cond b (in_group (gap_of spent) (aimed spent.bound x.state)) (at_close (gap_of spent) x.state.line)) (in_group_of x.state.place spent.group stays)));
+      (passing x.state, x.passes, sym (ap (λ (b : Bool). cond b (in_group (gap_of spent) (with_target spent.bound x.state)) (at_close (gap_of spent) x.state.line)) (in_group_of x.state.place spent.group stays)));
   stands = record {
     state = x.state;
     come = refl;
@@ -309,7 +309,7 @@ module _ (n : ℕ) (spent : Spent) (g : Groups) (r : Record) (group : Group) (no
   state_is = is.stands.known ∙ ap (λ (m : Next). known_in g m is.state) now
 
   come : p ≡ in_group (gap_of spent) Aimed
-  come = is.come ∙ ap (λ (s : State). in_group (gap_of spent) (aimed spent.bound s)) state_is
+  come = is.come ∙ ap (λ (s : State). in_group (gap_of spent) (with_target spent.bound s)) state_is
 
   same_group : group ≡ spent.group
   same_group = subst (IsInGroup spent.group) now is.next_is
@@ -344,7 +344,7 @@ module _ (n : ℕ) (spent : Spent) (g : Groups) (r : Record) (group : Group) (no
       after = at_close (gap_of spent) (suc n);
       leads = leads (at_close (gap_of spent) (suc n)) (
           ap (at_close (gap_of spent)) (ap suc (sym is.line_is))
-          ∙ sym (ap (λ (b : Bool). cond b (in_group (gap_of spent) (aimed spent.bound (to_line (suc is.state.line) (after_log Aimed group Target)))) (at_close (gap_of spent) (suc is.state.line)))
+          ∙ sym (ap (λ (b : Bool). cond b (in_group (gap_of spent) (with_target spent.bound (to_line (suc is.state.line) (after_log Aimed group Target)))) (at_close (gap_of spent) (suc is.state.line)))
           (log_leaves Aimed group Target is_one))
           ∙ ap (λ (sides : List Side). in_its_group (gap_of spent) (passing (to_line (suc is.state.line) (after_step Aimed group Target sides after.log.before)))) (sym (w.closed_is.0 e))
           );
@@ -362,7 +362,7 @@ module _ (n : ℕ) (spent : Spent) (g : Groups) (r : Record) (group : Group) (no
 
     -- the same state, but for the target of its log
     aimed_then : (h : Group) (log : LogWalk) → HasLog h
-        → aimed spent.bound (to_line (suc is.state.line) (known_in (record g { log = log }) (coming.Step h) (known_in g (coming.Step h) is.state)))
+        → with_target spent.bound (to_line (suc is.state.line) (known_in (record g { log = log }) (coming.Step h) (known_in g (coming.Step h) is.state)))
         ≡ to_line (suc is.state.line) (go_to (at_log h Target log.walk.sides log.before) (known_in g (coming.Step h) is.state))
     aimed_then Assign log has = absurd has
     aimed_then Final log has = refl
@@ -370,10 +370,10 @@ module _ (n : ℕ) (spent : Spent) (g : Groups) (r : Record) (group : Group) (no
     aimed_then Provisional log has = refl
     aimed_then (Without b) log has = refl
 
-    then_is : aimed spent.bound Then ≡ to_line (suc is.state.line) (go_to (at_log group Target after.log.walk.sides after.log.before) (known_in g (coming.Step group) is.state))
+    then_is : with_target spent.bound Then ≡ to_line (suc is.state.line) (go_to (at_log group Target after.log.walk.sides after.log.before) (known_in g (coming.Step group) is.state))
     then_is =
-        ap (λ (x : Groups). aimed spent.bound (to_line (suc is.state.line) (known_in x x.next (known_in g (coming.Step group) is.state)))) w.same
-        ∙ ap (λ (m : Next). aimed spent.bound (to_line (suc is.state.line) (known_in (record g { log = after.log }) m (known_in g (coming.Step group) is.state)))) now
+        ap (λ (x : Groups). with_target spent.bound (to_line (suc is.state.line) (known_in x x.next (known_in g (coming.Step group) is.state)))) w.same
+        ∙ ap (λ (m : Next). with_target spent.bound (to_line (suc is.state.line) (known_in (record g { log = after.log }) m (known_in g (coming.Step group) is.state)))) now
         ∙ aimed_then group after.log holds.log
 
     -- sides are open
@@ -383,8 +383,8 @@ module _ (n : ℕ) (spent : Spent) (g : Groups) (r : Record) (group : Group) (no
         by : (sides : List Side) → after.log.walk.sides ≡ sides → GoesInside n spent after p r
         by [] none = absurd (true≢false (sym (w.closed_is.1 none) ∙ e))
         by (first ∷ others) some = record {
-          after = in_group (gap_of spent) (aimed spent.bound Then);
-          leads = leads (in_group (gap_of spent) (aimed spent.bound Then)) (
+          after = in_group (gap_of spent) (with_target spent.bound Then);
+          leads = leads (in_group (gap_of spent) (with_target spent.bound Then)) (
               ap (in_group (gap_of spent)) (then_is ∙ ap (λ (sides : List Side). to_line (suc is.state.line) (go_to (at_log group Target sides after.log.before) (known_in g (coming.Step group) is.state))) some)
               ∙ ap (λ (sides : List Side). in_its_group (gap_of spent) (passing (to_line (suc is.state.line) (after_step Aimed group Target sides after.log.before)))) (sym some)
               );

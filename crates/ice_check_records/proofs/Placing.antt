@@ -26,7 +26,7 @@ use Rattle.ice_journal_laws.specs.State.{Stated, at_sets, State, trees_at}
 use Rattle.ice_journal_laws.specs.Next.{go_to}
 use Rattle.ice_journal_laws.specs.Tests.{is_refusal, HasLeftOut}
 use Rattle.ice_journal_laws.specs.Progress.{Progress, passing, failed, TakesOn, IsAfter}
-use Rattle.ice_journal_laws.specs.Assigning.{describing}
+use Rattle.ice_journal_laws.specs.Assigning.{section_state}
 use Rattle.ice_check_offer.specs.Broken.{IsBroken}
 use Rattle.ice_check_records.specs.Stating.{Stating, AreStated}
 use Rattle.ice_check_records.specs.Stages.{Halts, numbered_halt, section_halt}
@@ -37,16 +37,16 @@ use Rattle.ice_trade.specs.Fault.{make_fault_number}
 
 -- the exchange is being described, and this line is next
 abbrev IsDescribed : Head → Section → ℕ → Progress → Type 0
-IsDescribed h s n p = p ≡ passing (describing (version_of_head h) (kind_of_head h) n s)
+IsDescribed h s n p = p ≡ passing (section_state (version_of_head h) (kind_of_head h) n s)
 
 -- where so far it is, a record that fails a test fails it
-pub described_fails : (h : Head) (s : Section) (r : Record) (y : Rule) → ((n : ℕ) → TakesOn (describing (version_of_head h) (kind_of_head h) n s) r (failed (record { line = n; rule = y })))
-    → Halts (λ n p. p ≡ passing (describing (version_of_head h) (kind_of_head h) n s)) r (Fails (Here y))
+pub described_fails : (h : Head) (s : Section) (r : Record) (y : Rule) → ((n : ℕ) → TakesOn (section_state (version_of_head h) (kind_of_head h) n s) r (failed (record { line = n; rule = y })))
+    → Halts (λ n p. p ≡ passing (section_state (version_of_head h) (kind_of_head h) n s)) r (Fails (Here y))
 described_fails h s r y fails n p is = subst (λ (q : Progress). IsAfter q r (failed (record { line = n; rule = y }))) (sym is) (fails n)
 
 -- what a section refuses
 pub section_halts : (h : Head) (s : Section) (r : Record) (why : SectionFault) → (may_end s && ends_section h r) ≡ false → IsRefusal (take_record s r) why
-    → Halts (λ n p. p ≡ passing (describing (version_of_head h) (kind_of_head h) n s)) r (section_halt why)
+    → Halts (λ n p. p ≡ passing (section_state (version_of_head h) (kind_of_head h) n s)) r (section_halt why)
 section_halts h s r fault.Order more taken = described_fails h s r rule.Order (λ n. section_misplaced h n s r taken more)
 section_halts h s r fault.Count more taken = described_fails h s r rule.Exchange (λ n. section_refused (version_of_head h) (kind_of_head h) n s r (ap is_refusal taken))
 section_halts h s r fault.NoGood more taken = described_fails h s r rule.Exchange (λ n. section_refused (version_of_head h) (kind_of_head h) n s r (ap is_refusal taken))

@@ -20,7 +20,7 @@ use Rattle.ice_bound.proofs.Modest.{lower_modest, weighted_modest, perturbed_mod
 use Rattle.ice_trade.proofs.Weighted.{length-trees}
 use Rattle.ice_check_records.specs.declared.log.LogWalk.{LogWalk}
 use Rattle.ice_check_records.specs.Heads.{IsThere}
-use Rattle.ice_check_records.specs.Logs.{IsWalkOf, started, CanStart}
+use Rattle.ice_check_records.specs.Logs.{IsWalkOf, start_side, CanStart}
 
 -- ---- the bidders of an exchange
 
@@ -91,7 +91,7 @@ can_start ex Final lawful there = tt
 can_start ex Rival lawful there = tt
 can_start ex Provisional lawful there = tt
 
-pub started_is : (ts : List Tree) (group : Group) → started (free_side ts) group ≡ start_of ts group
+pub started_is : (ts : List Tree) (group : Group) → start_side (free_side ts) group ≡ start_of ts group
 started_is ts Assign = refl
 started_is ts Final = refl
 started_is ts Rival = refl

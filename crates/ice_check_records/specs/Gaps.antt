@@ -17,7 +17,7 @@ use Rattle.ice_check_offer.specs.declared.fault.Fault.{Fault}
 use Rattle.ice_check_offer.specs.declared.fault.Fault.TheVariants.{Here}
 use Rattle.ice_gap_laws.specs.declared.answer.GapAnswer.{GapAnswer}
 use Rattle.ice_gap_laws.specs.declared.answer.GapAnswer.TheVariants as gap_answer
-use Rattle.ice_gap_laws.specs.Gap.{Gap, awaited, gap_in, aimed, GapProgress, checking, in_group, at_close, ended, no_gap, IsGapAfter}
+use Rattle.ice_gap_laws.specs.Gap.{Gap, next_group, gap_in, with_target, GapProgress, checking, in_group, at_close, ended, no_gap, IsGapAfter}
 use Rattle.ice_check_records.specs.declared.gap.Spent.{Spent}
 use Rattle.ice_check_records.specs.declared.gap.GapStage.{GapStage}
 use Rattle.ice_check_records.specs.declared.gap.GapStage.TheVariants as gap
@@ -37,7 +37,7 @@ gap_of spent = record { group = spent.group; value = spent.value; bound = spent.
 -- ---- the group whose head comes next
 
 abbrev pub TellsAwaited : Option Group → Progress → Type 0
-TellsAwaited found (passing s) = awaited s.kind s.place ≡ found
+TellsAwaited found (passing s) = next_group s.kind s.place ≡ found
 TellsAwaited found p = found ≡ None
 
 abbrev pub AwaitsGroup : Stage → Option Group → Type 0
@@ -59,7 +59,7 @@ IsInGroup group other = ⊥
 -- they come next in this line, in a state of which this is known
 pub record IsInside (line : ℕ) (g : Gap) (groups : Groups) (p : GapProgress) : Type 0 where
   pub state : State
-  pub come : p ≡ in_group g (aimed g.bound state)
+  pub come : p ≡ in_group g (with_target g.bound state)
   pub line_is : state.line ≡ line
   pub stands : StandsFor groups state
   pub next_is : IsInGroup g.group groups.next

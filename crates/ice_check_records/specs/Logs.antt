@@ -33,9 +33,9 @@ pub record IsWalkOf (ts : List Tree) (exact : List Bool) (log : LogWalk) : Type 
 
 -- where a log begins: at the side where all nodes are free, but for the root of a bidder that
 -- is left out
-abbrev pub started : Side → Group → Side
-started free (Without b) = with_mark free b 0 Never
-started free other = free
+abbrev pub start_side : Side → Group → Side
+start_side free (Without b) = with_mark free b 0 Never
+start_side free other = free
 
 -- the root of a bidder that a group leaves out is there, and free
 abbrev pub CanStart : Side → Group → Type 0

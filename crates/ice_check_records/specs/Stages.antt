@@ -12,7 +12,7 @@ use Rattle.ice_journal_laws.specs.State.{State}
 use Rattle.ice_journal_laws.specs.Checks.{Failure}
 use Rattle.ice_check_offer.specs.declared.fault.Fault.TheVariants.{Here}
 use Rattle.ice_journal_laws.specs.Progress.{Progress, nothing, other_kind, passing, failed, out_of_memory, IsAfter}
-use Rattle.ice_journal_laws.specs.Assigning.{describing}
+use Rattle.ice_journal_laws.specs.Assigning.{section_state}
 use Rattle.ice_check_records.specs.Stating.{HasSettings}
 use Rattle.ice_check_records.specs.Heads.{version_of_head, kind_of_head}
 use Rattle.ice_check_records.specs.Groups.{StandsFor, AreKept, IsReady}
@@ -23,7 +23,7 @@ use Rattle.ice_trade.specs.Fault.{make_fault_number}
 abbrev pub IsProgress : ℕ → Stage → Progress → Type 0
 IsProgress line stage.Begin p = p ≡ nothing
 IsProgress line stage.OtherKind p = p ≡ other_kind
-IsProgress line (stage.Describing head section) p = p ≡ passing (describing (version_of_head head) (kind_of_head head) line section.value)
+IsProgress line (stage.Describing head section) p = p ≡ passing (section_state (version_of_head head) (kind_of_head head) line section.value)
 IsProgress line (stage.Behind groups) p = (s : State) × (p ≡ passing s) × (s.line ≡ line) × StandsFor groups.value s
 IsProgress line (stage.Failed number rule) p = p ≡ failed (record { line = number; rule = rule })
 IsProgress line stage.OutOfMemory p = p ≡ out_of_memory

@@ -15,7 +15,7 @@ use Rattle.ice_journal_laws.specs.State.{done, State}
 use Rattle.ice_journal_laws.specs.Next.{to_line, go_to, after_log, after_step}
 use Rattle.ice_journal_laws.specs.Tests.{is_valued}
 use Rattle.ice_journal_laws.specs.Checks.{Failure}
-use Rattle.ice_journal_laws.specs.Assigning.{described, AreBalanced, AreShort}
+use Rattle.ice_journal_laws.specs.Assigning.{exchange_state, AreBalanced, AreShort}
 use Rattle.ice_journal_laws.specs.Progress.{passing, failed, TakesOn}
 use Rattle.ice_journal_laws.specs.Answers.{EndsWith}
 use Rattle.ice_check_charge.specs.Charging.{paid}
@@ -85,7 +85,7 @@ Pays b g r (Err rule) = Fails (next.Payment b) g r (Here rule)
 pub record Begins (h : Head) (ex : Exchange) (opening : Opening) (g : Groups) : Type 0 where
   pub kept : AreKept g
   pub ready : IsReady g g.next
-  pub stands : (n : ℕ) → StandsFor g (go_to (opened_place opening) (described (version_of_head h) (kind_of_head h) n ex))
+  pub stands : (n : ℕ) → StandsFor g (go_to (opened_place opening) (exchange_state (version_of_head h) (kind_of_head h) n ex))
 
 -- ---- groups
 

@@ -9,7 +9,7 @@ ghost use Rattle.ice_journal_laws.specs.State.{State};
 ghost use Rattle.ice_journal_laws.specs.Fields.{is_end};
 ghost use Rattle.ice_journal_laws.specs.Showing.{head_of_group};
 ghost use Rattle.ice_journal_laws.specs.Progress.{Progress};
-ghost use Rattle.ice_gap_laws.specs.Gap.{GapProgress, awaited};
+ghost use Rattle.ice_gap_laws.specs.Gap.{GapProgress, next_group};
 ghost use Rattle.ice_gap_laws.specs.Answers.{gap_answer};
 ghost use Rattle.ice_check_records.specs.Groups.{AreKept, IsReady, StandsFor};
 ghost use Rattle.ice_check_records.specs.Taking.{failure_at};
@@ -90,7 +90,7 @@ impl Groups {
     fn awaited(&self) -> Option<Group>
         requires kept { AreKept self.now }
         requires ready { IsReady self.now self.now.next }
-        ensures tells { (s : State) → StandsFor self.now s → awaited s.kind s.place ≡ result }
+        ensures tells { (s : State) → StandsFor self.now s → next_group s.kind s.place ≡ result }
         ensures there { IfSome result (λ group. IsThere 40 group) }
     {
         match self.next {

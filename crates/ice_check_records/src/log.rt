@@ -11,7 +11,7 @@ ghost use Rattle.ice_journal.specs.Lines.{record_of, version_of};
 ghost use Rattle.ice_journal.specs.Ranges.{IsRecord};
 ghost use Rattle.ice_defs.specs.Steps.{sides_after, with_mark};
 ghost use Rattle.ice_journal_laws.specs.Fields.{multipliers_after};
-ghost use Rattle.ice_check_records.specs.Logs.{IsWalkOf, started, CanStart, IsStepOf, HasSameWalk, PassesThere, FailsThere, GoesOn, BreaksOff};
+ghost use Rattle.ice_check_records.specs.Logs.{IsWalkOf, start_side, CanStart, IsStepOf, HasSameWalk, PassesThere, FailsThere, GoesOn, BreaksOff};
 ghost use Rattle.ice_journal_laws.specs.Stepping.{rule_of_fault};
 
 use crate::steps_in::{misstates, step_in};
@@ -113,7 +113,7 @@ impl LogWalk {
         requires few { length self.old.start ≤ 40 }
         requires nodes { nodes_of self.old.start ≡ self.old.walk.nodes }
         requires starts { CanStart self.old.start group }
-        ensures sides { self.new.walk.sides ≡ started self.old.start group ∷ [] }
+        ensures sides { self.new.walk.sides ≡ start_side self.old.start group ∷ [] }
         ensures before { self.new.before ≡ replicate (length self.old.before) (pos 0) }
         ensures same { HasSameWalk self.old self.new }
     {

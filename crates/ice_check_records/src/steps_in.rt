@@ -6,7 +6,7 @@ ghost use Rattle.ice_journal.specs.Lines.{record_of, change_of, version_of};
 ghost use Rattle.ice_journal.specs.Ranges.{IsRecord};
 ghost use Rattle.ice_journal.specs.Records as records;
 ghost use Rattle.ice_journal.specs.Records.{version_1};
-ghost use Rattle.ice_journal.specs.Plain.{changed};
+ghost use Rattle.ice_journal.specs.Plain.{after_changes};
 ghost use Rattle.ice_journal_laws.specs.Tests.{IsNoChange};
 ghost use Rattle.ice_check_records.specs.Logs.{IsStepOf, AreChangesInRange};
 ghost use Rattle.ice_journal_laws.specs.Stepping.{IsMisstating};
@@ -41,7 +41,7 @@ fn make_change(m: &mut Multipliers, change: Change)
 /// The multipliers after these changes.
 fn changed(before: &Multipliers, changes: &[Change]) -> Multipliers
     requires { AreChangesInRange changes.now }
-    ensures { result ≡ changed before.now (map change_of changes.now) }
+    ensures { result ≡ after_changes before.now (map change_of changes.now) }
 {
     let mut m = before.copy();
     for change in changes {

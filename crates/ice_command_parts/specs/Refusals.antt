@@ -5,7 +5,7 @@ use Rattle.ice_edge.specs.declared.status.Status.TheVariants as status
 use Rattle.ice_edge.specs.Told.{Told}
 use Rattle.ice_defs.specs.Exchange.{Exchange}
 use Rattle.ice_defs.specs.FileFault.{FileFault, at_line}
-use Rattle.ice_read.specs.Places.{shown}
+use Rattle.ice_read.specs.Places.{place_text}
 use Rattle.ice_command_parts.specs.declared.refusal.FileFault as declared
 use Rattle.ice_command_parts.specs.declared.refusal.FileFault.TheVariants.{AtLine, AtPlace, OtherKind, NoSettlement, NoBidder, TooLong}
 use Rattle.ice_command_parts.specs.declared.refusal.Refusal.{Refusal}
@@ -28,7 +28,7 @@ no_bidder = record { number = 94; place = codes "-" }
 -- the number and the place of a file's fault
 abbrev pub fault_of : declared.FileFault → FileFault
 fault_of (AtLine number line) = at_line number line
-fault_of (AtPlace number place) = record { number = number; place = shown place }
+fault_of (AtPlace number place) = record { number = number; place = place_text place }
 fault_of OtherKind = other_kind
 fault_of NoSettlement = no_settlement
 fault_of NoBidder = no_bidder

@@ -6,7 +6,7 @@ use Rattle.ice_edge.specs.declared.status.Status.TheVariants.{Done, No, WriteFau
 use Rattle.ice_edge.specs.Told.{Told}
 use Rattle.ice_edge.specs.Taken.{Taken}
 use Rattle.ice_journal.specs.Journal.{bytes_of}
-use Rattle.ice_journal.specs.Plain.{packed}
+use Rattle.ice_journal.specs.Plain.{in_version_2}
 use Rattle.ice_journal_laws.specs.Checks.{Failure}
 use Rattle.ice_journal_laws.specs.Answers.{OfJournal}
 use Rattle.ice_migrate.specs.Migrating.{Judges}
@@ -41,10 +41,10 @@ pub journal_serves : (before after : Told) (file bytes : List ℕ) (put : Result
     → OfJournal bytes (λ journal. PutsPacked journal put old new) → MatchResult put (λ done. result ≡ Done) (λ fault. result ≡ WriteFault)
     → Serves (λ call. MigrateAnswers call file) before after old new result
 journal_serves before after file bytes put result old new told (journal, is, puts) ended = (
-  bytes_of (packed journal),
+  bytes_of (in_version_2 journal),
   Done,
   λ call part text. (bytes, (journal, is, (puts.migrated, text)), told_in_call call before after file journal_limit (λ other. other ≡ bytes) part told),
-  put_said put (bytes_of (packed journal)) Done result old new puts.is_put ended,
+  put_said put (bytes_of (in_version_2 journal)) Done result old new puts.is_put ended,
 )
 
 -- it fails a test

@@ -41,7 +41,7 @@ use Rattle.ice_journal_laws.specs.declared.rule.Rule.TheVariants as rule
 use Rattle.ice_journal_laws.specs.State.{at_group, State, begun}
 use Rattle.ice_journal_laws.specs.Next.{go_to}
 use Rattle.ice_journal_laws.specs.Checks.{FirstFailure}
-use Rattle.ice_journal_laws.specs.Assigning.{describing, section_of, described}
+use Rattle.ice_journal_laws.specs.Assigning.{section_state, section_of, exchange_state}
 use Rattle.ice_journal_laws.specs.Carrying.{Carries}
 use Rattle.ice_journal_laws.specs.Showing.{group_records, regretted_in, stated_of, IsShown, IsShownRegretted}
 use Rattle.ice_journal_laws.specs.SoFar.{IsSoFar}
@@ -183,7 +183,7 @@ module _ (ex : Exchange) (lawful : IsExchange ex) where
   -- ---- the journal is begun
 
   begun_so_far : IsSoFarUnstopped regret_kind (begun_records ex)
-  begun_so_far = whole_unstopped regret_kind (section_records ex) (describing version_2 regret_kind 2 (section_of ex)) (section_carries described_are_taken version_2 regret_kind ex lawful) begun_are (λ e. cc)
+  begun_so_far = whole_unstopped regret_kind (section_records ex) (section_state version_2 regret_kind 2 (section_of ex)) (section_carries described_are_taken version_2 regret_kind ex lawful) begun_are (λ e. cc)
 
   module _ (call : Call) (name : List ℕ) (told : OfFile call name file_limit (λ bytes. IsExchangeOf bytes (Ok ex))) where
     -- a journal that begins with the exchange has that of the file
@@ -214,7 +214,7 @@ module _ (ex : Exchange) (lawful : IsExchange ex) where
 
       first_stop : (place : ℕ) × FirstFailure (begun_records ex ++ spent_records ex s) (Some (record { line = place; rule = rule.Closed }))
       first_stop =
-          carries_stopped version_2 regret_kind (section_records ex) (spent_rest_in version_2 (length (exact_of ex)) (proved_spent s)) (line.spent s.value s.bound) (describing version_2 regret_kind 2 (section_of ex))
+          carries_stopped version_2 regret_kind (section_records ex) (spent_rest_in version_2 (length (exact_of ex)) (proved_spent s)) (line.spent s.value s.bound) (section_state version_2 regret_kind 2 (section_of ex))
           (section_carries described_are_taken version_2 regret_kind ex lawful) (λ n x f. absurd (none-some x f))
           (λ n. (refl, subst (λ (o : Option State). IsSome o) (sym (first_spent_stands version_2 ex s.value s.bound lawful n)) refl))
 
@@ -232,9 +232,9 @@ module _ (ex : Exchange) (lawful : IsExchange ex) where
 
     module _ (left : ℕ) (f : Found) (final : IsFinal ex left f) where
       abbrev AtRival : State
-      AtRival = record (described version_2 regret_kind 2 ex) { final = stated_of (proved_found f) }
+      AtRival = record (exchange_state version_2 regret_kind 2 ex) { final = stated_of (proved_found f) }
 
-      final_carries : Carries (begun version_2 regret_kind) (section_records ex ++ final_records ex f) (go_to (at_group Rival) (record (described version_2 regret_kind 2 ex) { final = stated_of (proved_found f) }))
+      final_carries : Carries (begun version_2 regret_kind) (section_records ex ++ final_records ex f) (go_to (at_group Rival) (record (exchange_state version_2 regret_kind 2 ex) { final = stated_of (proved_found f) }))
       final_carries = (rival_awaits EarnsStep described_are_taken version_2 ex lawful (proved_found f) (shown_final left f final) final.found.found.earned).carries
 
       final_answers : call.text ≡ bytes_of (begun_records ex ++ final_records ex f) → RegretAnswers call name NoMemory

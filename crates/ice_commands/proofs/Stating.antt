@@ -12,7 +12,7 @@ use Rattle.ice_journal_laws.specs.Answers.{OfJournal}
 use Rattle.ice_journal_laws.specs.Checks.{Failure}
 use Rattle.ice_statement.specs.declared.judging.StatementEnd.{StatementEnd}
 use Rattle.ice_statement.specs.Judging.{HasStatement, MayState}
-use Rattle.ice_statement_laws.specs.Statement.{Own, published, statement_of}
+use Rattle.ice_statement_laws.specs.Statement.{Own, public_records, statement_of}
 use Rattle.ice_statement_laws.specs.Texts.{IsOwnOf}
 use Rattle.ice_command_parts.specs.declared.refusal.Refusal.{Refusal}
 use Rattle.ice_command_parts.specs.declared.refusal.Refusal.TheVariants.{File, Unread, NoMemory}
@@ -39,11 +39,11 @@ unstated_is bytes name end (Refused refusal) judged is = fault_anyway 1 (IsState
 -- the statement is put
 pub statement_serves : (before after : Told) (file name bytes : List ℕ) (put : Result (Unit {0}) SinkFault) (result : Status) (old new : Taken) → AreFetched before file journal_limit bytes
     → OfJournal bytes (HasStatement name)
-    → ((journal : List Record) (own : Own) → IsJournal bytes journal → IsOwnOf journal name own → IsPut (statement_of (published journal) own) put old new)
+    → ((journal : List Record) (own : Own) → IsJournal bytes journal → IsOwnOf journal name own → IsPut (statement_of (public_records journal) own) put old new)
     → MatchResult put (λ done. result ≡ Done) (λ fault. result ≡ WriteFault)
     → Serves (λ call. StatementAnswers call file name) before after old new result
 statement_serves before after file name bytes put result old new told (journal, is, has) puts ended =
-    let text = statement_of (published journal) has.own in (
+    let text = statement_of (public_records journal) has.own in (
       text,
       Done,
       λ call part said. (

@@ -5,7 +5,7 @@ use Rattle.ice_edge.specs.declared.status.Status.TheVariants.{Done, Input, No, R
 use Rattle.ice_defs.specs.FileFault.{FileFault, at_line}
 use Rattle.ice_journal.specs.Records.{Record}
 use Rattle.ice_journal.specs.Journal.{bytes_of}
-use Rattle.ice_journal.specs.Plain.{packed}
+use Rattle.ice_journal.specs.Plain.{in_version_2}
 use Rattle.ice_journal_laws.specs.Checks.{Failure}
 use Rattle.ice_journal_laws.specs.Answers.{OfJournal}
 use Rattle.ice_migrate.specs.declared.judging.Unfit.{Unfit}
@@ -34,7 +34,7 @@ HasJournal call file P = (bytes : List ℕ) × OfJournal bytes P × OfFile call 
 
 -- from what is written the journal that was read comes back: so `IsMigrated` says
 abbrev pub MigrateAnswers : Call → List ℕ → Status → Type 0
-MigrateAnswers call file Done = HasJournal call file (λ journal. IsMigrated journal × (call.text ≡ bytes_of (packed journal)))
+MigrateAnswers call file Done = HasJournal call file (λ journal. IsMigrated journal × (call.text ≡ bytes_of (in_version_2 journal)))
 MigrateAnswers call file No = (failure : Failure) × HasJournal call file (λ journal. IsFailing journal failure)
     × (call.text ≡ no_line failure)
 MigrateAnswers call file Input = (fault : FileFault) × IsRefused call file journal_limit IsMigrateFault fault

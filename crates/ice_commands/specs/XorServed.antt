@@ -4,7 +4,7 @@ use Rattle.ice_edge.specs.declared.status.Status.{Status}
 use Rattle.ice_edge.specs.declared.status.Status.TheVariants.{Done, Input, ReadFault, NoMemory}
 use Rattle.ice_defs.specs.FileFault.{FileFault, at_path}
 use Rattle.ice_read.specs.Written.{exchange_text}
-use Rattle.ice_xor.specs.FlatBids.{FlatExchange, translated}
+use Rattle.ice_xor.specs.FlatBids.{FlatExchange, translation}
 use Rattle.ice_xor.specs.FlatFile.{flat_of}
 use Rattle.ice_xor.specs.Translating.{Refusal, translate_refusal}
 use Rattle.ice_command_parts.specs.Call.{Call, FaultRose, file_limit, OfFile, IsRefused}
@@ -21,7 +21,7 @@ IsFlatFault bytes fault =
 
 -- one line, which is the exchange that the flat bids say
 abbrev pub IsTranslation : FlatExchange → List ℕ → Type 0
-IsTranslation flat text = (translate_refusal flat ≡ None) × (text ≡ exchange_text (translated flat) ++ 10 ∷ [])
+IsTranslation flat text = (translate_refusal flat ≡ None) × (text ≡ exchange_text (translation flat) ++ 10 ∷ [])
 
 -- the flat bids of a file's bytes, and that line
 abbrev pub IsTranslationOf : List ℕ → List ℕ → Type 0

@@ -7,7 +7,7 @@ use Rattle.ice_defs.proofs.Sums.{sum_below-same}
 use Rattle.ice_row_laws.specs.Sums.{RowSums, AreSums, units_in}
 use Rattle.ice_row_laws.proofs.Weighted.{weighted_sum-ones}
 use Rattle.ice_pricing.specs.Provisional.{ProvisionalTrade}
-use Rattle.ice_fair_laws.specs.Fair.{PaidTrade, FairCertificate, asked, held_units, row_units}
+use Rattle.ice_fair_laws.specs.Fair.{PaidTrade, FairCertificate, demand, held_units, row_units}
 use Rattle.ice_fair_laws.specs.Whole.{IsEven, held_sum, rows_weight, rows_worth}
 use Rattle.ice_fair.specs.Trades.{num_at, paid_by, held_by, held_units_by, asked_by, paid_sum, SumsAreEven}
 
@@ -45,7 +45,7 @@ module _ (t : ProvisionalTrade) (cut : ℕ) (nums : List ℤ) (c : FairCertifica
   pub same-worth : s.worth ≡ rows_worth paid c
   same-worth = are.worth
 
-  pub same-asked : sum_below (λ g. int_max (held_units_by t c.low c.high g +ℤ (pos 100 *ℤ units_in s g)) (pos 0)) t.goods ≡ asked paid c
+  pub same-asked : sum_below (λ g. int_max (held_units_by t c.low c.high g +ℤ (pos 100 *ℤ units_in s g)) (pos 0)) t.goods ≡ demand paid c
   same-asked = sum_below-same (λ g. int_max (held_units_by t c.low c.high g +ℤ (pos 100 *ℤ units_in s g)) (pos 0)) (λ g. int_max (held_units paid c g +ℤ (pos 100 *ℤ row_units paid c g)) (pos 0)) t.goods
       (λ g h. ap (λ z. int_max (held_units_by t c.low c.high g +ℤ (pos 100 *ℤ z)) (pos 0)) (are.units g h))
 
@@ -54,9 +54,9 @@ module _ (t : ProvisionalTrade) (cut : ℕ) (nums : List ℤ) (c : FairCertifica
 
   module _ (p : Prices) (x g : ℤ) (count : length nums ≡ length t.trees) where
     pub even-of : SumsAreEven t cut nums c.den c.low c.high p x g s → IsEven paid c p x cut (num_at nums) g
-    even-of = even-moves x x g g (pos cut) (pos cut) (pos p.den) (pos p.den) (pos c.den) (pos c.den) (t.cap *ℤ asked_by t c.low c.high s) (t.cap *ℤ asked paid c) (pos s.weight) (rows_weight c)
+    even-of = even-moves x x g g (pos cut) (pos cut) (pos p.den) (pos p.den) (pos c.den) (pos c.den) (t.cap *ℤ asked_by t c.low c.high s) (t.cap *ℤ demand paid c) (pos s.weight) (rows_weight c)
         (paid_sum c.low c.high nums) (held_sum paid c (num_at nums)) s.worth (rows_worth paid c) refl refl refl refl refl (ap (λ z. t.cap *ℤ z) same-asked) same-weight (same-paid count) same-worth
 
     pub of-even : IsEven paid c p x cut (num_at nums) g → SumsAreEven t cut nums c.den c.low c.high p x g s
-    of-even = even-moves x x g g (pos cut) (pos cut) (pos p.den) (pos p.den) (pos c.den) (pos c.den) (t.cap *ℤ asked paid c) (t.cap *ℤ asked_by t c.low c.high s) (rows_weight c) (pos s.weight)
+    of-even = even-moves x x g g (pos cut) (pos cut) (pos p.den) (pos p.den) (pos c.den) (pos c.den) (t.cap *ℤ demand paid c) (t.cap *ℤ asked_by t c.low c.high s) (rows_weight c) (pos s.weight)
         (held_sum paid c (num_at nums)) (paid_sum c.low c.high nums) (rows_worth paid c) s.worth refl refl refl refl refl (ap (λ z. t.cap *ℤ z) (sym same-asked)) (sym same-weight) (sym (same-paid count)) (sym same-worth)

@@ -4,7 +4,7 @@ use Rattle.std.specs.List.{AllByRecursion}
 use Rattle.std.proofs.lemmas.Int.{ints}
 use Rattle.std.proofs.lemmas.List.{length-map, get_or-map}
 use Rattle.std.proofs.Math.Nat.{div-le_self}
-use Rattle.ice_defs.specs.Fraction.{Fraction, whole, Equals, fraction_at}
+use Rattle.ice_defs.specs.Fraction.{Fraction, whole_number, Equals, fraction_at}
 use Rattle.ice_defs.specs.Exchange.{Exchange, trees_of, exact_of}
 use Rattle.ice_defs.specs.PricingRun.{num_over}
 use Rattle.ice_row_laws.specs.Sizes.{IsSizedWithin}
@@ -46,7 +46,7 @@ module _ (l : LastTrade) (is : IsLast l) where
   pub num-is : (b : ℕ) → b < length t.trees → num_at (nums_of l) b ≡ num_over l.cut (fraction_at t.payments b)
   num-is b h =
       let count = is.paid.payments_count in
-      get_or-map (num_over l.cut) t.payments b (whole (pos 0)) (pos 0) (omega (arith, h, count))
+      get_or-map (num_over l.cut) t.payments b (whole_number (pos 0)) (pos 0) (omega (arith, h, count))
 
   pub nums-are : AreNumbers (trade_of t) l.cut (nums_of l)
   nums-are =
@@ -57,7 +57,7 @@ module _ (l : LastTrade) (is : IsLast l) where
         few = is.few;
         sized = λ b h.
             let there : b < length t.trees = omega (arith, h, count) in
-            let own : IsShortPayment (fraction_at t.payments b) = all-at IsShortPayment t.payments b (whole (pos 0)) is.short (let all = is.paid.payments_count in omega (arith, there, all)) in
+            let own : IsShortPayment (fraction_at t.payments b) = all-at IsShortPayment t.payments b (whole_number (pos 0)) is.short (let all = is.paid.payments_count in omega (arith, there, all)) in
             subst (IsSizedWithin (10 ^ 21)) (sym (num-is b there)) (num_over-sized (fraction_at t.payments b) l.cut own is.few);
       }
 

@@ -9,7 +9,7 @@ use Rattle.ice_defs.specs.Set.{value, units}
 use Rattle.ice_defs.specs.Trade.{tree_of, set_of, weights_of}
 use Rattle.ice_defs.specs.Prices.{Prices, cost_of}
 use Rattle.ice_defs.specs.Rows.{weighted_sum, worth_above}
-use Rattle.ice_defs.specs.Fraction.{Fraction, IsFraction, Equals, whole, plus, less, times, fraction_at}
+use Rattle.ice_defs.specs.Fraction.{Fraction, IsFraction, Equals, whole_number, plus, minus, times, fraction_at}
 use Rattle.ice_defs.specs.Program.{dot, leasts, cost}
 use Rattle.ice_defs.specs.PricingRun.{Member}
 use Rattle.ice_defs.proofs.Sums.{sum_below-same, sum_below-less}
@@ -28,7 +28,7 @@ use Rattle.ice_pricing_laws.proofs.Dots.{times-over, over-same}
 use Rattle.ice_pricing_laws.proofs.Duals.{pool_sum}
 use Rattle.ice_pricing_laws.proofs.Solved.{den_of, num_at, den_of-pos, are_over-own, own-pos, own-over}
 use Rattle.ice_pricing_laws.proofs.Weighed.{weight_at, weighted-rows, rows-proper, pool_sum-times, AreMultiples, pool_sum-scaled, wanted-most}
-use Rattle.ice_fair_laws.specs.Fair.{PaidTrade, FairCertificate, own_units, held, total_held, held_units, row_units, asked, held_payments}
+use Rattle.ice_fair_laws.specs.Fair.{PaidTrade, FairCertificate, own_units, held, total_held, held_units, row_units, demand, held_payments}
 use Rattle.ice_fair_laws.specs.Whole.{held_sum}
 use Rattle.ice_fair_laws.specs.FairRun.{payment_num, fairness_program}
 use Rattle.ice_fair_laws.specs.Run.{prices_at, fair_certificate, DualsPassFairness}
@@ -118,14 +118,14 @@ dual-le e d n m k f dx h paid w worth ones a all cap v delta s last tau total he
 -- the whole equality gives the test's
 from-whole : (m n f d total : ℕ) (h worth x most least : ℤ) (held : Fraction) → IsOver n h held → 0 < m → 0 < n
     → pos d *ℤ (least *ℤ pos (n * m)) ≡ pos f *ℤ ((pos m *ℤ h) +ℤ (pos n *ℤ rest_of m total worth x most))
-    → Equals (times (whole (pos d)) (over least f)) (less (plus held (less (whole worth) (times (whole (pos total)) (over x m)))) (whole most))
+    → Equals (times (whole_number (pos d)) (over least f)) (minus (plus held (minus (whole_number worth) (times (whole_number (pos total)) (over x m)))) (whole_number most))
 from-whole m n f d total h worth x most least held is hm hn even =
-    let rows : Fraction = less (whole worth) (times (whole (pos total)) (over x m)) in
-    let all : Fraction = less (plus held rows) (whole most) in
-    let now : Fraction = less (plus (over h n) rows) (whole most) in
-    let same : Equals all now = Equals-less (plus held rows) (whole most) (plus (over h n) rows) (whole most) (Equals-plus held rows (over h n) rows is.equal refl) refl in
+    let rows : Fraction = minus (whole_number worth) (times (whole_number (pos total)) (over x m)) in
+    let all : Fraction = minus (plus held rows) (whole_number most) in
+    let now : Fraction = minus (plus (over h n) rows) (whole_number most) in
+    let same : Equals all now = Equals-less (plus held rows) (whole_number most) (plus (over h n) rows) (whole_number most) (Equals-plus held rows (over h n) rows is.equal refl) refl in
     let proper : IsFraction now = mul-pos (mul-pos hn (mul-pos (omega arith) (mul-pos (omega arith) hm))) (omega arith) in
-    Equals-trans (times (whole (pos d)) (over least f)) now all proper (left ∙ even ∙ right) (sym same)
+    Equals-trans (times (whole_number (pos d)) (over least f)) now all proper (left ∙ even ∙ right) (sym same)
   where
     left : (pos d *ℤ least) *ℤ pos ((n * (1 * (1 * m))) * 1) ≡ pos d *ℤ (least *ℤ pos (n * m))
     left = rw (is_diff least) (simp (diffs, diff_pos) (diff_same _ _ _ _ (omega arith)))
@@ -143,25 +143,25 @@ module _ (t : PaidTrade) (cut : ℕ) (pool : List Member) (y : List Fraction) (e
   later-size : length (drop t.goods y) ≡ pairs + length pool
   later-size = omega (arith, length-drop t.goods y, size)
 
-  number-at : (factor i : ℕ) (f : Fraction) (k : ℤ) → i < pairs + length pool → f ≡ fraction_at y (t.goods + i) → Equals (over k den) (times (whole (pos factor)) f)
+  number-at : (factor i : ℕ) (f : Fraction) (k : ℤ) → i < pairs + length pool → f ≡ fraction_at y (t.goods + i) → Equals (over k den) (times (whole_number (pos factor)) f)
       → 0 < den → k *ℤ pos e ≡ (pos factor *ℤ a (t.goods + i)) *ℤ pos den
   number-at factor i f k h same equal hd =
       let here = are (t.goods + i) (omega (arith, size, h)) in
-      let whole_over : IsOver e (pos factor *ℤ a (t.goods + i)) (times (whole (pos factor)) f) =
-      subst (λ g. IsOver e (pos factor *ℤ a (t.goods + i)) (times (whole (pos factor)) g)) (sym same) (times-over e (pos factor) (a (t.goods + i)) (fraction_at y (t.goods + i)) here) in
-      over-same den e k (pos factor *ℤ a (t.goods + i)) (times (whole (pos factor)) f) (record { proper = whole_over.proper; equal = sym equal }) whole_over
+      let whole_over : IsOver e (pos factor *ℤ a (t.goods + i)) (times (whole_number (pos factor)) f) =
+      subst (λ g. IsOver e (pos factor *ℤ a (t.goods + i)) (times (whole_number (pos factor)) g)) (sym same) (times-over e (pos factor) (a (t.goods + i)) (fraction_at y (t.goods + i)) here) in
+      over-same den e k (pos factor *ℤ a (t.goods + i)) (times (whole_number (pos factor)) f) (record { proper = whole_over.proper; equal = sym equal }) whole_over
 
   bidder-number : AreWeights cut (take pairs (drop t.goods y)) den ks → (i : ℕ) → i < pairs → pos (slice_index_or ks i 0) *ℤ pos e ≡ (pos cut *ℤ a (t.goods + i)) *ℤ pos den
   bidder-number weights i h =
       let long : i < length (take pairs (drop t.goods y)) = omega (arith, length-take-le pairs (drop t.goods y) (omega (arith, later-size)), h) in
       number-at cut i (fraction_at (take pairs (drop t.goods y)) i) (pos (slice_index_or ks i 0)) (omega (arith, h))
-      (get_or-take pairs (drop t.goods y) i (whole (pos 0)) h ∙ get_or-drop t.goods y i (whole (pos 0))) (weights.equal i long) weights.positive
+      (get_or-take pairs (drop t.goods y) i (whole_number (pos 0)) h ∙ get_or-drop t.goods y i (whole_number (pos 0))) (weights.equal i long) weights.positive
 
   pub member-numbers : (factor : ℕ) → AreWeights factor (drop pairs (drop t.goods y)) den ns → AreMultiples pool factor den e (weight_at ns) (member_num t cut (pos 0) 0 pool a)
   member-numbers factor weights i h =
       let long : i < length (drop pairs (drop t.goods y)) = omega (arith, length-drop pairs (drop t.goods y), later-size, h) in
       number-at factor (pairs + i) (fraction_at (drop pairs (drop t.goods y)) i) (weight_at ns i) (omega (arith, h))
-      (get_or-drop pairs (drop t.goods y) i (whole (pos 0)) ∙ get_or-drop t.goods y (pairs + i) (whole (pos 0))) (weights.equal i long) weights.positive
+      (get_or-drop pairs (drop t.goods y) i (whole_number (pos 0)) ∙ get_or-drop t.goods y (pairs + i) (whole_number (pos 0))) (weights.equal i long) weights.positive
 
   pub members-size : (factor : ℕ) → AreWeights factor (drop pairs (drop t.goods y)) den ns → length ns ≡ length pool
   members-size factor weights = omega (arith, weights.same_length, length-drop pairs (drop t.goods y), later-size)
@@ -305,31 +305,31 @@ duals_pass_fairness t cut p delta pool x y v den ks ns is members least duals no
     ) in
     let low_prices : (g : ℕ) → g < t.goods → pos 0 ≤ℤ a g = λ g h. facts.low g (omega (arith, h)) in
     let wants0 = wanted-most 1 e den (λ g. held_units t c g +ℤ (pos 100 *ℤ row_units t c g)) a t.goods low_prices each in
-    let wants : (pos e *ℤ asked t c) ≤ℤ (pos den *ℤ sum_below a t.goods) = omega (arith, ints, wants0, one_time (pos e *ℤ asked t c)) in
+    let wants : (pos e *ℤ demand t c) ≤ℤ (pos den *ℤ sum_below a t.goods) = omega (arith, ints, wants0, one_time (pos e *ℤ demand t c)) in
     let sum_paid : ℤ = sum_below (λ b. (paid b *ℤ low_b b) -ℤ (paid b *ℤ high_b b)) count in
     let paid_same : sum_below (λ b. (paid b *ℤ low_b b) +ℤ (neg_ℤ (paid b) *ℤ high_b b)) count ≡ sum_paid =
-    sum_below-same _ (λ b. (paid b *ℤ low_b b) -ℤ (paid b *ℤ high_b b)) count (λ b h. minus (paid b) (low_b b) (high_b b)) in
+    sum_below-same _ (λ b. (paid b *ℤ low_b b) -ℤ (paid b *ℤ high_b b)) count (λ b h. minus_is (paid b) (low_b b) (high_b b)) in
     let s_is : s ≡ (sum_paid +ℤ ((pos p.den *ℤ pool_sum pool (worth t cut delta p.den pool) of) -ℤ (delta *ℤ pool_sum pool (λ m. pos 1) of))) -ℤ (t.cap *ℤ sum_below a t.goods) =
     omega (arith, ints, facts.total, paid_same, split-members pool (pos p.den) delta (worth t cut delta p.den pool) of) in
     let some : pos 0 ≤ℤ t.cap = is.not_negative in
     let paid_over = paid-cut t cut delta p.den is.paid is.cut in
     let are_paid = paid-over t cut paid is.paid paid_over in
     let lower = dual-le e den cut r.den p.den tau.den dx (held_sum t c paid) sum_paid (weighted_sum (worth_above t.trees t.weights t.sets) c.rows)
-    (pool_sum pool (worth t cut delta p.den pool) of) (pool_sum pool (λ m. pos 1) of) (asked t c) (sum_below a t.goods) t.cap v delta s last tau.num (total_weight c.rows) he hx some
+    (pool_sum pool (worth t cut delta p.den pool) of) (pool_sum pool (λ m. pos 1) of) (demand t c) (sum_below a t.goods) t.cap v delta s last tau.num (total_weight c.rows) he hx some
     (held_of paid) worths totals wants equals s_is left own.equal in
     let low_count = length-map_below (λ b. slice_index_or ks (2 * b) 0) count in
     let high_count = length-map_below (λ b. slice_index_or ks (2 * b + 1) 0) count in
     let proper = rows-proper t.trees t.weights t.sets pool ns members in
     let held_part = held-most t c r cut paid tau is.cut.positive within.positive own.proper (omega (arith, there)) is.paid.payments_count are_paid low_count high_count numbers distance.covers in
-    let rest_part = rest-le r.den r.den (total_weight c.rows) (cost_of r (held_units t c)) (weighted_sum (worth_above t.trees t.weights t.sets) c.rows) (cost_of r (row_units t c)) (t.cap *ℤ asked t c) v v
+    let rest_part = rest-le r.den r.den (total_weight c.rows) (cost_of r (held_units t c)) (weighted_sum (worth_above t.trees t.weights t.sets) c.rows) (cost_of r (row_units t c)) (t.cap *ℤ demand t c) v v
     (rows-le t.trees t.weights t.sets r v other c.rows proper) (asked-le t c r within) (omega (arith, ints)) in
     let upper = held-le r.den r.den cut tau.den den (held_sum t c paid) (cost_of r (held_units t c))
-    (rest_of r.den (total_weight c.rows) (weighted_sum (worth_above t.trees t.weights t.sets) c.rows) v (t.cap *ℤ asked t c)) tau.num within.positive rest_part held_part in
+    (rest_of r.den (total_weight c.rows) (weighted_sum (worth_above t.trees t.weights t.sets) c.rows) v (t.cap *ℤ demand t c)) tau.num within.positive rest_part held_part in
     let even : pos den *ℤ (tau.num *ℤ pos (cut * r.den))
-    ≡ pos tau.den *ℤ ((pos r.den *ℤ held_sum t c paid) +ℤ (pos cut *ℤ rest_of r.den (total_weight c.rows) (weighted_sum (worth_above t.trees t.weights t.sets) c.rows) v (t.cap *ℤ asked t c))) =
+    ≡ pos tau.den *ℤ ((pos r.den *ℤ held_sum t c paid) +ℤ (pos cut *ℤ rest_of r.den (total_weight c.rows) (weighted_sum (worth_above t.trees t.weights t.sets) c.rows) v (t.cap *ℤ demand t c))) =
     omega (arith, ints, lower, upper) in
     let held_is = held-over t c cut paid is.cut.positive is.paid.payments_count are_paid count (omega arith) in
-    let equal = from-whole r.den cut tau.den den (total_weight c.rows) (held_sum t c paid) (weighted_sum (worth_above t.trees t.weights t.sets) c.rows) v (t.cap *ℤ asked t c) tau.num (held_payments t c) held_is within.positive is.cut.positive even in
+    let equal = from-whole r.den cut tau.den den (total_weight c.rows) (held_sum t c paid) (weighted_sum (worth_above t.trees t.weights t.sets) c.rows) v (t.cap *ℤ demand t c) tau.num (held_payments t c) held_is within.positive is.cut.positive even in
     let ones : pos (total_weight c.rows) ≡ weighted_sum (λ row. pos 1) c.rows = sym (weighted_sum-ones c.rows) in
     record {
       proper = weights.positive;
@@ -337,7 +337,7 @@ duals_pass_fairness t cut p delta pool x y v den ks ns is members least duals no
       high_count = high_count;
       rows = proper;
       numbers = numbers;
-      equal = subst (λ z. Equals (times (whole (pos den)) tau) (less (plus (held_payments t c) (less (whole (weighted_sum (worth_above t.trees t.weights t.sets) c.rows)) (times (whole z) (over v r.den)))) (whole (t.cap *ℤ asked t c)))) ones equal;
+      equal = subst (λ z. Equals (times (whole_number (pos den)) tau) (minus (plus (held_payments t c) (minus (whole_number (weighted_sum (worth_above t.trees t.weights t.sets) c.rows)) (times (whole_number z) (over v r.den)))) (whole_number (t.cap *ℤ demand t c)))) ones equal;
     }
   where
     hundred : (e : ℕ) (z : ℤ) → pos e *ℤ (pos 100 *ℤ z) ≡ pos 100 *ℤ (pos e *ℤ z)
@@ -349,8 +349,8 @@ duals_pass_fairness t cut p delta pool x y v den ks ns is members least duals no
         turned : ((pos cut *ℤ u) *ℤ l) +ℤ (neg_ℤ (pos cut *ℤ u) *ℤ h) ≡ pos cut *ℤ ((u *ℤ l) -ℤ (u *ℤ h))
         turned = rw (is_diff u, is_diff l, is_diff h) (simp (diffs, diff_pos) (diff_same _ _ _ _ (omega arith)))
 
-    minus : (p l h : ℤ) → (p *ℤ l) +ℤ (neg_ℤ p *ℤ h) ≡ (p *ℤ l) -ℤ (p *ℤ h)
-    minus p l h = rw (is_diff p, is_diff l, is_diff h) (simp (diffs, diff_pos) (diff_same _ _ _ _ (omega arith)))
+    minus_is : (p l h : ℤ) → (p *ℤ l) +ℤ (neg_ℤ p *ℤ h) ≡ (p *ℤ l) -ℤ (p *ℤ h)
+    minus_is p l h = rw (is_diff p, is_diff l, is_diff h) (simp (diffs, diff_pos) (diff_same _ _ _ _ (omega arith)))
 
     join : (d k : ℕ) (u w : ℤ) → pos d *ℤ (u +ℤ (pos (100 * k) *ℤ w)) ≡ (pos d *ℤ u) +ℤ (pos 100 *ℤ (pos d *ℤ (pos k *ℤ w)))
     join d k u w = rw (is_diff u, is_diff w) (simp (diffs, diff_pos) (diff_same _ _ _ _ (omega arith)))

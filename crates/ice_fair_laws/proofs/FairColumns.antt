@@ -6,7 +6,7 @@ use Rattle.std.proofs.lemmas.Grind.{flat_map-append}
 use Rattle.std.proofs.lemmas.List.{get_or-map, get_or_append_left, get_or-append-add, length-map, length-append, map-append}
 use Rattle.std.proofs.Math.IntN.{zero-*ℤ}
 use Rattle.ice_defs.specs.Sum.{sum_below, numbers_below}
-use Rattle.ice_defs.specs.Fraction.{Fraction, whole, IsFraction, AtMost, fraction_at}
+use Rattle.ice_defs.specs.Fraction.{Fraction, whole_number, IsFraction, AtMost, fraction_at}
 use Rattle.ice_defs.specs.Program.{Constraint, dot, leasts, AreDuals}
 use Rattle.ice_defs.specs.PricingRun.{Member, only_at, worth_above, units_above}
 use Rattle.ice_defs.proofs.Sums.{sum_below-same, sum_below-zero, at_same, at_other}
@@ -151,7 +151,7 @@ module _ (t : PaidTrade) (cut : ℕ) (delta : ℤ) (den : ℕ) (pool : List Memb
       pub fair-total : IsOver d FairTotal (dot (leasts (fairness_program t cut delta den pool)) y)
       fair-total = sized (leasts (fairness_program t cut delta den pool))
 
-      column-most : (g : Constraint → ℤ) (most : ℤ) → AtMost (dot (map g (fairness_program t cut delta den pool).rows) y) (whole most)
+      column-most : (g : Constraint → ℤ) (most : ℤ) → AtMost (dot (map g (fairness_program t cut delta den pool).rows) y) (whole_number most)
           → (sum_below (λ i. g (cap_row t cut delta den i) *ℤ a i) t.goods
           +ℤ (sum_below (λ b. (g (over_row t cut delta den b) *ℤ low_at b) +ℤ (g (under_row t cut delta den b) *ℤ high_at b)) count +ℤ pool_sum pool (λ m. g (member_row t cut delta den m)) member_num))
           ≤ℤ (most *ℤ pos d)
@@ -168,7 +168,7 @@ module _ (t : PaidTrade) (cut : ℕ) (delta : ℤ) (den : ℕ) (pool : List Memb
           let width : length (only_at (suc t.goods) t.goods (pos 1)) ≡ suc t.goods = length-only_at (suc t.goods) t.goods (pos 1) in
           record {
             low = λ j h.
-                let at = all-at (λ f. IsFraction f × AtMost (whole (pos 0)) f) y j (whole (pos 0)) duals.non_negative (omega (arith, size, h)) in
+                let at = all-at (λ f. IsFraction f × AtMost (whole_number (pos 0)) f) y j (whole_number (pos 0)) duals.non_negative (omega (arith, size, h)) in
                 let some = least-over d (pos 0) (a j) (fraction_at y j) (are j (omega (arith, size, h))) at.1 in
                 omega (arith, ints, some, zero-*ℤ (pos d));
             columns = λ g h.

@@ -9,7 +9,7 @@ use Rattle.std.proofs.lemmas.Option.{none-some}
 use Rattle.std.proofs.Math.Nat.{mul-pos}
 use Rattle.std.proofs.Math.IntN.{zero-*ℤ, *ℤ_comm}
 use Rattle.ice_defs.specs.Sum.{numbers_below}
-use Rattle.ice_defs.specs.Fraction.{Fraction, whole, IsFraction, AtMost, negated, fraction_at}
+use Rattle.ice_defs.specs.Fraction.{Fraction, whole_number, IsFraction, AtMost, negation, fraction_at}
 use Rattle.ice_defs.specs.Prices.{Prices, price_of, cost_of, ArePrices}
 use Rattle.ice_defs.specs.Pricing.{IsChoice}
 use Rattle.ice_defs.specs.Program.{Program, IsPoint, IsLeast, AreDuals, cost}
@@ -132,7 +132,7 @@ under-row a c s size k e n hk most same =
 pub paid-cut : (t : PaidTrade) (cut : ℕ) (delta : ℤ) (den : ℕ) → IsPaidTrade t → IsCutDen t cut → ArePaidOver t cut (payment_num t cut delta den)
 paid-cut t cut delta den is cuts = record {
   positive = cuts.positive;
-  each = λ b h. (num_over-is cut (fraction_at t.payments b) (all-at IsFraction t.payments b (whole (pos 0)) is.fractions (omega (arith, is.payments_count, h))) (cuts.divides b h)).equal;
+  each = λ b h. (num_over-is cut (fraction_at t.payments b) (all-at IsFraction t.payments b (whole_number (pos 0)) is.fractions (omega (arith, is.payments_count, h))) (cuts.divides b h)).equal;
 }
 
 module _ (t : PaidTrade) (cut : ℕ) (delta : ℤ) (den : ℕ) where
@@ -181,8 +181,8 @@ module _ (t : PaidTrade) (cut : ℕ) (delta : ℤ) (den : ℕ) where
       let second : AtMost (over (neg_ℤ z) (cut * p.den)) (over (n t.goods) d) =
       row-under a c _ (n t.goods) p.den d cut (is.bidders b h).1 (cost-same t.goods p d n (neg_ℤ (pos cut)) (own_units t b) same) in (
         AtMost-right (gap t p b) (over (n t.goods) d) (fraction_at x t.goods) hd (sym own.equal) (AtMost-left (over z (cut * p.den)) (gap t p b) (over (n t.goods) d) hg (sym one.equal) first),
-        AtMost-right (negated (gap t p b)) (over (n t.goods) d) (fraction_at x t.goods) hd (sym own.equal)
-            (AtMost-left (over (neg_ℤ z) (cut * p.den)) (negated (gap t p b)) (over (n t.goods) d) hg (sym other.equal) second),
+        AtMost-right (negation (gap t p b)) (over (n t.goods) d) (fraction_at x t.goods) hd (sym own.equal)
+            (AtMost-left (over (neg_ℤ z) (cut * p.den)) (negation (gap t p b)) (over (n t.goods) d) hg (sym other.equal) second),
       )
 
   -- ---- prices with a number that covers them, as a point
@@ -224,7 +224,7 @@ module _ (t : PaidTrade) (cut : ℕ) (delta : ℤ) (den : ℕ) where
         let hd : 0 < d = mul-pos cuts.positive are.positive in
         let one = whole-gap t q cut a paid are.positive (paid-cut t cut delta den paid cuts) b h in
         let up : (z *ℤ pos e.den) ≤ℤ (e.num *ℤ pos d) = over-le d e.den z e.num (gap t q b) e hd one (own_over e he) (covers b h).0 in
-        let down : (neg_ℤ z *ℤ pos e.den) ≤ℤ (e.num *ℤ pos d) = over-le d e.den (neg_ℤ z) e.num (negated (gap t q b)) e hd (negated_over d z (gap t q b) one) (own_over e he) (covers b h).1 in
+        let down : (neg_ℤ z *ℤ pos e.den) ≤ℤ (e.num *ℤ pos d) = over-le d e.den (neg_ℤ z) e.num (negation (gap t q b)) e hd (negated_over d z (gap t q b) one) (own_over e he) (covers b h).1 in
         cancel_le d (pos 0) e.num hd (omega (arith, ints, up, down, turn z e.den, zero-*ℤ (pos d)))
       where
         turn : (g : ℤ) (d : ℕ) → neg_ℤ g *ℤ pos d ≡ neg_ℤ (g *ℤ pos d)
@@ -251,7 +251,7 @@ module _ (t : PaidTrade) (cut : ℕ) (delta : ℤ) (den : ℕ) where
               let one = whole-gap t q cut (payment_num t cut delta den) paid are.positive (paid-cut t cut delta den paid cuts) b h in
               let up : (z *ℤ pos e.den) ≤ℤ (e.num *ℤ pos k) = over-le k e.den z e.num (gap t q b) e hk one (own_over e he) (covers b h).0 in
               let down : (neg_ℤ z *ℤ pos e.den) ≤ℤ (e.num *ℤ pos k) =
-              over-le k e.den (neg_ℤ z) e.num (negated (gap t q b)) e hk (negated_over k z (gap t q b) one) (own_over e he) (covers b h).1 in
+              over-le k e.den (neg_ℤ z) e.num (negation (gap t q b)) e hk (negated_over k z (gap t q b) one) (own_over e he) (covers b h).1 in
               let last : pos cut *ℤ n t.goods ≡ pos cut *ℤ (e.num *ℤ pos q.den) = ap (λ w. pos cut *ℤ w) n-last in (
                 (let row = gap-row a c _ e.num q.den e.den cut are.positive up (cost-same t.goods q d n (pos cut) (own_units t b) n-same) in omega (arith, ints, row, last)),
                 (let row = under-row a c _ e.num q.den e.den cut are.positive down (cost-same t.goods q d n (neg_ℤ (pos cut)) (own_units t b) n-same) in omega (arith, ints, row, last)),
@@ -340,7 +340,7 @@ some-cover t cut delta den q paid cuts hq =
           let other = negated_over d z (gap t q b) one in
           let most = each b h in (
             AtMost-left (over z d) (gap t q b) (over top d) hd (sym one.equal) (AtMost-num z top d (omega (arith, ints, clamps, most))),
-            AtMost-left (over (neg_ℤ z) d) (negated (gap t q b)) (over top d) hd (sym other.equal) (AtMost-num (neg_ℤ z) top d (omega (arith, ints, clamps, most))),
+            AtMost-left (over (neg_ℤ z) d) (negation (gap t q b)) (over top d) hd (sym other.equal) (AtMost-num (neg_ℤ z) top d (omega (arith, ints, clamps, most))),
           ),
     )
 

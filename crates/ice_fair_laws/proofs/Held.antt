@@ -6,7 +6,7 @@ use Rattle.std.proofs.lemmas.List.Sums.{sum_by-cons}
 use Rattle.std.proofs.Math.Nat.{mul-pos}
 use Rattle.std.proofs.Math.IntN.{*ℤ_comm}
 use Rattle.ice_defs.specs.Sum.{sum_below}
-use Rattle.ice_defs.specs.Fraction.{Fraction, whole, times, negated, fraction_at}
+use Rattle.ice_defs.specs.Fraction.{Fraction, whole_number, times, negation, fraction_at}
 use Rattle.ice_defs.specs.Prices.{Prices, price_of, cost_of}
 use Rattle.ice_defs.proofs.Sums.{sum_below-same, sum_below-le, sum_below-add, sum_below-less, sum_below-swap, sum_below-front}
 use Rattle.ice_defs.proofs.Products.{sum_below-times, times-le, times_neg, times_add}
@@ -45,7 +45,7 @@ module _ (t : PaidTrade) (c : FairCertificate) where
   pub held-over : (n : ℕ) (a : ℕ → ℤ) → 0 < n → length t.payments ≡ count → AreOver n a t.payments → (k : ℕ) → k ≤ count → IsOver n (sum_below (λ b. held c b *ℤ a b) k) (held_below t c k)
   held-over n a hn same are zero h = record { proper = omega arith; equal = omega (arith, ints) }
   held-over n a hn same are (suc k) h =
-      plus-over n (sum_below (λ b. held c b *ℤ a b) k) (held c k *ℤ a k) (held_below t c k) (times (whole (held c k)) (fraction_at t.payments k)) hn
+      plus-over n (sum_below (λ b. held c b *ℤ a b) k) (held c k *ℤ a k) (held_below t c k) (times (whole_number (held c k)) (fraction_at t.payments k)) hn
       (held-over n a hn same are k (omega (arith, h)))
       (times-over n (held c k) (a k) (fraction_at t.payments k) (are k (omega (arith, same, h))))
 
@@ -80,7 +80,7 @@ module _ (t : PaidTrade) (c : FairCertificate) where
         let g : ℤ = gap_num n a b in
         let most : ℤ = e.num *ℤ pos (n * q.den) in
         let over : (g *ℤ pos e.den) ≤ℤ most = over-le (n * q.den) e.den g e.num (gap t q b) e (mul-pos hn hq) is (own_over e he) (covers b h).0 in
-        let under : (neg_ℤ g *ℤ pos e.den) ≤ℤ most = over-le (n * q.den) e.den (neg_ℤ g) e.num (negated (gap t q b)) e (mul-pos hn hq) (negated_over (n * q.den) g (gap t q b) is) (own_over e he) (covers b h).1 in
+        let under : (neg_ℤ g *ℤ pos e.den) ≤ℤ most = over-le (n * q.den) e.den (neg_ℤ g) e.num (negation (gap t q b)) e (mul-pos hn hq) (negated_over (n * q.den) g (gap t q b) is) (own_over e he) (covers b h).1 in
         let low : ℕ = slice_index_or c.low b 0 in
         let high : ℕ = slice_index_or c.high b 0 in
         let turned : neg_ℤ g *ℤ pos e.den ≡ neg_ℤ (g *ℤ pos e.den) = turn g e.den in (

@@ -5,7 +5,7 @@ use Rattle.std.proofs.lemmas.Int.{ints}
 use Rattle.std.proofs.lemmas.Nat.Gcd.{dvd_refl}
 use Rattle.std.proofs.Math.Nat.{mul-pos}
 use Rattle.ice_defs.specs.Sum.{sum_below}
-use Rattle.ice_defs.specs.Fraction.{Fraction, whole, IsFraction, Equals, plus, less, times, fraction_at}
+use Rattle.ice_defs.specs.Fraction.{Fraction, whole_number, IsFraction, Equals, plus, minus, times, fraction_at}
 use Rattle.ice_defs.specs.Prices.{Prices, cost_of, ArePrices}
 use Rattle.ice_defs.specs.Rows.{weighted_sum, worth_above}
 use Rattle.ice_defs.specs.PricingRun.{common_den, num_over}
@@ -16,7 +16,7 @@ use Rattle.ice_row_laws.proofs.Costs.{cost_of-add, cost_of-times, cost_of-le}
 use Rattle.ice_row_laws.proofs.Priced.{rows-le}
 use Rattle.ice_row_laws.proofs.Weighted.{total_weight, weighted_sum-ones}
 use Rattle.ice_pricing_laws.proofs.Dens.{IsOver, common_den-pos, are_over}
-use Rattle.ice_fair_laws.specs.Fair.{PaidTrade, FairCertificate, held, held_units, row_units, asked, held_payments}
+use Rattle.ice_fair_laws.specs.Fair.{PaidTrade, FairCertificate, held, held_units, row_units, demand, held_payments}
 use Rattle.ice_fair_laws.specs.Laws.{TestGivesLeast, TestGivesFair}
 use Rattle.ice_fair_laws.proofs.Linear.{rest_of, nearest-le}
 use Rattle.ice_fair_laws.proofs.Overs.{over}
@@ -24,15 +24,15 @@ use Rattle.ice_fair_laws.proofs.Held.{held-over, held-most}
 
 -- the test's equality over whole numbers
 pub test-whole : (m n f d total : ℕ) (h worth x most least : ℤ) (held : Fraction) → IsOver n h held → 0 < m → 0 < n
-    → Equals (times (whole (pos d)) (over least f)) (less (plus held (less (whole worth) (times (whole (pos total)) (over x m)))) (whole most))
+    → Equals (times (whole_number (pos d)) (over least f)) (minus (plus held (minus (whole_number worth) (times (whole_number (pos total)) (over x m)))) (whole_number most))
     → pos d *ℤ (least *ℤ pos (n * m)) ≡ pos f *ℤ ((pos m *ℤ h) +ℤ (pos n *ℤ rest_of m total worth x most))
 test-whole m n f d total h worth x most least held is hm hn equal =
-    let rows : Fraction = less (whole worth) (times (whole (pos total)) (over x m)) in
-    let all : Fraction = less (plus held rows) (whole most) in
-    let now : Fraction = less (plus (over h n) rows) (whole most) in
-    let same : Equals all now = Equals-less (plus held rows) (whole most) (plus (over h n) rows) (whole most) (Equals-plus held rows (over h n) rows is.equal refl) refl in
+    let rows : Fraction = minus (whole_number worth) (times (whole_number (pos total)) (over x m)) in
+    let all : Fraction = minus (plus held rows) (whole_number most) in
+    let now : Fraction = minus (plus (over h n) rows) (whole_number most) in
+    let same : Equals all now = Equals-less (plus held rows) (whole_number most) (plus (over h n) rows) (whole_number most) (Equals-plus held rows (over h n) rows is.equal refl) refl in
     let proper : IsFraction all = mul-pos (mul-pos is.proper (mul-pos (omega arith) (mul-pos (omega arith) hm))) (omega arith) in
-    let both : Equals (times (whole (pos d)) (over least f)) now = Equals-trans (times (whole (pos d)) (over least f)) all now proper equal same in
+    let both : Equals (times (whole_number (pos d)) (over least f)) now = Equals-trans (times (whole_number (pos d)) (over least f)) all now proper equal same in
     left ∙ both ∙ right
   where
     left : pos d *ℤ (least *ℤ pos (n * m)) ≡ (pos d *ℤ least) *ℤ pos ((n * (1 * (1 * m))) * 1)
@@ -44,7 +44,7 @@ test-whole m n f d total h worth x most least held is hm hn equal =
 
 module _ (t : PaidTrade) (c : FairCertificate) where
   -- what all units cost at prices within the cap is at most what is asked for at the cap
-  pub asked-le : (q : Prices) → ArePrices t.goods t.cap q → (cost_of q (held_units t c) +ℤ (pos 100 *ℤ cost_of q (row_units t c))) ≤ℤ (pos q.den *ℤ (t.cap *ℤ asked t c))
+  pub asked-le : (q : Prices) → ArePrices t.goods t.cap q → (cost_of q (held_units t c) +ℤ (pos 100 *ℤ cost_of q (row_units t c))) ≤ℤ (pos q.den *ℤ (t.cap *ℤ demand t c))
   asked-le q within =
       let all : ℕ → ℤ = λ g. held_units t c g +ℤ (pos 100 *ℤ row_units t c g) in
       let top : ℤ = t.cap *ℤ pos q.den in
@@ -56,7 +56,7 @@ module _ (t : PaidTrade) (c : FairCertificate) where
         ap (λ n. top *ℤ sum_below (λ g. int_max (all g) (pos 0)) n) within.same_length,
         cost_of-add q (held_units t c) (λ g. pos 100 *ℤ row_units t c g),
         cost_of-times q 100 (row_units t c),
-        turned t.cap (asked t c) q.den,
+        turned t.cap (demand t c) q.den,
       )
     where
       turned : (cap a : ℤ) (k : ℕ) → (cap *ℤ pos k) *ℤ a ≡ pos k *ℤ (cap *ℤ a)
@@ -74,15 +74,15 @@ test_gives_least t p x d c is within violation proper passes q e accurate he cov
     let total : ℕ = total_weight c.rows in
     let worth : ℤ = weighted_sum (worth_above t.trees t.weights t.sets) c.rows in
     let ones : weighted_sum (λ row. pos 1) c.rows ≡ pos total = weighted_sum-ones c.rows in
-    let same : Equals (times (whole (pos c.den)) (over d.num d.den)) (less (plus (held_payments t c) (less (whole worth) (times (whole (pos total)) (over x p.den)))) (whole (t.cap *ℤ asked t c))) =
-    subst (λ z. Equals (times (whole (pos c.den)) d) (less (plus (held_payments t c) (less (whole worth) (times (whole z) (over x p.den)))) (whole (t.cap *ℤ asked t c)))) ones passes.equal in
-    nearest-le p.den q.den n e.den d.den c.den total paid (cost_of q (held_units t c)) worth (cost_of q (row_units t c)) (t.cap *ℤ asked t c) x y d.num e.num
+    let same : Equals (times (whole_number (pos c.den)) (over d.num d.den)) (minus (plus (held_payments t c) (minus (whole_number worth) (times (whole_number (pos total)) (over x p.den)))) (whole_number (t.cap *ℤ demand t c))) =
+    subst (λ z. Equals (times (whole_number (pos c.den)) d) (minus (plus (held_payments t c) (minus (whole_number worth) (times (whole_number z) (over x p.den)))) (whole_number (t.cap *ℤ demand t c)))) ones passes.equal in
+    nearest-le p.den q.den n e.den d.den c.den total paid (cost_of q (held_units t c)) worth (cost_of q (row_units t c)) (t.cap *ℤ demand t c) x y d.num e.num
     within.positive accurate.within.positive hn passes.proper
     (held-most t c q n a e hn accurate.within.positive he (omega (arith, there)) is.payments_count are passes.low_count passes.high_count passes.numbers covers)
     (rows-le t.trees t.weights t.sets q y other c.rows passes.rows)
     (asked-le t c q accurate.within)
     (smallest p x within violation)
-    (test-whole p.den n d.den c.den total paid worth x (t.cap *ℤ asked t c) d.num (held_payments t c) (held-over t c n a hn is.payments_count are (length t.trees) (omega arith)) within.positive hn same)
+    (test-whole p.den n d.den c.den total paid worth x (t.cap *ℤ demand t c) d.num (held_payments t c) (held-over t c n a hn is.payments_count are (length t.trees) (omega arith)) within.positive hn same)
 
 pub test_gives_fair : TestGivesFair
 test_gives_fair t p x d accuracy c is within violation distance accurate passes = record {

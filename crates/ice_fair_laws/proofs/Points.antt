@@ -5,7 +5,7 @@ use Rattle.std.proofs.lemmas.Int.{ints}
 use Rattle.std.proofs.lemmas.Grind.{flat_map-append}
 use Rattle.std.proofs.Math.IntN.{zero-*ℤ}
 use Rattle.ice_defs.specs.Sum.{sum_below, numbers_below}
-use Rattle.ice_defs.specs.Fraction.{Fraction, whole, IsFraction, AtMost, fraction_at}
+use Rattle.ice_defs.specs.Fraction.{Fraction, whole_number, IsFraction, AtMost, fraction_at}
 use Rattle.ice_defs.specs.Program.{Constraint, dot, IsPoint}
 use Rattle.ice_defs.specs.PricingRun.{Member, only_at, units_above}
 use Rattle.ice_defs.proofs.Lists.{all-append, all-first, all-last, map-all, all-from}
@@ -67,7 +67,7 @@ module _ (t : PaidTrade) (cut : ℕ) (delta : ℤ) (den : ℕ) where
     fair-cost-over = row-over _ _ (dot-only_at (suc t.goods) t.goods (pos 1) n (omega arith) ∙ one_time (n t.goods))
 
     abbrev Meets : Constraint → Type 0
-    Meets row = AtMost (whole row.least) (dot row.coeffs x)
+    Meets row = AtMost (whole_number row.least) (dot row.coeffs x)
 
     abbrev caps : List Constraint
     caps = map (cap_row t cut delta den) (numbers_below t.goods)
@@ -84,7 +84,7 @@ module _ (t : PaidTrade) (cut : ℕ) (delta : ℤ) (den : ℕ) where
         let third = all-last Meets bidders members rest in
         record {
           low = λ j h.
-              let at = all-at (λ f. IsFraction f × AtMost (whole (pos 0)) f) x j (whole (pos 0)) point.non_negative (omega (arith, size, h)) in
+              let at = all-at (λ f. IsFraction f × AtMost (whole_number (pos 0)) f) x j (whole_number (pos 0)) point.non_negative (omega (arith, size, h)) in
               let some = least-over d (pos 0) (n j) (fraction_at x j) (are j (omega (arith, size, h))) at.1 in
               omega (arith, ints, some, zero-*ℤ (pos d));
           high = λ g h.
@@ -103,7 +103,7 @@ module _ (t : PaidTrade) (cut : ℕ) (delta : ℤ) (den : ℕ) where
     pub to_fair : (pool : List Member) → IsFairPoint pool d n → IsPoint (fairness_program t cut delta den pool) x
     to_fair pool is = record {
       same_length = omega (arith, size, length-only_at (suc t.goods) t.goods (pos 1));
-      non_negative = all-from (λ f. IsFraction f × AtMost (whole (pos 0)) f) x (whole (pos 0))
+      non_negative = all-from (λ f. IsFraction f × AtMost (whole_number (pos 0)) f) x (whole_number (pos 0))
           (λ j h. let one = are j h in
           (one.proper, over-least d (pos 0) (n j) (fraction_at x j) hd one (let some = is.low j (omega (arith, size, h)) in omega (arith, ints, some, zero-*ℤ (pos d)))));
       rows = all-append Meets caps (bidders ++ map (member_row t cut delta den) pool)

@@ -6,7 +6,7 @@ use Rattle.std.proofs.lemmas.Int.{ints, clamps}
 use Rattle.std.proofs.lemmas.List.Sums.{sum_by-cons}
 use Rattle.std.proofs.Math.IntN.{*ℤ_comm, *ℤ-zero, pos-*ℤ-pos}
 use Rattle.ice_defs.specs.Sum.{sum_below}
-use Rattle.ice_defs.specs.Rows.{Row, weighted_sum, worth_above, units_above, wanted}
+use Rattle.ice_defs.specs.Rows.{Row, weighted_sum, worth_above, units_above, demand}
 use Rattle.ice_defs.proofs.Products.{times-le, times_add}
 use Rattle.ice_defs.proofs.Multiples.{times_keep, times_cancel}
 use Rattle.ice_row_laws.proofs.Weighted.{total_weight}
@@ -32,7 +32,7 @@ lows f (suc k) = omega (arith, ints, clamps, lows f k)
 pub certified_is_small : CertifiedIsSmall
 certified_is_small ts ws sets goods cap p v c m some passes each =
     let worth : ℤ = weighted_sum (worth_above ts ws sets) c.rows in
-    let all : ℤ = wanted ts ws sets goods c.rows in
+    let all : ℤ = demand ts ws sets goods c.rows in
     let paid : pos 0 ≤ℤ (cap *ℤ all) = (let h = times_keep cap (pos 0) all some (lows (λ g. weighted_sum (units_above ts ws sets g) c.rows) goods) in omega (arith, ints, h, *ℤ-zero cap)) in
     let most = sum-most (worth_above ts ws sets) m c.rows each in
     let kept = times-le m (pos (total_weight c.rows)) (pos c.den) (let w = passes.weights in omega (arith, ints, w)) in

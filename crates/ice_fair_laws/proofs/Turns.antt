@@ -9,7 +9,7 @@ use Rattle.std.proofs.lemmas.Nat.Gcd.{dvd_trans}
 use Rattle.ice_defs.specs.Sum.{numbers_below}
 use Rattle.ice_defs.specs.Set.{NodeSet}
 use Rattle.ice_defs.specs.Pricing.{excess_net}
-use Rattle.ice_defs.specs.Fraction.{Fraction, whole, IsFraction, Equals, AtMost, times, fraction_at}
+use Rattle.ice_defs.specs.Fraction.{Fraction, whole_number, IsFraction, Equals, AtMost, times, fraction_at}
 use Rattle.ice_defs.specs.Program.{Constraint, AreNonNegative}
 use Rattle.ice_defs.specs.PricingRun.{Member, common_den, num_over, IsBestSet, solution_prices}
 use Rattle.ice_defs.proofs.Lists.{all-append}
@@ -36,15 +36,15 @@ den-divides (f ∷ fs) (suc i) h = dvd_trans (fraction_at fs i).den (den-divides
 
 lowered-proper : (k : ℕ) (fs : List Fraction) → AreNonNegative fs → AllByRecursion IsFraction (weights_of_duals k fs)
 lowered-proper k fs low =
-    all-map IsFraction (λ y. lowest_of (times (whole (pos k)) y)) fs
-    (all-each (λ f. IsFraction f × AtMost (whole (pos 0)) f) (λ f. IsFraction (lowest_of (times (whole (pos k)) f))) fs
-    (λ f h. positive-lowest (times (whole (pos k)) f).num (times (whole (pos k)) f).den (omega (arith, h.0))) low)
+    all-map IsFraction (λ y. lowest_of (times (whole_number (pos k)) y)) fs
+    (all-each (λ f. IsFraction f × AtMost (whole_number (pos 0)) f) (λ f. IsFraction (lowest_of (times (whole_number (pos k)) f))) fs
+    (λ f h. positive-lowest (times (whole_number (pos k)) f).num (times (whole_number (pos k)) f).den (omega (arith, h.0))) low)
 
 -- over any denominator that each one divides
 lowered-over : (k d : ℕ) (fs : List Fraction) → AreNonNegative fs → 0 < d → ((i : ℕ) → i < length fs → (fraction_at (weights_of_duals k fs) i).den ∣ d) → AreWeights k fs d (nums_over d (weights_of_duals k fs))
 lowered-over k d fs low hd divides =
     let ys : List Fraction = weights_of_duals k fs in
-    let size : length ys ≡ length fs = length-map fs (λ y. lowest_of (times (whole (pos k)) y)) in
+    let size : length ys ≡ length fs = length-map fs (λ y. lowest_of (times (whole_number (pos k)) y)) in
     let proper = lowered-proper k fs low in
     record {
       positive = hd;
@@ -53,13 +53,13 @@ lowered-over k d fs low hd divides =
           let long : i < length ys = omega (arith, size, h) in
           let f : Fraction = fraction_at fs i in
           let z : ℤ = num_over d (fraction_at ys i) in
-          let at : fraction_at ys i ≡ lowest_of (times (whole (pos k)) f) = get_or-map (λ y. lowest_of (times (whole (pos k)) y)) fs i (whole (pos 0)) (whole (pos 0)) h in
-          let t : Fraction = times (whole (pos k)) f in
+          let at : fraction_at ys i ≡ lowest_of (times (whole_number (pos k)) f) = get_or-map (λ y. lowest_of (times (whole_number (pos k)) y)) fs i (whole_number (pos 0)) (whole_number (pos 0)) h in
+          let t : Fraction = times (whole_number (pos k)) f in
           let w : Fraction = lowest_of t in
-          let here = all-at (λ f. IsFraction f × AtMost (whole (pos 0)) f) fs i (whole (pos 0)) low h in
+          let here = all-at (λ f. IsFraction f × AtMost (whole_number (pos 0)) f) fs i (whole_number (pos 0)) low h in
           let some : pos 0 ≤ℤ z = num-low d (fraction_at ys i) (subst (λ g. pos 0 ≤ℤ g.num) (sym at) (multiple-low k f here.0 here.1)) in
-          let e : pos (slice_index_or (nums_over d ys) i 0) ≡ z = ap pos (get_or-map (λ w. unsigned_abs (num_over d w)) ys i (whole (pos 0)) 0 long) ∙ abs-is z some in
-          let is_over = num_over-is d (fraction_at ys i) (all-at IsFraction ys i (whole (pos 0)) proper long) (divides i h) in
+          let e : pos (slice_index_or (nums_over d ys) i 0) ≡ z = ap pos (get_or-map (λ w. unsigned_abs (num_over d w)) ys i (whole_number (pos 0)) 0 long) ∙ abs-is z some in
+          let is_over = num_over-is d (fraction_at ys i) (all-at IsFraction ys i (whole_number (pos 0)) proper long) (divides i h) in
           let own : Equals w (record { num = z; den = d }) = subst (λ (g : Fraction). Equals g (record { num = z; den = d })) at is_over.equal in
           let is : IsFraction w = subst IsFraction at is_over.proper in
           subst (λ n. Equals (record { num = n; den = d }) t) (sym e) (Equals-trans (record { num = z; den = d }) w t is (sym own) (Equals-lowest t.num t.den));
@@ -71,12 +71,12 @@ lowered_together k l fs gs low other =
     let ys : List Fraction = weights_of_duals l gs in
     let d : ℕ = common_den (xs ++ ys) in
     let hd : 0 < d = common_den-pos (xs ++ ys) (all-append IsFraction xs ys (lowered-proper k fs low) (lowered-proper l gs other)) in
-    let size : length xs ≡ length fs = length-map fs (λ y. lowest_of (times (whole (pos k)) y)) in
-    let long : length ys ≡ length gs = length-map gs (λ y. lowest_of (times (whole (pos l)) y)) in (
+    let size : length xs ≡ length fs = length-map fs (λ y. lowest_of (times (whole_number (pos k)) y)) in
+    let long : length ys ≡ length gs = length-map gs (λ y. lowest_of (times (whole_number (pos l)) y)) in (
       lowered-over k d fs low hd
-          (λ i h. subst (λ (g : Fraction). g.den ∣ d) (get_or_append_left xs ys (whole (pos 0)) i (omega (arith, size, h))) (den-divides (xs ++ ys) i (omega (arith, length-append xs ys, size, h)))),
+          (λ i h. subst (λ (g : Fraction). g.den ∣ d) (get_or_append_left xs ys (whole_number (pos 0)) i (omega (arith, size, h))) (den-divides (xs ++ ys) i (omega (arith, length-append xs ys, size, h)))),
       lowered-over l d gs other hd
-          (λ i h. subst (λ (g : Fraction). g.den ∣ d) (get_or-append-add xs ys i (whole (pos 0))) (den-divides (xs ++ ys) (length xs + i) (omega (arith, length-append xs ys, long, h)))),
+          (λ i h. subst (λ (g : Fraction). g.den ∣ d) (get_or-append-add xs ys i (whole_number (pos 0))) (den-divides (xs ++ ys) (length xs + i) (omega (arith, length-append xs ys, long, h)))),
     )
 
 -- ---- turns

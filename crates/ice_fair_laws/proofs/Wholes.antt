@@ -5,7 +5,7 @@ use Rattle.std.proofs.lemmas.Int.{ints, clamps}
 use Rattle.std.proofs.Math.Nat.{mul-pos}
 use Rattle.std.proofs.Math.IntN.{*ℤ_comm}
 use Rattle.ice_defs.specs.Sum.{sum_below}
-use Rattle.ice_defs.specs.Fraction.{Fraction, IsFraction, AtMost, Equals, whole, plus, less, times, negated}
+use Rattle.ice_defs.specs.Fraction.{Fraction, IsFraction, AtMost, Equals, whole_number, plus, minus, times, negation}
 use Rattle.ice_defs.specs.Prices.{Prices, cost_of}
 use Rattle.ice_defs.proofs.Sums.{sum_below-le}
 use Rattle.ice_defs.proofs.Products.{sum_below-times, times-le, times_add, times_neg}
@@ -16,7 +16,7 @@ use Rattle.ice_pricing_laws.proofs.Lists.{all-at}
 use Rattle.ice_pricing_laws.proofs.Dens.{IsOver, AreOver}
 use Rattle.ice_pricing_laws.proofs.Weighed.{cancel_left}
 use Rattle.ice_row_laws.specs.Sizes.{IsSizedWithin}
-use Rattle.ice_fair_laws.specs.Fair.{PaidTrade, own_units, gap, Covers, IsDistance, held, held_units, row_units, total_held, asked, held_payments}
+use Rattle.ice_fair_laws.specs.Fair.{PaidTrade, own_units, gap, Covers, IsDistance, held, held_units, row_units, total_held, demand, held_payments}
 use Rattle.ice_fair_laws.specs.Laws.{IsPaidTrade}
 use Rattle.ice_fair_laws.specs.Whole.{ArePaidOver, gap_num, IsGreatestGap, GreatestGapIsDistance, held_sum, rows_weight, rows_worth, TestIsWhole, AskedIsLow, HeldIsSized}
 use Rattle.ice_fair_laws.proofs.Overs.{over, negated_over}
@@ -24,7 +24,7 @@ use Rattle.ice_fair_laws.proofs.Held.{held-over, gap-over, both-sum}
 
 pub paid-over : (t : PaidTrade) (n : ℕ) (a : ℕ → ℤ) → IsPaidTrade t → ArePaidOver t n a → AreOver n a t.payments
 paid-over t n a is are j h = record {
-  proper = all-at IsFraction t.payments j (whole (pos 0)) is.fractions h;
+  proper = all-at IsFraction t.payments j (whole_number (pos 0)) is.fractions h;
   equal = are.each j (omega (arith, is.payments_count, h));
 }
 
@@ -49,7 +49,7 @@ module _ (t : PaidTrade) (p : Prices) (n : ℕ) (a : ℕ → ℤ) (is : IsPaidTr
             let one = whole-gap b h in
             let other = negated_over d (gap_num t p n a b) (gap t p b) one in (
               AtMost-left (over (gap_num t p n a b) d) (gap t p b) (over g d) hd (sym one.equal) (AtMost-num (gap_num t p n a b) g d (most.over b h)),
-              AtMost-left (over (neg_ℤ (gap_num t p n a b)) d) (negated (gap t p b)) (over g d) hd (sym other.equal) (AtMost-num (neg_ℤ (gap_num t p n a b)) g d (most.under b h)),
+              AtMost-left (over (neg_ℤ (gap_num t p n a b)) d) (negation (gap t p b)) (over g d) hd (sym other.equal) (AtMost-num (neg_ℤ (gap_num t p n a b)) g d (most.under b h)),
             );
         least = λ e he covers.
             let (b, h, which) = most.attained in
@@ -62,13 +62,13 @@ module _ (t : PaidTrade) (p : Prices) (n : ℕ) (a : ℕ → ℤ) (is : IsPaidTr
           subst (λ z. AtMost (over z (n * p.den)) e) same (AtMost-left (gap t p b) (over (gap_num t p n a b) (n * p.den)) e one.proper one.equal (covers b h).0)
       by e covers b h (inr same) =
           let other = negated_over (n * p.den) (gap_num t p n a b) (gap t p b) (whole-gap b h) in
-          subst (λ z. AtMost (over z (n * p.den)) e) same (AtMost-left (negated (gap t p b)) (over (neg_ℤ (gap_num t p n a b)) (n * p.den)) e other.proper other.equal (covers b h).1)
+          subst (λ z. AtMost (over z (n * p.den)) e) same (AtMost-left (negation (gap t p b)) (over (neg_ℤ (gap_num t p n a b)) (n * p.den)) e other.proper other.equal (covers b h).1)
 
 -- an equal fraction is the distance too
 distance-same : (t : PaidTrade) (p : Prices) (d e : Fraction) → IsFraction e → Equals d e → IsDistance t p d → IsDistance t p e
 distance-same t p d e he same is = record {
   proper = he;
-  covers = λ b h. (AtMost-right (gap t p b) d e is.proper same (is.covers b h).0, AtMost-right (negated (gap t p b)) d e is.proper same (is.covers b h).1);
+  covers = λ b h. (AtMost-right (gap t p b) d e is.proper same (is.covers b h).0, AtMost-right (negation (gap t p b)) d e is.proper same (is.covers b h).1);
   least = λ f hf covers. AtMost-left d e f is.proper same (is.least f hf covers);
 }
 
@@ -83,13 +83,13 @@ greatest_gap_is_distance t p n a g d is hp are most hd =
 
 module _ (m n f d : ℕ) (h worth total x most least g : ℤ) (held : Fraction) (is : IsOver n h held) (hm : 0 < m) (hn : 0 < n) (hf : 0 < f) (same : Equals (over least f) (over g (n * m))) where
   abbrev rows : Fraction
-  rows = less (whole worth) (times (whole total) (over x m))
+  rows = minus (whole_number worth) (times (whole_number total) (over x m))
 
   abbrev all : Fraction
-  all = less (plus held rows) (whole most)
+  all = minus (plus held rows) (whole_number most)
 
   abbrev now : Fraction
-  now = less (plus (over h n) rows) (whole most)
+  now = minus (plus (over h n) rows) (whole_number most)
 
   proper-all : IsFraction all
   proper-all = mul-pos (mul-pos is.proper (mul-pos (omega arith) (mul-pos (omega arith) hm))) (omega arith)
@@ -98,7 +98,7 @@ module _ (m n f d : ℕ) (h worth total x most least g : ℤ) (held : Fraction) 
   proper-now = mul-pos (mul-pos hn (mul-pos (omega arith) (mul-pos (omega arith) hm))) (omega arith)
 
   alike : Equals all now
-  alike = Equals-less (plus held rows) (whole most) (plus (over h n) rows) (whole most) (Equals-plus held rows (over h n) rows is.equal refl) refl
+  alike = Equals-less (plus held rows) (whole_number most) (plus (over h n) rows) (whole_number most) (Equals-plus held rows (over h n) rows is.equal refl) refl
 
   left : (pos d *ℤ least) *ℤ pos ((n * (1 * (1 * m))) * 1) ≡ pos d *ℤ (least *ℤ pos (n * m))
   left = rw (is_diff least) (simp (diffs, diff_pos) (diff_same _ _ _ _ (omega arith)))
@@ -112,20 +112,20 @@ module _ (m n f d : ℕ) (h worth total x most least g : ℤ) (held : Fraction) 
   right : (((h *ℤ pos (1 * (1 * m))) +ℤ (((worth *ℤ pos (1 * m)) +ℤ (neg_ℤ (total *ℤ x) *ℤ pos 1)) *ℤ pos n)) *ℤ pos 1 +ℤ (neg_ℤ most *ℤ pos (n * (1 * (1 * m))))) *ℤ pos (1 * f) ≡ pos f *ℤ sides
   right = rw (is_diff h, is_diff worth, is_diff x, is_diff most, is_diff total) (simp (diffs, diff_pos) (diff_same _ _ _ _ (omega arith)))
 
-  pub to-sides : Equals (times (whole (pos d)) (over least f)) all → pos d *ℤ g ≡ sides
+  pub to-sides : Equals (times (whole_number (pos d)) (over least f)) all → pos d *ℤ g ≡ sides
   to-sides equal =
-      let both : Equals (times (whole (pos d)) (over least f)) now = Equals-trans (times (whole (pos d)) (over least f)) all now proper-all equal alike in
+      let both : Equals (times (whole_number (pos d)) (over least f)) now = Equals-trans (times (whole_number (pos d)) (over least f)) all now proper-all equal alike in
       cancel_left f (pos d *ℤ g) sides hf (sym turn ∙ ap (λ z. pos d *ℤ z) (sym same) ∙ sym left ∙ both ∙ right)
 
-  pub from-sides : pos d *ℤ g ≡ sides → Equals (times (whole (pos d)) (over least f)) all
+  pub from-sides : pos d *ℤ g ≡ sides → Equals (times (whole_number (pos d)) (over least f)) all
   from-sides even =
-      Equals-trans (times (whole (pos d)) (over least f)) now all proper-now
+      Equals-trans (times (whole_number (pos d)) (over least f)) now all proper-now
       (left ∙ ap (λ z. pos d *ℤ z) same ∙ turn ∙ ap (λ z. pos f *ℤ z) even ∙ sym right) (sym alike)
 
 pub test_is_whole : TestIsWhole
 test_is_whole t c p x n a g d is hp are hd same =
     let over-held = held-over t c n a are.positive is.payments_count (paid-over t n a is are) (length t.trees) (omega arith) in
-    let most : ℤ = t.cap *ℤ asked t c in (
+    let most : ℤ = t.cap *ℤ demand t c in (
       λ passes.
           let e = to-sides p.den n d.den c.den (held_sum t c a) (rows_worth t c) (rows_weight c) x most d.num g (held_payments t c) over-held hp are.positive hd same passes.equal in
           omega (arith, ints, e),

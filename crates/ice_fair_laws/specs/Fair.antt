@@ -13,7 +13,7 @@ use Rattle.ice_defs.specs.Exchange.{Exchange, trees_of, exact_of}
 use Rattle.ice_defs.specs.Prices.{Prices, cost_of}
 use Rattle.ice_defs.specs.Pricing.{IsViolation, IsAccurate}
 use Rattle.ice_defs.specs.Rows.{Row, IsRow, worth_above, units_above, weighted_sum}
-use Rattle.ice_defs.specs.Fraction.{Fraction, whole, Equals, AtMost, plus, less, times, negated, fraction_at}
+use Rattle.ice_defs.specs.Fraction.{Fraction, whole_number, Equals, AtMost, plus, minus, times, negation, fraction_at}
 
 -- the bounds with each upper value made equal to the lower one
 abbrev pub low_bounds : List Bounds → List Bounds
@@ -50,11 +50,11 @@ module _ (t : PaidTrade) where
 
   -- the payment less that cost
   abbrev pub gap : Prices → ℕ → Fraction
-  gap p b = less (fraction_at t.payments b) (set_cost p b)
+  gap p b = minus (fraction_at t.payments b) (set_cost p b)
 
   -- each gap is at most this in size
   abbrev pub Covers : Prices → Fraction → Type 0
-  Covers p e = (b : ℕ) → b < length t.trees → AtMost (gap p b) e × AtMost (negated (gap p b)) e
+  Covers p e = (b : ℕ) → b < length t.trees → AtMost (gap p b) e × AtMost (negation (gap p b)) e
 
   -- the distance is the greatest size of a gap
   pub record IsDistance (p : Prices) (d : Fraction) : Type 0 where
@@ -97,12 +97,12 @@ module _ (t : PaidTrade) (c : FairCertificate) where
   row_units g = weighted_sum (units_above t.trees t.weights t.sets g) c.rows
 
   -- of each good, what is asked for above 0
-  abbrev pub asked : ℤ
-  asked = sum_below (λ g. int_max (held_units g +ℤ (pos 100 *ℤ row_units g)) (pos 0)) t.goods
+  abbrev pub demand : ℤ
+  demand = sum_below (λ g. int_max (held_units g +ℤ (pos 100 *ℤ row_units g)) (pos 0)) t.goods
 
   abbrev pub held_below : ℕ → Fraction
-  held_below zero = whole (pos 0)
-  held_below (suc b) = plus (held_below b) (times (whole (held c b)) (fraction_at t.payments b))
+  held_below zero = whole_number (pos 0)
+  held_below (suc b) = plus (held_below b) (times (whole_number (held c b)) (fraction_at t.payments b))
 
   abbrev pub held_payments : Fraction
   held_payments = held_below (length t.trees)
@@ -110,8 +110,8 @@ module _ (t : PaidTrade) (c : FairCertificate) where
   -- the rows' worth above the violation
   abbrev pub rows_above : Fraction → Fraction
   rows_above violation =
-      less (whole (weighted_sum (worth_above t.trees t.weights t.sets) c.rows))
-      (times (whole (weighted_sum (λ row. pos 1) c.rows)) violation)
+      minus (whole_number (weighted_sum (worth_above t.trees t.weights t.sets) c.rows))
+      (times (whole_number (weighted_sum (λ row. pos 1) c.rows)) violation)
 
   -- no prices within the cap whose violation is at most
   -- this come nearer to the payments than this distance
@@ -121,4 +121,4 @@ module _ (t : PaidTrade) (c : FairCertificate) where
     pub high_count : length c.high ≡ length t.trees
     pub rows : AllByRecursion (IsRow t.trees t.weights t.sets) c.rows
     pub numbers : total_held c ≤ c.den
-    pub equal : Equals (times (whole (pos c.den)) distance) (less (plus held_payments (rows_above violation)) (whole (t.cap *ℤ asked)))
+    pub equal : Equals (times (whole_number (pos c.den)) distance) (minus (plus held_payments (rows_above violation)) (whole_number (t.cap *ℤ demand)))

@@ -9,7 +9,7 @@ use Rattle.ice_defs.specs.Set.{Weights}
 use Rattle.ice_defs.specs.Trade.{Assignment}
 use Rattle.ice_defs.specs.Fraction.{Fraction, IsFraction, Equals, fraction_at}
 use Rattle.ice_row_laws.specs.Sizes.{IsSizedWithin}
-use Rattle.ice_fair_laws.specs.Fair.{PaidTrade, FairCertificate, own_units, IsDistance, held, total_held, asked, PassesFairness}
+use Rattle.ice_fair_laws.specs.Fair.{PaidTrade, FairCertificate, own_units, IsDistance, held, total_held, demand, PassesFairness}
 use Rattle.ice_fair_laws.specs.Laws.{IsPaidTrade, violation_of}
 
 -- each payment is a whole number over the denominator
@@ -50,7 +50,7 @@ rows_worth t c = weighted_sum (worth_above t.trees t.weights t.sets) c.rows
 -- the equality of the test, times both denominators: what is asked for at the cap and
 -- what the rows weigh at the violation stand on one side, and neither is below 0
 abbrev pub IsEven : PaidTrade → FairCertificate → Prices → ℤ → ℕ → (ℕ → ℤ) → ℤ → Type 0
-IsEven t c p x n a g = ((pos n *ℤ (pos p.den *ℤ (t.cap *ℤ asked t c))) +ℤ (pos n *ℤ (x *ℤ rows_weight c)))
+IsEven t c p x n a g = ((pos n *ℤ (pos p.den *ℤ (t.cap *ℤ demand t c))) +ℤ (pos n *ℤ (x *ℤ rows_weight c)))
     ≡ (((pos p.den *ℤ held_sum t c a) +ℤ (pos n *ℤ (pos p.den *ℤ rows_worth t c))) -ℤ (pos c.den *ℤ g))
 
 -- where the other parts of the test hold, the test passes exactly where the whole numbers are even
@@ -64,7 +64,7 @@ TestIsWhole = (t : PaidTrade) (c : FairCertificate) (p : Prices) (x : ℤ) (n : 
 
 -- what is asked for is never below 0
 abbrev pub AskedIsLow : Type 0
-AskedIsLow = (t : PaidTrade) (c : FairCertificate) → pos 0 ≤ℤ asked t c
+AskedIsLow = (t : PaidTrade) (c : FairCertificate) → pos 0 ≤ℤ demand t c
 
 -- numbers of the bidders that are at most m in size weigh at most m for each that is held
 abbrev pub HeldIsSized : Type 0

@@ -5,7 +5,7 @@ use Rattle.std.specs.List.{AllByRecursion}
 use Rattle.std.proofs.lemmas.List.{length-append, length-map, length-take-le, get_or_append_left, get_or-append-add, drop_all, take_all, take-append-le, drop-append-le, map-append}
 use Rattle.std.proofs.lemmas.List.Elements.{All-from_recursion, recursion_from_All, All-take, All-drop}
 use Rattle.ice_defs.specs.Sum.{numbers_below}
-use Rattle.ice_defs.specs.Fraction.{Fraction, whole, IsFraction, times}
+use Rattle.ice_defs.specs.Fraction.{Fraction, whole_number, IsFraction, times}
 use Rattle.ice_defs.specs.Program.{AreNonNegative}
 use Rattle.ice_defs.specs.PricingRun.{Member, common_den, num_over}
 use Rattle.ice_defs.specs.Rows.{Row}
@@ -49,7 +49,7 @@ module _ (cut den : ℕ) (own members : List Fraction) (low : AreNonNegative own
       weighed-low d factor (f ∷ fs) (h, hs) = (num-low d _ (multiple-low factor f h.0 h.1), weighed-low d factor fs hs)
 
   pub all-long : length all ≡ length own + length members
-  all-long = omega (arith, length-append (weights_of_duals cut own) (weights_of_duals den members), length-map own (λ y. lowest_of (times (whole (pos cut)) y)), length-map members (λ y. lowest_of (times (whole (pos den)) y)))
+  all-long = omega (arith, length-append (weights_of_duals cut own) (weights_of_duals den members), length-map own (λ y. lowest_of (times (whole_number (pos cut)) y)), length-map members (λ y. lowest_of (times (whole_number (pos den)) y)))
 
 -- ---- the certificate
 

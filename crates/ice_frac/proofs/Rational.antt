@@ -9,7 +9,7 @@ use lib.Dec.{T}
 use mathlib.Core.Bool.{Bool-set}
 use mathlib.Core.Quot.{Setoid, Quotient, Quotient-set}
 use mathlib.Core.Quot.Quotient
-use Rattle.ice_defs.specs.Fraction.{Fraction, whole, IsFraction, Equals, AtMost, plus, less, times, negated}
+use Rattle.ice_defs.specs.Fraction.{Fraction, whole_number, IsFraction, Equals, AtMost, plus, minus, times, negation}
 use Rattle.ice_defs.specs.Frac.{reciprocal}
 use Rattle.ice_frac.proofs.Ring.{is_diff, diff_same, diff_pos, diffs}
 use Rattle.ice_frac.proofs.Fractions.{Equals-trans, Equals-plus, Equals-times, Equals-negated}
@@ -208,7 +208,7 @@ pub Equals_from_rational_of : (a b : Fraction) → IsFraction a → IsFraction b
 Equals_from_rational_of a b ha hb e =
     exact (record { num = a.num; den = a.den; positive = ha }) (record { num = b.num; den = b.den; positive = hb }) (sym (rational_from_pair a.num a.den ha) ∙ e ∙ rational_from_pair b.num b.den hb)
 
-pub rational_of-whole : (n : ℤ) → rational_of (whole n) ≡ whole_ℚ n
+pub rational_of-whole : (n : ℤ) → rational_of (whole_number n) ≡ whole_ℚ n
 rational_of-whole n = rational_from_pair n 1 one_positive
 
 pair_at : (a : Fraction) → IsFraction a → Pair
@@ -226,12 +226,12 @@ rational_of-times a b ha hb =
     rational_from_pair (times a b).num (times a b).den (mul-pos ha hb)
     ∙ ap (λ x. x *ℚ of_pair (pair_at b hb)) (sym (rational_from_pair a.num a.den ha)) ∙ ap (λ x. rational_of a *ℚ x) (sym (rational_from_pair b.num b.den hb))
 
-pub rational_of-negated : (a : Fraction) → IsFraction a → rational_of (negated a) ≡ neg_ℚ (rational_of a)
+pub rational_of-negated : (a : Fraction) → IsFraction a → rational_of (negation a) ≡ neg_ℚ (rational_of a)
 unfolding neg_ℚ Quotient.lift pair_at
 rational_of-negated a ha = rational_from_pair (neg_ℤ a.num) a.den ha ∙ ap neg_ℚ (sym (rational_from_pair a.num a.den ha))
 
-rational_of-less : (a b : Fraction) → IsFraction a → IsFraction b → rational_of (less a b) ≡ rational_of a +ℚ neg_ℚ (rational_of b)
-rational_of-less a b ha hb = rational_of-plus a (negated b) ha hb ∙ ap (λ x. rational_of a +ℚ x) (rational_of-negated b hb)
+rational_of-less : (a b : Fraction) → IsFraction a → IsFraction b → rational_of (minus a b) ≡ rational_of a +ℚ neg_ℚ (rational_of b)
+rational_of-less a b ha hb = rational_of-plus a (negation b) ha hb ∙ ap (λ x. rational_of a +ℚ x) (rational_of-negated b hb)
 
 pub positive-reciprocal_of : (n : ℤ) (d : ℕ) → n ≢ pos 0 → IsFraction (reciprocal (record { num = n; den = d }))
 positive-reciprocal_of (pos zero) d h = absurd (h refl)
@@ -241,7 +241,7 @@ positive-reciprocal_of (negsuc n) d h = pos_suc n
 pub rational_of-reciprocal : (a : Fraction) → IsFraction a → a.num ≢ pos 0 → rational_of a *ℚ rational_of (reciprocal a) ≡ whole_ℚ (pos 1)
 rational_of-reciprocal a ha h =
     let hr : IsFraction (reciprocal a) = positive-reciprocal_of a.num a.den h in
-    sym (rational_of-times a (reciprocal a) ha hr) ∙ rational_of-same (times a (reciprocal a)) (whole (pos 1)) (mul-pos ha hr) one_positive (times-reciprocal a h) ∙ rational_of-whole (pos 1)
+    sym (rational_of-times a (reciprocal a) ha hr) ∙ rational_of-same (times a (reciprocal a)) (whole_number (pos 1)) (mul-pos ha hr) one_positive (times-reciprocal a h) ∙ rational_of-whole (pos 1)
 
 -- ---- the order of fractions
 
@@ -267,9 +267,9 @@ neg_out : (n : ℤ) (p : ℕ) → neg_ℤ n *ℤ pos p ≡ neg_ℤ (n *ℤ pos p
 neg_out n p = rw (is_diff n) (simp (diffs, diff_pos) (diff_same _ _ _ _ (omega arith)))
 
 pub nonneg_from_AtMost : (a b : Fraction) → IsFraction a → IsFraction b → AtMost a b → IsNonNeg (rational_of b +ℚ neg_ℚ (rational_of a))
-nonneg_from_AtMost a b ha hb h = subst IsNonNeg (rational_of-less b a hb ha) ((nonneg_of (less b a) (mul-pos hb ha)).1 (omega (arith, ints, h, neg_out a.num b.den)))
+nonneg_from_AtMost a b ha hb h = subst IsNonNeg (rational_of-less b a hb ha) ((nonneg_of (minus b a) (mul-pos hb ha)).1 (omega (arith, ints, h, neg_out a.num b.den)))
 
 pub AtMost_from_nonneg : (a b : Fraction) → IsFraction a → IsFraction b → IsNonNeg (rational_of b +ℚ neg_ℚ (rational_of a)) → AtMost a b
 AtMost_from_nonneg a b ha hb s =
-    let low : pos 0 ≤ℤ (b.num *ℤ pos a.den +ℤ neg_ℤ a.num *ℤ pos b.den) = (nonneg_of (less b a) (mul-pos hb ha)).0 (subst IsNonNeg (sym (rational_of-less b a hb ha)) s) in
+    let low : pos 0 ≤ℤ (b.num *ℤ pos a.den +ℤ neg_ℤ a.num *ℤ pos b.den) = (nonneg_of (minus b a) (mul-pos hb ha)).0 (subst IsNonNeg (sym (rational_of-less b a hb ha)) s) in
     omega (arith, ints, low, neg_out a.num b.den)

@@ -2,7 +2,7 @@
 ghost use Rattle.std.specs.Prelude.{◌≡◌, ◌≢◌, ◌⊎◌, ◌↔◌, ◌<◌, ◌*◌, ◌^◌, pos, ◌<ℤ◌, unsigned_abs, IfOk, IfSome, IsNone};
 ghost use Rattle.std.specs.Result.{result_ok};
 ghost use Rattle.std.specs.Ordering.{nat_cmp, MatchOrdering};
-ghost use Rattle.ice_defs.specs.Fraction.{Fraction, Equals, Below, plus, less, times, negated};
+ghost use Rattle.ice_defs.specs.Fraction.{Fraction, Equals, Below, plus, minus, times, negation};
 ghost use Rattle.ice_defs.specs.Frac.{lowest, add, sub, mul, div, reciprocal};
 ghost use Rattle.ice_frac.specs.Lowest.{IsLowest};
 ghost use Rattle.ice_frac.specs.Order.{order_of};
@@ -101,7 +101,7 @@ impl Frac {
     /// The fraction of the other sign. It never refuses, since the range of numerators is the same
     /// on both sides of 0.
     pub fn negated(&self) -> Frac
-        ensures value { result ≡ negated self.now }
+        ensures value { result ≡ negation self.now }
         ensures lowest { IsLowest result }
     {
         Frac {
@@ -140,7 +140,7 @@ impl Frac {
     /// The difference, exact. Wide exactly where the sum with the negated fraction is.
     pub fn sub(&self, other: &Frac) -> Result<Frac, Wide>
         ensures exact { result_ok result ≡ sub self.now other.now }
-        ensures equal { IfOk result (λ r. Equals r (less self.now other.now)) }
+        ensures equal { IfOk result (λ r. Equals r (minus self.now other.now)) }
         ensures lowest { IfOk result IsLowest }
     {
         self.add(&other.negated())

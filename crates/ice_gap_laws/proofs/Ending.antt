@@ -13,7 +13,7 @@ use Rattle.ice_journal_laws.specs.State.{State, begun}
 use Rattle.ice_journal_laws.specs.Checks.{is_checked, IsChecked}
 use Rattle.ice_journal_laws.specs.Progress.{Progress, nothing, other_kind, passing, failed, out_of_memory, after_head, TakesOn, passes_on, fails_at, list_fails_at, IsAfter}
 use Rattle.ice_gap_laws.specs.declared.answer.GapAnswer.{GapAnswer}
-use Rattle.ice_gap_laws.specs.Gap.{Gap, gap_in, opened, aimed, is_in_group, GapProgress, checking, in_group, at_close, ended, no_gap, is_closed, from_stop, unless_stopped, in_its_group, out_of_order, IsGapAfter, GapLeads, stays, goes}
+use Rattle.ice_gap_laws.specs.Gap.{Gap, gap_in, at_gap_sets, with_target, is_in_group, GapProgress, checking, in_group, at_close, ended, no_gap, is_closed, from_stop, unless_stopped, in_its_group, out_of_order, IsGapAfter, GapLeads, stays, goes}
 use Rattle.ice_gap_laws.specs.Answers.{gap_answer, AnswersGap}
 use Rattle.ice_gap_laws.specs.Laws.{GapEndIsAnswer}
 
@@ -30,7 +30,7 @@ stop_read : (s : State) (o : Option Gap) → IsRead (from_stop s o)
 stop_read s None = tt
 stop_read s (Some gap) = by (int_lt gap.value gap.bound)
   where
-    by : (b : Bool) → IsRead (cond b (in_group gap (opened gap s)) (no_gap s.line))
+    by : (b : Bool) → IsRead (cond b (in_group gap (at_gap_sets gap s)) (no_gap s.line))
     by true = tt
     by false = tt
 
@@ -46,7 +46,7 @@ taken_read s r q (list_fails_at {x = x} e fails) = failed_read s r x _
 group_read : (gap : Gap) (s : State) (r : Record) (q : Progress) → TakesOn s r q → IsRead (in_its_group gap q)
 group_read gap s r q (passes_on {after = after} list none holds is) = by (is_in_group after.place)
   where
-    by : (b : Bool) → IsRead (cond b (in_group gap (aimed gap.bound after)) (at_close gap after.line))
+    by : (b : Bool) → IsRead (cond b (in_group gap (with_target gap.bound after)) (at_close gap after.line))
     by true = tt
     by false = tt
 group_read gap s r q (fails_at list first) = tt

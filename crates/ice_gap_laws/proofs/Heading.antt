@@ -13,13 +13,13 @@ use Rattle.ice_journal_laws.specs.declared.rule.Rule.TheVariants as rule
 use Rattle.ice_journal_laws.specs.Fields.{head_value}
 use Rattle.ice_journal_laws.specs.State.{Place, at_section, at_group, State, begun}
 use Rattle.ice_journal_laws.specs.Checks.{is_checked}
-use Rattle.ice_journal_laws.specs.Next.{next, to_line, go_to, after_section, section_ended}
+use Rattle.ice_journal_laws.specs.Next.{next, to_line, go_to, after_section, past_section}
 use Rattle.ice_journal_laws.specs.Tests.{Fails, place_of, is_valued}
 use Rattle.ice_journal_laws.specs.Progress.{Progress, nothing, other_kind, passing, failed, out_of_memory, after_head, TakesOn, passes_on, fails_at, list_fails_at, IsAfter}
 use Rattle.ice_journal_laws.specs.Showing.{head_of_group}
 use Rattle.ice_journal_laws.proofs.Places.{fails_order}
 use Rattle.ice_journal_laws.proofs.Settling.{head_opens, head_spent}
-use Rattle.ice_gap_laws.specs.Gap.{Gap, awaited, gap_in, opened, GapProgress, checking, in_group, no_gap, is_closed, from_stop, unless_stopped, IsGapAfter}
+use Rattle.ice_gap_laws.specs.Gap.{Gap, next_group, gap_in, at_gap_sets, GapProgress, checking, in_group, no_gap, is_closed, from_stop, unless_stopped, IsGapAfter}
 use Rattle.ice_gap_laws.proofs.Single.{takes_same}
 use Rattle.ice_gap_laws.proofs.Right.{no_list}
 
@@ -35,7 +35,7 @@ closed_at s = failed (record { line = s.line; rule = rule.Closed })
 -- either both may stand there, or neither
 abbrev StandAlike : State → Group → ℤ → ℤ → Type 0
 StandAlike s g value bound =
-    (TakesOn s (head_of_group g value) (passing (opened (gap_of g value bound) s)) × TakesOn s (line.spent value bound) (closed_at s))
+    (TakesOn s (head_of_group g value) (passing (at_gap_sets (gap_of g value bound) s)) × TakesOn s (line.spent value bound) (closed_at s))
     ⊎ (TakesOn s (head_of_group g value) (order_at s) × TakesOn s (line.spent value bound) (order_at s))
 
 head_has : (g : Group) (value : ℤ) → is_valued g ≡ true → head_value g (head_of_group g value) ≡ Some value
@@ -51,7 +51,7 @@ module _ (s : State) (value bound : ℤ) where
   At = record s { place = at_section; kind = regret_kind }
 
   behind_section : (ended : Bool) → may_end s.section ≡ ended
-      → (TakesOn At (line.final value) (passing (opened (gap_of Final value bound) At)) × TakesOn At (line.spent value bound) (closed_at At))
+      → (TakesOn At (line.final value) (passing (at_gap_sets (gap_of Final value bound) At)) × TakesOn At (line.spent value bound) (closed_at At))
       ⊎ (TakesOn At (line.final value) (order_at At) × TakesOn At (line.spent value bound) (order_at At))
   behind_section true e = inl (
     passes_on (λ z f. absurd (none-some z f)) quiet (record { leaf = tt; violation = tt; list = tt; verdict = tt }) is,
@@ -59,10 +59,10 @@ module _ (s : State) (value bound : ℤ) where
   )
     where
       Stands : Bool → Type 0
-      Stands b = IsSome (option_map (to_line (suc s.line)) (cond b (after_section (section_ended At) regret_kind (line.spent value bound)) None))
+      Stands b = IsSome (option_map (to_line (suc s.line)) (cond b (after_section (past_section At) regret_kind (line.spent value bound)) None))
 
-      is : next At (line.final value) ≡ Some (opened (gap_of Final value bound) At)
-      is = ap (λ (b : Bool). option_map (to_line (suc s.line)) (cond b (after_section (section_ended At) regret_kind (line.final value)) None)) e
+      is : next At (line.final value) ≡ Some (at_gap_sets (gap_of Final value bound) At)
+      is = ap (λ (b : Bool). option_map (to_line (suc s.line)) (cond b (after_section (past_section At) regret_kind (line.final value)) None)) e
 
       quiet : (z : Rule) → ¬ Fails z At (line.final value)
       quiet rule.Closed h = false≢true h.0
@@ -70,11 +70,11 @@ module _ (s : State) (value bound : ℤ) where
       quiet rule.Exchange h = false≢true h.1
       quiet other h = h
   behind_section false e = inr (
-    fails_order At (line.final value) refl (ap (λ (b : Bool). option_map (to_line (suc s.line)) (cond b (after_section (section_ended At) regret_kind (line.final value)) None)) e),
-    fails_order At (line.spent value bound) refl (ap (λ (b : Bool). option_map (to_line (suc s.line)) (cond b (after_section (section_ended At) regret_kind (line.spent value bound)) None)) e),
+    fails_order At (line.final value) refl (ap (λ (b : Bool). option_map (to_line (suc s.line)) (cond b (after_section (past_section At) regret_kind (line.final value)) None)) e),
+    fails_order At (line.spent value bound) refl (ap (λ (b : Bool). option_map (to_line (suc s.line)) (cond b (after_section (past_section At) regret_kind (line.spent value bound)) None)) e),
   )
 
-at_place : (s : State) (kind : Kind) (place : Place) (g : Group) (value bound : ℤ) → is_valued g ≡ true → awaited kind place ≡ Some g
+at_place : (s : State) (kind : Kind) (place : Place) (g : Group) (value bound : ℤ) → is_valued g ≡ true → next_group kind place ≡ Some g
     → StandAlike (record s { place = place; kind = kind }) g value bound
 at_place s kind (at_group Assign) g value bound v e = absurd (none-some g e)
 at_place s kind (at_group mine) g value bound v e =
@@ -84,18 +84,18 @@ at_place s regret_kind at_section g value bound v e =
     subst (λ (x : Group). StandAlike (record s { place = at_section; kind = regret_kind }) x value bound) (same_Some Final g e) (behind_section s value bound (may_end s.section) refl)
 at_place s kind other g value bound v e = absurd (none-some g e)
 
-stand_alike : (s : State) (g : Group) (value bound : ℤ) → is_valued g ≡ true → awaited s.kind s.place ≡ Some g → StandAlike s g value bound
+stand_alike : (s : State) (g : Group) (value bound : ℤ) → is_valued g ≡ true → next_group s.kind s.place ≡ Some g → StandAlike s g value bound
 stand_alike s g value bound v e = at_place s s.kind s.place g value bound v e
 
 -- what the head made of the tests, and what the `spent` record makes of them
 abbrev pub AsHead : State → Group → ℤ → ℤ → Progress → Type 0
 AsHead s g value bound after =
-    ((after ≡ passing (opened (gap_of g value bound) s))
+    ((after ≡ passing (at_gap_sets (gap_of g value bound) s))
     × IsGapAfter (checking (passing s)) (line.spent value bound)
-    (cond (int_lt value bound) (in_group (gap_of g value bound) (opened (gap_of g value bound) s)) (no_gap s.line)))
+    (cond (int_lt value bound) (in_group (gap_of g value bound) (at_gap_sets (gap_of g value bound) s)) (no_gap s.line)))
     ⊎ ((after ≡ order_at s) × IsGapAfter (checking (passing s)) (line.spent value bound) (checking (order_at s)))
 
-pub read_as_head : (s : State) (g : Group) (value bound : ℤ) (after : Progress) → is_valued g ≡ true → awaited s.kind s.place ≡ Some g → TakesOn s (head_of_group g value) after
+pub read_as_head : (s : State) (g : Group) (value bound : ℤ) (after : Progress) → is_valued g ≡ true → next_group s.kind s.place ≡ Some g → TakesOn s (head_of_group g value) after
     → AsHead s g value bound after
 read_as_head s g value bound after v e takes = by (stand_alike s g value bound v e)
   where

@@ -33,7 +33,7 @@ use Rattle.ice_journal_laws.proofs.Regretting.{section_told}
 use Rattle.ice_journal_laws.proofs.Regretted.{regret_stands}
 use Rattle.ice_journal_laws.proofs.Sessions as sessions
 use Rattle.ice_journal_laws.proofs.SessionRight.{session_stands}
-use Rattle.ice_gap_laws.specs.Gap.{awaited, before_head}
+use Rattle.ice_gap_laws.specs.Gap.{next_group, before_head}
 use Rattle.ice_gap_laws.specs.Laws.{EndsThere, HasFinal, IsReached, IsReachedAt}
 
 -- a group that leaves out a bidder leaves out one that is there
@@ -62,7 +62,7 @@ final_is_best : (ex : Exchange) (bounds : List Bounds) (p : Proved) → IsBestFo
 final_is_best ex bounds p is = (is.feasible, subst (λ (v : ℤ). IsBestOfAll (trees_of ex) (exact_of ex) (lower_weights bounds) v) (sym is.value) is.best)
 
 -- in a session
-in_session : (rest : List Record) (s : State) (place : Place) (g : Group) → sessions.IsAt rest s place → awaited session_kind place ≡ Some g → IsAwaited g (before_head place s)
+in_session : (rest : List Record) (s : State) (place : Place) (g : Group) → sessions.IsAt rest s place → next_group session_kind place ≡ Some g → IsAwaited g (before_head place s)
 in_session rest s (at_group Final) g (past, opened, tells) e =
     of_group Final g s e (record { exchange = tells.exchange; valued = refl; there = tt; reached = past_reached Final (exchange_at s) s.number s.bounds past s.final.sets opened.earlier tt })
 in_session rest s (at_group Rival) g (past, log, opened, final, tells) e =
@@ -81,7 +81,7 @@ in_session rest s other g at e = absurd (none-some g e)
 
 -- in a regret journal
 in_regret : (rest : List Record) (s : State) (place : Place) (g : Group) → AllByRecursion IsRecord rest → regretting.IsAt rest s place → EndsThere s place
-    → awaited regret_kind place ≡ Some g → IsAwaited g (before_head place s)
+    → next_group regret_kind place ≡ Some g → IsAwaited g (before_head place s)
 in_regret rest s at_section g records taken ended e =
     let tells = section_told section_is_lawful section_records_are log_refutes rest s records taken ended in
     of_group Final g (before_head at_section s) e (record {
@@ -101,7 +101,7 @@ in_regret rest s (at_group other) g records at ended e = absurd at
 in_regret rest s other g records at ended e = absurd (none-some g e)
 
 -- in an assign journal
-in_assign : (rest : List Record) (s : State) (place : Place) (g : Group) → assigning.IsAt rest s place → awaited assign_kind place ≡ Some g → ⊥
+in_assign : (rest : List Record) (s : State) (place : Place) (g : Group) → assigning.IsAt rest s place → next_group assign_kind place ≡ Some g → ⊥
 in_assign rest s (at_group other) g at e = at
 in_assign rest s other g at e = none-some g e
 
@@ -114,7 +114,7 @@ unchecked_prices version_1 e = false≢true e
 unchecked_prices version_2 e = false≢true e
 
 module _ (journal : List Record) (s : State) (g : Group) (records : AllByRecursion IsRecord journal) (l : Leads nothing journal (passing s)) (ended : EndsThere s s.place) where
-  of_kind : (h : Headed journal s) (kind : Kind) → h.kind ≡ kind → awaited kind s.place ≡ Some g → IsAwaited g (before_head s.place s)
+  of_kind : (h : Headed journal s) (kind : Kind) → h.kind ≡ kind → next_group kind s.place ≡ Some g → IsAwaited g (before_head s.place s)
   of_kind h assign_kind k e =
       let there = standing_journal journal s (h.same_kind ∙ k) l in
       absurd (in_assign there.rest s s.place g there.standing.place e)
@@ -127,5 +127,5 @@ module _ (journal : List Record) (s : State) (g : Group) (records : AllByRecursi
   of_kind h exchange_kind k e = absurd (unchecked_exchange h.version (subst (λ (x : Kind). is_checked h.version x ≡ true) k h.checked))
   of_kind h prices_kind k e = absurd (unchecked_prices h.version (subst (λ (x : Kind). is_checked h.version x ≡ true) k h.checked))
 
-  pub is_awaited : awaited s.kind s.place ≡ Some g → IsAwaited g (before_head s.place s)
-  is_awaited e = let h = headed journal s l in of_kind h h.kind refl (subst (λ (x : Kind). awaited x s.place ≡ Some g) h.same_kind e)
+  pub is_awaited : next_group s.kind s.place ≡ Some g → IsAwaited g (before_head s.place s)
+  is_awaited e = let h = headed journal s l in of_kind h h.kind refl (subst (λ (x : Kind). next_group x s.place ≡ Some g) h.same_kind e)

@@ -20,7 +20,7 @@ use Rattle.ice_defs.specs.Group.{start_of}
 use Rattle.ice_defs.specs.Exchange.{Bidder}
 use Rattle.ice_journal.specs.Records.{Record, Version, version_1, version_2, EndWord, assign_end, exchange_end, prices_end, regret_end, closed_end, open_end, spent_end, limit_end}
 use Rattle.ice_journal.specs.Records as line
-use Rattle.ice_journal.specs.Plain.{all_zero, changed}
+use Rattle.ice_journal.specs.Plain.{all_zero, after_changes}
 use Rattle.ice_journal.specs.Ranges.{IsRecord}
 use Rattle.ice_refute.specs.Code.{CountsGoods}
 use Rattle.ice_refute.specs.Passing.{PassesAt}
@@ -32,7 +32,7 @@ use Rattle.ice_journal_laws.specs.declared.rule.Rule.{Rule}
 use Rattle.ice_journal_laws.specs.declared.rule.Rule.TheVariants as rule
 use Rattle.ice_journal_laws.specs.Fields.{is_end, row_in, counted_step, unchanged_step, step_in, multipliers_after}
 use Rattle.ice_journal_laws.specs.State.{Stated, Place, at_section, at_group, at_threshold, at_sets, at_log, at_accuracy_rows, at_balance_rows, done, State, exchange_at, trees_at, exact_at, goods_at, weights_at}
-use Rattle.ice_journal_laws.specs.Next.{next, next_at, may_have_row, go_to, to_line, bidder_count, with_set, after_sets, after_log, after_step, after_section, section_ended}
+use Rattle.ice_journal_laws.specs.Next.{next, next_at, may_have_row, go_to, to_line, bidder_count, with_set, after_sets, after_log, after_step, after_section, past_section}
 use Rattle.ice_journal_laws.specs.Tests.{Fails, Complete, is_valued, Taken, IsClosing, HasSign, IsFixed, IsAlive, IsStop, ended_list, Holds}
 use Rattle.ice_journal_laws.specs.Progress.{Progress, nothing, other_kind, passing, failed, out_of_memory, after_head, TakesOn, passes_on, fails_at, list_fails_at, IsAfter, Leads}
 use Rattle.ice_journal_laws.specs.Progress as progress
@@ -44,7 +44,7 @@ use Rattle.ice_journal_laws.proofs.Plaining.{length_after, changed_length}
 use Rattle.ice_journal_laws.proofs.Heads.{all_left}
 use Rattle.ice_gap_laws.specs.declared.answer.GapAnswer.{GapAnswer}
 use Rattle.ice_gap_laws.specs.declared.answer.GapAnswer.TheVariants as answer
-use Rattle.ice_gap_laws.specs.Gap.{Gap, awaited, gap_in, before_head, opened, is_in_group, aimed, GapProgress, checking, in_group, at_close, ended, no_gap, from_stop, unless_stopped, in_its_group, out_of_order, IsGapAfter, GapLeads, stays, goes}
+use Rattle.ice_gap_laws.specs.Gap.{Gap, next_group, gap_in, before_head, at_gap_sets, is_in_group, with_target, GapProgress, checking, in_group, at_close, ended, no_gap, from_stop, unless_stopped, in_its_group, out_of_order, IsGapAfter, GapLeads, stays, goes}
 use Rattle.ice_gap_laws.specs.Answers.{ended_at, gap_answer}
 use Rattle.ice_gap_laws.specs.Laws.{EndsThere, IsGap, StatesGap, GapIsRight}
 use Rattle.ice_gap_laws.proofs.Ready.{IsThere, IsAwaited, is_awaited}
@@ -92,7 +92,7 @@ module _ (gap : Gap) (now : State) where
 -- the records before the stop pass, and the head of its group is awaited
 record Stopped (front : List Record) (gap : Gap) (s : State) : Type 0 where
   pub leads : Leads nothing front (passing s)
-  pub awaits : awaited s.kind s.place ≡ Some gap.group
+  pub awaits : next_group s.kind s.place ≡ Some gap.group
   pub is : IsAwaited gap.group (before_head s.place s)
   pub below : gap.value <ℤ gap.bound
 
@@ -134,7 +134,7 @@ step_counts : (v : Version) (goods : ℕ) (m : Multipliers) (r : Record) (x : St
 step_counts version_1 goods m (line.step s) x count e = counts_1 goods s x e
 step_counts version_2 goods m (line.step s) x count e = counts_2 goods s x e
 step_counts version_2 goods m (line.near changes) x count e =
-    subst (CountsGoods goods) (same_Some (leaf (changed m changes)) x e) (changed_length m changes ∙ count)
+    subst (CountsGoods goods) (same_Some (leaf (after_changes m changes)) x e) (changed_length m changes ∙ count)
 step_counts version_1 goods m other x count e = absurd (none-some x e)
 step_counts version_2 goods m other x count e = absurd (none-some x e)
 
@@ -291,7 +291,7 @@ module _ (front : List Record) (gap : Gap) (t : State) (from : Stopped front gap
           of_same (to_line (suc n) (after_log (AtLog n sets (side ∷ sides) m) gap.group (stated gap.bound sets))) after h (Then ((front ++ spent_record gap ∷ map line.set sets ++ steps) ++ r ∷ []))
           (subst
           (λ (b : Bool). Known ((front ++ spent_record gap ∷ map line.set sets ++ steps) ++ r ∷ [])
-          (cond b (in_group gap (aimed gap.bound (to_line (suc n) (after_log (AtLog n sets (side ∷ sides) m) gap.group (stated gap.bound sets))))) (at_close gap (suc n))))
+          (cond b (in_group gap (with_target gap.bound (to_line (suc n) (after_log (AtLog n sets (side ∷ sides) m) gap.group (stated gap.bound sets))))) (at_close gap (suc n))))
           (sym (log_leaves (AtLog n sets (side ∷ sides) m) gap.group (stated gap.bound sets) from.is.valued))
           (front, t, sets, steps ++ r ∷ [], from, text, log_closed sets (multipliers_after m x) said))
       on x (first ∷ others) said h =
@@ -379,7 +379,7 @@ below_is a b e = omega (arith, ints)
 ends_there : (s : State) (n : ℕ) (place : Place) (value bound : ℤ) → IsSome (option_map (to_line n) (next_at s place (line.spent value bound))) → EndsThere s place
 ends_there s n at_section value bound h = by (may_end s.section) refl h
   where
-    by : (b : Bool) → may_end s.section ≡ b → IsSome (option_map (to_line n) (cond b (after_section (section_ended s) s.kind (line.spent value bound)) None)) → may_end s.section ≡ true
+    by : (b : Bool) → may_end s.section ≡ b → IsSome (option_map (to_line n) (cond b (after_section (past_section s) s.kind (line.spent value bound)) None)) → may_end s.section ≡ true
     by true e h = e
     by false e h = absurd (false≢true h)
 ends_there s n other value bound h = tt
@@ -399,8 +399,8 @@ no_list (at_balance_rows den rows) r e = by (is_none (row_in r) && may_have_row 
 no_list other r e = none-some rule.Closed e
 
 module _ (before : List Record) (s : State) (records : AllByRecursion IsRecord before) (l : Leads nothing before (passing s)) where
-  stop_states : (value bound : ℤ) (g : Group) (b : Bool) → IsStop s (line.spent value bound) → awaited s.kind s.place ≡ Some g → int_lt value bound ≡ b
-      → Known (before ++ line.spent value bound ∷ []) (cond b (in_group (record { group = g; value = value; bound = bound }) (opened (record { group = g; value = value; bound = bound }) s)) (no_gap s.line))
+  stop_states : (value bound : ℤ) (g : Group) (b : Bool) → IsStop s (line.spent value bound) → next_group s.kind s.place ≡ Some g → int_lt value bound ≡ b
+      → Known (before ++ line.spent value bound ∷ []) (cond b (in_group (record { group = g; value = value; bound = bound }) (at_gap_sets (record { group = g; value = value; bound = bound }) s)) (no_gap s.line))
   stop_states value bound g true stop e below =
       let is = is_awaited before s g records l (ends_there s (suc s.line) s.place value bound stop.1) e in (
         before,
@@ -422,9 +422,9 @@ module _ (before : List Record) (s : State) (records : AllByRecursion IsRecord b
   stop_states value bound g false stop e below = tt
 
   stop_on : (r : Record) → IsStop s r → Known (before ++ r ∷ []) (from_stop s (gap_in s r))
-  stop_on (line.spent value bound) stop = by (awaited s.kind s.place) refl
+  stop_on (line.spent value bound) stop = by (next_group s.kind s.place) refl
     where
-      by : (o : Option Group) → awaited s.kind s.place ≡ o → Known (before ++ line.spent value bound ∷ []) (from_stop s (option_map (λ g. record { group = g; value = value; bound = bound }) o))
+      by : (o : Option Group) → next_group s.kind s.place ≡ o → Known (before ++ line.spent value bound ∷ []) (from_stop s (option_map (λ g. record { group = g; value = value; bound = bound }) o))
       by (Some g) e = stop_states value bound g (int_lt value bound) stop e refl
       by None e = tt
   stop_on other stop = tt

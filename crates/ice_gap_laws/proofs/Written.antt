@@ -25,7 +25,7 @@ use Rattle.ice_journal.specs.Plain.{all_zero}
 use Rattle.ice_journal_laws.specs.declared.rule.Rule.TheVariants as rule
 use Rattle.ice_journal_laws.specs.Fields.{multipliers_after}
 use Rattle.ice_journal_laws.specs.State.{Stated, Place, at_section, at_group, at_sets, at_log, State, begun, exchange_at, trees_at, exact_at, goods_at, weights_at}
-use Rattle.ice_journal_laws.specs.Next.{to_line, go_to, after_section, section_ended, after_sets, after_log, after_step}
+use Rattle.ice_journal_laws.specs.Next.{to_line, go_to, after_section, past_section, after_sets, after_log, after_step}
 use Rattle.ice_journal_laws.specs.Tests.{is_valued}
 use Rattle.ice_journal_laws.specs.Assigning.{IsBalanced}
 use Rattle.ice_journal_laws.specs.Checks.{is_checked}
@@ -38,7 +38,7 @@ use Rattle.ice_journal_laws.proofs.Sets.{set_on, sets_complete}
 use Rattle.ice_journal_laws.proofs.CarriedSets.{count_there, fit}
 use Rattle.ice_journal_laws.proofs.CarriedLog.{step_takes}
 use Rattle.ice_gap_laws.specs.declared.answer.GapAnswer.TheVariants as answer
-use Rattle.ice_gap_laws.specs.Gap.{Gap, awaited, gap_in, before_head, opened, is_in_group, aimed, GapProgress, checking, in_group, at_close, ended, no_gap, from_stop, in_its_group, IsGapAfter, GapLeads, stays, goes}
+use Rattle.ice_gap_laws.specs.Gap.{Gap, next_group, gap_in, before_head, at_gap_sets, is_in_group, with_target, GapProgress, checking, in_group, at_close, ended, no_gap, from_stop, in_its_group, IsGapAfter, GapLeads, stays, goes}
 use Rattle.ice_gap_laws.specs.Laws.{EndsThere, IsShownGap, gap_records, GapIsWritten}
 use Rattle.ice_gap_laws.proofs.Right.{log_follows, log_leaves}
 use Rattle.ice_gap_laws.proofs.Heading.{gap_of, closed_at}
@@ -66,23 +66,23 @@ is_below a b below = by (int_lt a b) refl
 
 -- ---- the stop's record
 
-spent_stops : (s : State) (kind : Kind) (place : Place) (g : Group) (value bound : ℤ) → awaited kind place ≡ Some g → EndsThere s place
+spent_stops : (s : State) (kind : Kind) (place : Place) (g : Group) (value bound : ℤ) → next_group kind place ≡ Some g → EndsThere s place
     → TakesOn (record s { place = place; kind = kind }) (line.spent value bound) (closed_at (record s { place = place; kind = kind }))
 spent_stops s kind (at_group Assign) g value bound e there = absurd (none-some g e)
 spent_stops s kind (at_group mine) g value bound e there = head_spent (record s { kind = kind }) mine (line.spent value bound) refl
 spent_stops s regret_kind at_section g value bound e there = fails_at (λ z f. absurd (none-some z f)) ((refl, subst Stands (sym there) refl), λ z l f. absurd (omega (arith, l)))
   where
     Stands : Bool → Type 0
-    Stands b = IsSome (option_map (to_line (suc s.line)) (cond b (after_section (section_ended (record s { place = at_section; kind = regret_kind })) regret_kind (line.spent value bound)) None))
+    Stands b = IsSome (option_map (to_line (suc s.line)) (cond b (after_section (past_section (record s { place = at_section; kind = regret_kind })) regret_kind (line.spent value bound)) None))
 spent_stops s kind other g value bound e there = absurd (none-some g e)
 
-opens_gap : (s : State) (g : Group) (value bound : ℤ) → awaited s.kind s.place ≡ Some g → EndsThere s s.place → value <ℤ bound
-    → IsGapAfter (checking (passing s)) (line.spent value bound) (in_group (gap_of g value bound) (opened (gap_of g value bound) s))
+opens_gap : (s : State) (g : Group) (value bound : ℤ) → next_group s.kind s.place ≡ Some g → EndsThere s s.place → value <ℤ bound
+    → IsGapAfter (checking (passing s)) (line.spent value bound) (in_group (gap_of g value bound) (at_gap_sets (gap_of g value bound) s))
 opens_gap s g value bound e there below = (
   closed_at s,
   spent_stops s s.kind s.place g value bound e there,
   sym (ap (λ (o : Option Group). from_stop s (option_map (λ x. record { group = x; value = value; bound = bound }) o)) e
-      ∙ ap (λ (b : Bool). cond b (in_group (gap_of g value bound) (opened (gap_of g value bound) s)) (no_gap s.line)) (is_below value bound below)),
+      ∙ ap (λ (b : Bool). cond b (in_group (gap_of g value bound) (at_gap_sets (gap_of g value bound) s)) (no_gap s.line)) (is_below value bound below)),
 )
 
 -- ---- the sets and the log
@@ -145,7 +145,7 @@ module _ (now : State) (g : Group) (p : Proved) (bound : ℤ) (valued : is_value
   )
     where
       by : (sides : List Side) → InLog (suc n) sides (multipliers_after m x) ≡ in_its_group Mine (passing (to_line (suc n) (after_step now g Target sides (multipliers_after m x))))
-      by [] = sym (ap (λ (b : Bool). cond b (in_group Mine (aimed bound (to_line (suc n) (after_log now g Target)))) (at_close Mine (suc n))) (log_leaves now g Target valued))
+      by [] = sym (ap (λ (b : Bool). cond b (in_group Mine (with_target bound (to_line (suc n) (after_log now g Target)))) (at_close Mine (suc n))) (log_leaves now g Target valued))
       by (first ∷ more) = refl
 
   -- what goes on behind these steps, whatever the last multipliers were
@@ -206,7 +206,7 @@ module _ (now : State) (g : Group) (p : Proved) (bound : ℤ) (valued : is_value
 
 -- ---- the whole journal
 
-awaited_valued : (kind : Kind) (place : Place) (g : Group) → awaited kind place ≡ Some g → is_valued g ≡ true
+awaited_valued : (kind : Kind) (place : Place) (g : Group) → next_group kind place ≡ Some g → is_valued g ≡ true
 awaited_valued kind (at_group Assign) g e = absurd (none-some g e)
 awaited_valued kind (at_group Final) g e = ap is_valued (sym (same_Some Final g e))
 awaited_valued kind (at_group Rival) g e = ap is_valued (sym (same_Some Rival g e))

@@ -10,7 +10,7 @@ use Rattle.ice_journal_laws.specs.declared.rule.Rule.{Rule}
 use Rattle.ice_journal_laws.specs.declared.rule.Rule.TheVariants as rule
 use Rattle.ice_journal_laws.specs.Fields.{is_end}
 use Rattle.ice_journal_laws.specs.State.{Place, at_section, at_group, at_sets, at_log, State}
-use Rattle.ice_journal_laws.specs.Next.{go_to, to_line, section_ended}
+use Rattle.ice_journal_laws.specs.Next.{go_to, to_line, past_section}
 use Rattle.ice_journal_laws.specs.Progress.{Progress, passing, failed, TakesOn, IsAfter}
 
 -- what a `spent` record says, and the group in whose place it stands
@@ -21,32 +21,32 @@ pub record Gap : Type 0 where
 
 -- the group whose head may stand here; the first one of a regret journal comes behind its exchange,
 -- and the sets of an assignment have no head
-abbrev pub awaited : Kind → Place → Option Group
-awaited kind (at_group Assign) = None
-awaited kind (at_group g) = Some g
-awaited regret_kind at_section = Some Final
-awaited kind place = None
+abbrev pub next_group : Kind → Place → Option Group
+next_group kind (at_group Assign) = None
+next_group kind (at_group g) = Some g
+next_group regret_kind at_section = Some Final
+next_group kind place = None
 
 abbrev pub gap_in : State → Record → Option Gap
-gap_in s (line.spent value bound) = option_map (λ g. record { group = g; value = value; bound = bound }) (awaited s.kind s.place)
+gap_in s (line.spent value bound) = option_map (λ g. record { group = g; value = value; bound = bound }) (next_group s.kind s.place)
 gap_in s other = None
 
 -- the state in which that head is awaited
 abbrev pub before_head : Place → State → State
-before_head at_section s = section_ended s
+before_head at_section s = past_section s
 before_head place s = s
 
 -- the sets of the group come next, as behind its head with this value
-abbrev pub opened : Gap → State → State
-opened gap s = to_line (suc s.line) (go_to (at_sets gap.group (record { value = gap.value; sets = [] })) (before_head s.place s))
+abbrev pub at_gap_sets : Gap → State → State
+at_gap_sets gap s = to_line (suc s.line) (go_to (at_sets gap.group (record { value = gap.value; sets = [] })) (before_head s.place s))
 
 -- the target of a log is this
 abbrev pub aimed_place : ℤ → Place → Place
 aimed_place target (at_log g found sides m) = at_log g (record found { value = target }) sides m
 aimed_place target place = place
 
-abbrev pub aimed : ℤ → State → State
-aimed target s = go_to (aimed_place target s.place) s
+abbrev pub with_target : ℤ → State → State
+with_target target s = go_to (aimed_place target s.place) s
 
 -- in the sets or in the log of a group
 abbrev pub is_in_group : Place → Bool
@@ -71,7 +71,7 @@ is_closed other = false
 -- a stop: it states a gap or none
 abbrev pub from_stop : State → Option Gap → GapProgress
 from_stop s None = no_gap s.line
-from_stop s (Some gap) = if int_lt gap.value gap.bound then in_group gap (opened gap s) else no_gap s.line
+from_stop s (Some gap) = if int_lt gap.value gap.bound then in_group gap (at_gap_sets gap s) else no_gap s.line
 
 -- what `check` makes of a record, but at a stop
 abbrev pub unless_stopped : Progress → Record → Progress → GapProgress
@@ -80,7 +80,7 @@ unless_stopped p r q = checking q
 
 -- what the tests of the group make of a record; behind its last step the gap is to end
 abbrev pub in_its_group : Gap → Progress → GapProgress
-in_its_group gap (passing s) = if is_in_group s.place then in_group gap (aimed gap.bound s) else at_close gap s.line
+in_its_group gap (passing s) = if is_in_group s.place then in_group gap (with_target gap.bound s) else at_close gap s.line
 in_its_group gap q = checking q
 
 abbrev pub out_of_order : ℕ → GapProgress

@@ -30,7 +30,7 @@ use Rattle.ice_journal_laws.specs.Progress.{nothing, passing, Leads}
 use Rattle.ice_journal_laws.specs.Answers.{OfJournal}
 use Rattle.ice_gap_laws.specs.declared.answer.GapAnswer.{GapAnswer}
 use Rattle.ice_gap_laws.specs.declared.answer.GapAnswer.TheVariants as answer
-use Rattle.ice_gap_laws.specs.Gap.{Gap, awaited, before_head, GapProgress, checking, GapLeads}
+use Rattle.ice_gap_laws.specs.Gap.{Gap, next_group, before_head, GapProgress, checking, GapLeads}
 use Rattle.ice_gap_laws.specs.Answers.{gap_answer, GivesGap, AnswersGap}
 
 -- ---- in words of the market
@@ -83,7 +83,7 @@ pub record StatesGap (journal : List Record) (gap : Gap) : Type 0 where
   pub says : journal ≡ before ++ line.spent gap.value gap.bound ∷ map line.set sets ++ steps ++ line.end spent_end ∷ []
   pub state : State
   pub leads : Leads nothing before (passing state)
-  pub awaits : awaited state.kind state.place ≡ Some gap.group
+  pub awaits : next_group state.kind state.place ≡ Some gap.group
   pub reached : IsReachedAt (before_head state.place state) gap.group
   pub is : IsGapAt (before_head state.place state) gap sets
 
@@ -125,6 +125,6 @@ gap_records s p bound = line.spent p.value bound ∷ (map line.set p.sets ++ (st
 -- where records lead to the head of a group, and a gap stands in its place, the gap is answered
 abbrev pub GapIsWritten : Type 0
 GapIsWritten = (kind : Kind) (v : Version) (before : List Record) (s : State) (g : Group) (p : Proved) (bound : ℤ)
-    → is_checked v kind ≡ true → Carries (begun v kind) before s → awaited s.kind s.place ≡ Some g → EndsThere s s.place
+    → is_checked v kind ≡ true → Carries (begun v kind) before s → next_group s.kind s.place ≡ Some g → EndsThere s s.place
     → 0 < length (trees_at (before_head s.place s)) → IsShownGap (before_head s.place s) g p bound
     → GivesGap (line.head v kind ∷ (before ++ gap_records (before_head s.place s) p bound)) (answer.Gap g p.value bound)

@@ -24,7 +24,7 @@ use Rattle.ice_best.proofs.Sales.{greatest_sale-greatest}
 use Rattle.ice_trade.specs.declared.faults.MakeFault.{MakeFault}
 use Rattle.ice_trade.specs.Fault.{RefusedBy}
 use Rattle.ice_trade.specs.Parts.{with_bidder, with_good}
-use Rattle.ice_gen.specs.Generated.{Made, bounds_of_values, truth_of_values, draws, seller, buyer, seller_draws, buyer_draws, owned_one, made, generated, truths}
+use Rattle.ice_gen.specs.Generated.{Made, bounds_of_values, truth_of_values, draws, seller, buyer, seller_draws, buyer_draws, owned_one, made, generated_exchange, truths}
 use Rattle.ice_gen.specs.Drawing.{state_after}
 use Rattle.ice_gen.specs.Parts.{bidder_of, truth_of, exchange_with, goods_below, the_settings}
 use Rattle.ice_gen.proofs.Drawing.{state_after-add}
@@ -265,7 +265,7 @@ buyer-state n i s t at step =
     let more : 36 + 18 * i + 18 ≡ 36 + 18 * (i + 1) = omega arith in
     step ∙ ap (state_after 18) at ∙ sym (state_after-add (36 + 18 * i) 18 n) ∙ ap (λ x. state_after x n) more
 
-pub generated-all : (n : ℕ) → exchange_with (traders n 4) ≡ generated n
+pub generated-all : (n : ℕ) → exchange_with (traders n 4) ≡ generated_exchange n
 generated-all n = ap exchange_with (sym (made-all n))
 
 pub truths-all : (n : ℕ) → map truth_of (traders n 4) ≡ truths n

@@ -117,8 +117,8 @@ made_of ds =
 abbrev pub made : ℕ → List Made
 made number = made_of (draws all_draws number)
 
-abbrev pub generated : ℕ → Exchange
-generated number = record {
+abbrev pub generated_exchange : ℕ → Exchange
+generated_exchange number = record {
   settings = record {
     weight = 50;
     close_regret = pos 0;

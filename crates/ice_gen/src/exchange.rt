@@ -3,7 +3,7 @@ ghost use Rattle.std.specs.Prelude.{◌≡◌, ◌<◌, ◌++◌, [], ◌∷◌,
 ghost use Rattle.ice_defs.specs.Lawful.{IsBidder};
 ghost use Rattle.ice_defs.specs.Making.{bidder_refusal};
 ghost use Rattle.ice_trade.specs.Parts.{with_bidder};
-ghost use Rattle.ice_gen.specs.Generated.{generated, truths};
+ghost use Rattle.ice_gen.specs.Generated.{generated_exchange, truths};
 ghost use Rattle.ice_gen.specs.Parts.{exchange_with, bidder_from};
 
 use crate::buyer::buyer;
@@ -96,7 +96,7 @@ impl Draft {
 ///
 /// Want of memory is the one error.
 pub fn generate(alloc: Global, number: u32) -> Result<Generated, AllocError>
-    ensures exchange { IfOk result (λ made. made.exchange ≡ generated number) }
+    ensures exchange { IfOk result (λ made. made.exchange ≡ generated_exchange number) }
     ensures truth { IfOk result (λ made. made.truth.items ≡ truths number) }
 {
     let mut generator = Generator::new(number);

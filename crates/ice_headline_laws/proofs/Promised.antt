@@ -7,7 +7,7 @@ use Rattle.ice_defs.specs.Set.{value}
 use Rattle.ice_defs.specs.Trade.{set_of, weights_of}
 use Rattle.ice_defs.specs.Bounds.{Bounds}
 use Rattle.ice_defs.specs.Weighing.{lower_weights}
-use Rattle.ice_defs.specs.Fraction.{whole, IsFraction, Equals, AtMost, sum_of, fraction_at}
+use Rattle.ice_defs.specs.Fraction.{whole_number, IsFraction, Equals, AtMost, sum_of, fraction_at}
 use Rattle.ice_defs.specs.Exchange.{Exchange, trees_of, market_of, opening_bounds}
 use Rattle.ice_defs.specs.Session.{Closed}
 use Rattle.ice_defs.specs.Right.{IsClosed, own_values, vickreys_of, discounts_of, payments_of, final_bounds}
@@ -55,15 +55,15 @@ module _ (ex : Exchange) (bounds : List Bounds) (c : Closed) (is : IsClosed ex b
   payments_are_surplus =
       sum_is_surplus (own_values bounds c.settlement.final.sets) c.settlement.final.value (discounts_of c) (payments_of c) c.surplus discounts_count proper_discount is.payments is.surplus values_sum
 
-  pub no_surplus : c.settlement.final.value ≤ℤ sum_over (λ v. v) (vickreys_of c) → Equals c.surplus (whole (pos 0))
+  pub no_surplus : c.settlement.final.value ≤ℤ sum_over (λ v. v) (vickreys_of c) → Equals c.surplus (whole_number (pos 0))
   no_surplus enough = nothing_left c.settlement.final.value (discounts_of c) c.surplus proper_discounts is.surplus (is.discounts.spent enough)
 
   -- ---- nobody pays too much
 
-  payment-high : (b : ℕ) → b < length bounds → AtMost (fraction_at (payments_of c) b) (whole (value (set_of c.settlement.final.sets b) (weights_of (lower_weights bounds) b)))
+  payment-high : (b : ℕ) → b < length bounds → AtMost (fraction_at (payments_of c) b) (whole_number (value (set_of c.settlement.final.sets b) (weights_of (lower_weights bounds) b)))
   payment-high b h =
       let there : b < length (own_values bounds c.settlement.final.sets) = omega (arith, h, own_count bounds c.settlement.final.sets) in
-      subst (λ (z : ℤ). AtMost (fraction_at (payments_of c) b) (whole z)) (own_at bounds c.settlement.final.sets b h)
+      subst (λ (z : ℤ). AtMost (fraction_at (payments_of c) b) (whole_number z)) (own_at bounds c.settlement.final.sets b h)
       (payment_high (slice_index_or (own_values bounds c.settlement.final.sets) b (pos 0)) (fraction_at (discounts_of c) b) (fraction_at (payments_of c) b) (proper_discount b there)
       (is.discounts.within.low b (omega (arith, there, vickreys_count))) (is.payments.each b there))
 

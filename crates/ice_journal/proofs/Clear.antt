@@ -20,7 +20,7 @@ use Rattle.ice_journal.specs.Records as line
 use Rattle.ice_journal.specs.Records.{Record, Change}
 use Rattle.ice_journal.specs.Ranges.{IsRecord, IsName, IsValue, IsTotal, IsMultiplier, IsDen, IsViolationField, IsFractionField, IsChange}
 use Rattle.ice_journal.proofs.RecordParts.{some_field}
-use Rattle.ice_journal.specs.Spelling.{version_word, kind_word, end_word, stage_word, limit_word, bit_byte, fraction_text, counted, change_fields, fields_of, text_of}
+use Rattle.ice_journal.specs.Spelling.{version_word, kind_word, end_word, stage_word, limit_word, bit_byte, fraction_text, counted_list, change_fields, fields_of, text_of}
 
 -- bytes above the space
 abbrev pub is_clear : List ℕ → Bool
@@ -131,7 +131,7 @@ are_clear-append : (a b : List (List ℕ)) → AreClear a → AreClear b → Are
 are_clear-append [] b p q = q
 are_clear-append (x ∷ xs) b p q = (p.0, are_clear-append xs b p.1 q)
 
-clear_counted : (values : List ℤ) → length values ≤ 200 → AllByRecursion IsValue values → AreClear (counted values)
+clear_counted : (values : List ℤ) → length values ≤ 200 → AllByRecursion IsValue values → AreClear (counted_list values)
 clear_counted values le h = (clear_decimal (length values) (omega arith), clear_map IsValue signed_decimal clear_value values h)
 
 clear_changes : (cs : List Change) → AllByRecursion IsChange cs → AreClear (flat_map change_fields cs)
@@ -220,7 +220,7 @@ clear_record (line.accuracy x d) h = (refl, (clear_violation x h.0, (clear_den d
 clear_record (line.balance d) h = (refl, (clear_den d h, tt))
 clear_record (line.row b w s) h = (refl, (clear_decimal b (omega (arith, h.0)), (clear_den w h.1, (clear_bits s, tt))))
 clear_record (line.submit s) h =
-    (refl, (clear_name s.name h.name, are_clear-append (counted s.lo) (counted s.hi) (clear_counted s.lo h.lo_count h.lo) (clear_counted s.hi h.hi_count h.hi)))
+    (refl, (clear_name s.name h.name, are_clear-append (counted_list s.lo) (counted_list s.hi) (clear_counted s.lo h.lo_count h.lo) (clear_counted s.hi h.hi_count h.hi)))
 clear_record (line.verdict verdict.Accepted) h = (refl, (refl, tt))
 clear_record (line.verdict (verdict.Loosened n)) h = (refl, (refl, (clear_decimal n (omega (arith, h)), tt)))
 clear_record (line.verdict (verdict.Crossed n)) h = (refl, (refl, (clear_decimal n (omega (arith, h)), tt)))

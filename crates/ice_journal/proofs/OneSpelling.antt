@@ -20,7 +20,7 @@ use Rattle.ice_line.proofs.Digits.{decimal_same, decimal_digits}
 use Rattle.ice_journal.specs.Records as line
 use Rattle.ice_journal.specs.Records.{Record, Change}
 use Rattle.ice_journal.specs.Ranges.{IsRecord, IsValue, IsMultiplier, IsChange, IsFractionField, IsTotal, IsVerdictRecord}
-use Rattle.ice_journal.specs.Spelling.{version_word, kind_word, end_word, stage_word, limit_word, bit_byte, fraction_text, counted, change_fields, fields_of, text_of, verdict_fields}
+use Rattle.ice_journal.specs.Spelling.{version_word, kind_word, end_word, stage_word, limit_word, bit_byte, fraction_text, counted_list, change_fields, fields_of, text_of, verdict_fields}
 use Rattle.ice_journal.specs.Reading.{Finds}
 use Rattle.ice_journal.proofs.Clear.{abs_between, abs_from, fields_of_text}
 use Rattle.ice_journal.proofs.Listed.{IsOneToOne, front}
@@ -267,7 +267,7 @@ verdict_same verdict.UnknownBidder verdict.UnknownBidder p q e = refl
 verdict_same verdict.WrongCount verdict.WrongCount p q e = refl
 verdict_same v w p q e = absurd (omega (arith, code_same v w e))
 
-counted_same : (xs ys : List ℤ) (a b : List (List ℕ)) → length xs ≤ 200 → length ys ≤ 200 → AllByRecursion IsValue xs → AllByRecursion IsValue ys → counted xs ++ a ≡ counted ys ++ b → (xs ≡ ys) × (a ≡ b)
+counted_same : (xs ys : List ℤ) (a b : List (List ℕ)) → length xs ≤ 200 → length ys ≤ 200 → AllByRecursion IsValue xs → AllByRecursion IsValue ys → counted_list xs ++ a ≡ counted_list ys ++ b → (xs ≡ ys) × (a ≡ b)
 counted_same xs ys a b hx hy px py e =
     let counts : decimal (length xs) ≡ decimal (length ys) = cc in
     let more : map signed_decimal xs ++ a ≡ map signed_decimal ys ++ b = cc in
@@ -279,9 +279,9 @@ counted_same xs ys a b hx hy px py e =
 submission_same : (s t : Submission) → IsRecord (line.submit s) → IsRecord (line.submit t) → part_fields row.submit_row s ≡ part_fields row.submit_row t → s ≡ t
 submission_same s t p q e =
     let names : s.name ≡ t.name = cc in
-    let more : counted s.lo ++ counted s.hi ≡ counted t.lo ++ counted t.hi = cc in
-    let los = counted_same s.lo t.lo (counted s.hi) (counted t.hi) p.lo_count q.lo_count p.lo q.lo more in
-    let rest : counted s.hi ++ [] ≡ counted t.hi ++ [] = ap (λ (fs : List (List ℕ)). fs ++ []) los.1 in
+    let more : counted_list s.lo ++ counted_list s.hi ≡ counted_list t.lo ++ counted_list t.hi = cc in
+    let los = counted_same s.lo t.lo (counted_list s.hi) (counted_list t.hi) p.lo_count q.lo_count p.lo q.lo more in
+    let rest : counted_list s.hi ++ [] ≡ counted_list t.hi ++ [] = ap (λ (fs : List (List ℕ)). fs ++ []) los.1 in
     let his = counted_same s.hi t.hi [] [] p.hi_count q.hi_count p.hi q.hi rest in
     λ i. record { name = names i; lo = los.0 i; hi = his.0 i }
 

@@ -6,7 +6,7 @@ use Rattle.ice_defs.specs.Bound.{Multipliers}
 use Rattle.ice_defs.specs.Steps.{branch, leaf, dead}
 use Rattle.ice_journal.specs.Records.{Kind, version_1, Record}
 use Rattle.ice_journal.specs.Records as line
-use Rattle.ice_journal.specs.Plain.{changed, goods_in, all_zero, plain_records, plain, changes_from, packed_records, packed, AreOfVersion1}
+use Rattle.ice_journal.specs.Plain.{after_changes, goods_in, all_zero, plain_records, plain, changes_from, packed_records, in_version_2, AreOfVersion1}
 
 set_at : (front : List ℤ) (a b : ℤ) (old : List ℤ) → set (front ++ a ∷ old) (length front) b ≡ front ++ b ∷ old
 set_at [] a b old = refl
@@ -22,21 +22,21 @@ next_length : (front : List ℤ) (b : ℤ) → length (front ++ b ∷ []) ≡ su
 next_length front b = omega (arith, length-append front (b ∷ []))
 
 one_number : (t : Bool) (front : List ℤ) (a b : ℤ) (old new : List ℤ) → (int_le a b && int_le b a) ≡ t
-    → ((later : List ℤ) → changed (front ++ b ∷ old) (changes_from (suc (length front)) old new) ≡ front ++ b ∷ new)
-    → changed (front ++ a ∷ old) (cond t (changes_from (suc (length front)) old new) (record { good = length front; multiplier = b } ∷ changes_from (suc (length front)) old new)) ≡ front ++ b ∷ new
+    → ((later : List ℤ) → after_changes (front ++ b ∷ old) (changes_from (suc (length front)) old new) ≡ front ++ b ∷ new)
+    → after_changes (front ++ a ∷ old) (cond t (changes_from (suc (length front)) old new) (record { good = length front; multiplier = b } ∷ changes_from (suc (length front)) old new)) ≡ front ++ b ∷ new
 one_number true front a b old new e later = rw (same_int a b true e refl) (later [])
 one_number false front a b old new e later =
-    ap (λ (m : Multipliers). changed m (changes_from (suc (length front)) old new)) (set_at front a b old) ∙ later []
+    ap (λ (m : Multipliers). after_changes m (changes_from (suc (length front)) old new)) (set_at front a b old) ∙ later []
 
-changed_front : (front old new : List ℤ) → length old ≡ length new → changed (front ++ old) (changes_from (length front) old new) ≡ front ++ new
+changed_front : (front old new : List ℤ) → length old ≡ length new → after_changes (front ++ old) (changes_from (length front) old new) ≡ front ++ new
 changed_front front [] [] same = refl
 changed_front front [] (b ∷ new) same = absurd (omega arith)
 changed_front front (a ∷ old) [] same = absurd (omega arith)
 changed_front front (a ∷ old) (b ∷ new) same =
-    let later : changed (front ++ b ∷ old) (changes_from (suc (length front)) old new) ≡ front ++ b ∷ new = rw (push front b old, push front b new, next_length front b) at (changed_front (front ++ b ∷ []) old new (omega arith)) in
+    let later : after_changes (front ++ b ∷ old) (changes_from (suc (length front)) old new) ≡ front ++ b ∷ new = rw (push front b old, push front b new, next_length front b) at (changed_front (front ++ b ∷ []) old new (omega arith)) in
     one_number (int_le a b && int_le b a) front a b old new refl (λ _. later)
 
-pub leaf_back : (old new : Multipliers) → length old ≡ length new → changed old (changes_from 0 old new) ≡ new
+pub leaf_back : (old new : Multipliers) → length old ≡ length new → after_changes old (changes_from 0 old new) ≡ new
 leaf_back old new same = changed_front [] old new same
 
 pub zeros : (goods : ℕ) → length (all_zero goods) ≡ goods
@@ -61,7 +61,7 @@ records_back goods m (line.step (branch b n) ∷ rs) count h = ap (λ (later : L
 records_back goods m (line.step (dead b) ∷ rs) count h = ap (λ (later : List Record). line.step (dead b) ∷ later) (records_back goods m rs count h)
 records_back goods m (r ∷ rs) count h = ap (λ (later : List Record). r ∷ later) (records_back goods (all_zero goods) rs (zeros goods) h)
 
-pub plain_packed : (kind : Kind) (rs : List Record) → AreOfVersion1 (goods_in rs) rs → plain (packed (line.head version_1 kind ∷ rs)) ≡ line.head version_1 kind ∷ rs
+pub plain_packed : (kind : Kind) (rs : List Record) → AreOfVersion1 (goods_in rs) rs → plain (in_version_2 (line.head version_1 kind ∷ rs)) ≡ line.head version_1 kind ∷ rs
 plain_packed kind rs h =
     let goods = goods_in rs in
     let same : goods_in (packed_records (goods_in rs) (all_zero (goods_in rs)) rs) ≡ goods_in rs = goods_same (goods_in rs) (all_zero (goods_in rs)) rs in

@@ -2,7 +2,7 @@
 ghost use Rattle.std.specs.Prelude.{◌≡◌, ℕ, List, ◌∷◌, Result};
 ghost use Rattle.ice_journal.specs.Records.{Kind, Record, version_1};
 ghost use Rattle.ice_journal.specs.Records as line;
-ghost use Rattle.ice_journal.specs.Plain.{plain, packed, goods_in, AreOfVersion1};
+ghost use Rattle.ice_journal.specs.Plain.{plain, in_version_2, goods_in, AreOfVersion1};
 ghost use Rattle.ice_journal.specs.Ranges.{IsRecord};
 ghost use Rattle.ice_journal.specs.Spelling.{text_of};
 ghost use Rattle.ice_journal.specs.Journal.{LinesFault, IsJournalOf};
@@ -19,5 +19,5 @@ pub fn bytes_tell_journals()
 
 /// A journal of version 1 comes back from version 2.
 pub fn packed_journals_come_back()
-    ensures { (kind : Kind) (records : List Record) → AreOfVersion1 (goods_in records) records → plain (packed (line.head version_1 kind ∷ records)) ≡ line.head version_1 kind ∷ records }
+    ensures { (kind : Kind) (records : List Record) → AreOfVersion1 (goods_in records) records → plain (in_version_2 (line.head version_1 kind ∷ records)) ≡ line.head version_1 kind ∷ records }
 {}

@@ -5,7 +5,7 @@ ghost use Rattle.std.specs.List.{AllByRecursion, flat_map};
 ghost use Rattle.ice_defs.specs.Exchange.{IsBetween};
 ghost use Rattle.ice_journal.specs.Reading.{Finds, ReadsFront};
 ghost use Rattle.ice_journal.specs.Ranges.{HasLength, IsValue, Ascends, IsChange, IsSubmission};
-ghost use Rattle.ice_journal.specs.Spelling.{counted, change_fields, submission_fields};
+ghost use Rattle.ice_journal.specs.Spelling.{counted_list, change_fields, submission_fields};
 ghost use Rattle.ice_journal.specs.Lines.{change_of, changes_of, submission_of};
 
 use crate::limits::MULTIPLIER;
@@ -49,7 +49,7 @@ pub fn integers(mut fields: Fields<'_>, least: i64, most: i64) -> Option<ArrayVe
 
 /// A count of at most 200, and so many values.
 fn counted_values(fields: &mut Fields<'_>) -> Option<ArrayVec<i32, 200>>
-    ensures { ReadsFront (option_map (λ values. values.items) result) (λ values. (length values ≤ 200) × AllByRecursion IsValue values) counted fields.old fields.new }
+    ensures { ReadsFront (option_map (λ values. values.items) result) (λ values. (length values ≤ 200) × AllByRecursion IsValue values) counted_list fields.old fields.new }
 {
     let count = natural(fields.next()?, 0, 200)?;
     let mut values = ArrayVec::new();

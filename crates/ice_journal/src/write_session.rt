@@ -5,7 +5,7 @@ ghost use Rattle.std.specs.List.{AllByRecursion};
 ghost use Rattle.ice_line.specs.Writing.{with_field, with_fields};
 ghost use Rattle.ice_journal.specs.Records as line;
 ghost use Rattle.ice_journal.specs.Ranges.{IsValue};
-ghost use Rattle.ice_journal.specs.Spelling.{text_of, end_word, stage_word, limit_word, counted};
+ghost use Rattle.ice_journal.specs.Spelling.{text_of, end_word, stage_word, limit_word, counted_list};
 ghost use Rattle.ice_journal.specs.Lines.{end_of, fraction_of};
 ghost use Rattle.ice_defs.specs.PricingLimit.{stage_of, limit_of};
 
@@ -67,7 +67,7 @@ fn put_values(values: &[i32], to: &mut LineWriter)
     requires room { length to.old ≤ 3000 }
     requires count { length values.now ≤ 200 }
     requires values { AllByRecursion IsValue values.now }
-    ensures fields { to.new ≡ with_fields to.old (counted values.now) }
+    ensures fields { to.new ≡ with_fields to.old (counted_list values.now) }
     ensures len { length to.new ≤ length to.old + 2441 }
 {
     to.natural(values.len() as u64);

@@ -20,7 +20,7 @@ use Rattle.ice_journal.specs.Records as line
 use Rattle.ice_section.specs.Section.{Section, SectionFault, order, count, no_good, maker, take_record, may_end}
 use Rattle.ice_journal_laws.specs.Fields.{head_value, set_in, is_assign, settlement_in, is_spent, step_in, multipliers_after, amount_in, prices_in, is_limit, is_pool, accuracy_in, balance_in, row_in, verdict_in, threshold_in, payment_in, is_end, is_round_stop}
 use Rattle.ice_journal_laws.specs.State.{Stated, Place, at_section, at_group, at_sets, at_log, at_regret, at_prices, at_accuracy, at_accuracy_rows, at_balance_rows, at_round, at_verdict, at_threshold, at_payment, at_spent_sets, at_spent_log, at_pool, at_end, done, State, exchange_at, settings_at, goods_at}
-use Rattle.ice_journal_laws.specs.Next.{next, next_at, go_to, to_line, bidder_count, if_true, or_stop, may_have_row, with_row, from_head, after_sets, with_set, after_log, after_step, after_regret, to_balance, settled, to_settlement, from_round, open_after, from_end, after_section, section_ended, from_section}
+use Rattle.ice_journal_laws.specs.Next.{next, next_at, go_to, to_line, bidder_count, if_true, or_stop, may_have_row, with_row, from_head, after_sets, with_set, after_log, after_step, after_regret, to_balance, next_settlement, to_settlement, from_round, open_after, from_end, after_section, past_section, from_section}
 use Rattle.ice_journal_laws.specs.declared.rule.Rule.{Rule}
 use Rattle.ice_journal_laws.specs.declared.rule.Rule.TheVariants as rule
 use Rattle.ice_journal_laws.specs.Tests.{Fails, IsOtherRegret, HasUnlawfulPrices, HasOtherViolation, FailsAccuracy, FailsBalance, IsOtherVerdict, IsOtherThreshold, IsOtherPayment, HasViolation, HasFullList, HasVerdict, Holds, ListHolds}
@@ -121,19 +121,19 @@ module _ (judged : List Judged) where
   of_section : (s : State) (r : Record) (o : Result Section SectionFault) → Kept s → GoAlike (from_section s r o) (from_section (with_judged judged s) r o)
   of_section s r (Ok section) same = (judged, refl, same)
   of_section s r (Err order) same =
-      of_choice (may_end s.section) (after_section (section_ended s) s.kind r) None (after_section (section_ended (with_judged judged s)) s.kind r) None (of_after (section_ended s) s.kind r same) tt
+      of_choice (may_end s.section) (after_section (past_section s) s.kind r) None (after_section (past_section (with_judged judged s)) s.kind r) None (of_after (past_section s) s.kind r same) tt
   of_section s r (Err count) same = (judged, refl, same)
   of_section s r (Err no_good) same = (judged, refl, same)
   of_section s r (Err (maker number)) same = (judged, refl, same)
 
   -- the bounds that the round leaves are the same
-  of_settled : (s : State) → Kept s → AreAlike (settled s) (settled (with_judged judged s))
+  of_settled : (s : State) → Kept s → AreAlike (next_settlement s) (next_settlement (with_judged judged s))
   of_settled s same = ([], cc (same_bounds (standings (exchange_at s) s.bounds s.offered) s.judged judged same), λ name. refl)
 
   of_settlement : (s : State) (r : Record) → Kept s → GoAlike (to_settlement s r) (to_settlement (with_judged judged s) r)
   of_settlement s r same =
-      of_then (λ number. if_true (number == suc s.number) (settled s)) (λ number. if_true (number == suc s.number) (settled (with_judged judged s))) (settlement_in r)
-      (λ number. of_test (number == suc s.number) (settled s) (settled (with_judged judged s)) (of_settled s same))
+      of_then (λ number. if_true (number == suc s.number) (next_settlement s)) (λ number. if_true (number == suc s.number) (next_settlement (with_judged judged s))) (settlement_in r)
+      (λ number. of_test (number == suc s.number) (next_settlement s) (next_settlement (with_judged judged s)) (of_settled s same))
 
   of_round : (s : State) (r : Record) → Kept s → GoAlike (from_round s r) (from_round (with_judged judged s) r)
   of_round s (line.submit x) same = (judged, refl, same)

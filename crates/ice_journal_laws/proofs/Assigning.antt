@@ -21,7 +21,7 @@ use Rattle.ice_section.specs.Taking.{unless_fault, take_records}
 use Rattle.ice_journal_laws.specs.declared.rule.Rule.{Rule}
 use Rattle.ice_journal_laws.specs.declared.rule.Rule.TheVariants as rule
 use Rattle.ice_journal_laws.specs.State.{Stated, Place, at_section, at_sets, at_end, done, State, trees_at, exact_at, goods_at}
-use Rattle.ice_journal_laws.specs.Next.{go_to, next, from_section, after_section, section_ended, with_set, bidder_count, after_sets, to_line}
+use Rattle.ice_journal_laws.specs.Next.{go_to, next, from_section, after_section, past_section, with_set, bidder_count, after_sets, to_line}
 use Rattle.ice_journal_laws.specs.Tests.{Fails, is_refusal, Complete}
 use Rattle.ice_journal_laws.proofs.Faultless.{satisfied_without_fault, no_fault, covered}
 
@@ -73,7 +73,7 @@ is_after records mine after e h = subst (IsStanding records) (same e) h
 
 -- the record after the section
 ends_section : (before : List Record) (s : State) (r : Record) (after : State) → s.kind ≡ assign_kind → take_records no_section before ≡ Ok s.section → may_end s.section ≡ true
-    → option_map (to_line (suc s.line)) (after_section (section_ended (go_to at_section s)) assign_kind r) ≡ Some after → IsStanding (before ++ r ∷ []) after
+    → option_map (to_line (suc s.line)) (after_section (past_section (go_to at_section s)) assign_kind r) ≡ Some after → IsStanding (before ++ r ∷ []) after
 ends_section before s line.assign after kind taken ended is =
     is_after (before ++ line.assign ∷ []) _ after is (record {
       kind = kind;
@@ -93,8 +93,8 @@ in_section before s r after (Ok section) kind taken e is pass =
     })
 in_section before s r after (Err order) kind taken e is pass = by (may_end s.section) refl is
   where
-    by : (b : Bool) → may_end s.section ≡ b → option_map (to_line (suc s.line)) (cond b (after_section (section_ended (go_to at_section s)) s.kind r) None) ≡ Some after → IsStanding (before ++ r ∷ []) after
-    by true ended h = ends_section before s r after kind taken ended (subst (λ k. option_map (to_line (suc s.line)) (after_section (section_ended (go_to at_section s)) k r) ≡ Some after) kind h)
+    by : (b : Bool) → may_end s.section ≡ b → option_map (to_line (suc s.line)) (cond b (after_section (past_section (go_to at_section s)) s.kind r) None) ≡ Some after → IsStanding (before ++ r ∷ []) after
+    by true ended h = ends_section before s r after kind taken ended (subst (λ k. option_map (to_line (suc s.line)) (after_section (past_section (go_to at_section s)) k r) ≡ Some after) kind h)
     by false ended h = absurd (none-some after h)
 in_section before s r after (Err count) kind taken e is pass = absurd (pass refl)
 in_section before s r after (Err no_good) kind taken e is pass = absurd (pass refl)

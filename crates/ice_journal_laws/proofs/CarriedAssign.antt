@@ -15,12 +15,12 @@ use Rattle.ice_section.specs.Laws.{DescribedAreTaken}
 use Rattle.ice_journal_laws.specs.declared.rule.Rule.{Rule}
 use Rattle.ice_journal_laws.specs.declared.rule.Rule.TheVariants as rule
 use Rattle.ice_journal_laws.specs.State.{Stated, at_sets, at_end, done, State, begun}
-use Rattle.ice_journal_laws.specs.Next.{next, to_line, go_to, after_section, section_ended}
+use Rattle.ice_journal_laws.specs.Next.{next, to_line, go_to, after_section, past_section}
 use Rattle.ice_journal_laws.specs.Tests.{Fails}
 use Rattle.ice_journal_laws.specs.Checks.{Checks}
 use Rattle.ice_journal_laws.specs.Written.{assigned_records}
 use Rattle.ice_journal_laws.specs.Progress.{passes_on}
-use Rattle.ice_journal_laws.specs.Assigning.{describing, section_of, described}
+use Rattle.ice_journal_laws.specs.Assigning.{section_state, section_of, exchange_state}
 use Rattle.ice_journal_laws.specs.Carrying.{Carries}
 use Rattle.ice_journal_laws.proofs.Carried.{TakesTo, carries_join, carries_then, carries_one, carries_checks}
 use Rattle.ice_journal_laws.proofs.CarriedSection.{section_carries, ended}
@@ -31,13 +31,13 @@ abbrev no_sets : Stated
 no_sets = record { value = pos 0; sets = [] }
 
 -- the head of the sets
-assign_takes : (v : Version) (ex : Exchange) → IsExchange ex → TakesTo (describing v assign_kind 2 (section_of ex)) line.assign (go_to (at_sets Assign no_sets) (described v assign_kind 2 ex))
+assign_takes : (v : Version) (ex : Exchange) → IsExchange ex → TakesTo (section_state v assign_kind 2 (section_of ex)) line.assign (go_to (at_sets Assign no_sets) (exchange_state v assign_kind 2 ex))
 assign_takes v ex lawful n = passes_on (λ z e. absurd (none-some z e)) quiet (record { leaf = tt; violation = tt; list = tt; verdict = tt }) is
   where
-    is : next (describing v assign_kind n (section_of ex)) line.assign ≡ Some (to_line (suc n) (go_to (at_sets Assign no_sets) (described v assign_kind n ex)))
-    is = ap (λ (b : Bool). option_map (to_line (suc n)) (cond b (after_section (section_ended (describing v assign_kind n (section_of ex))) assign_kind line.assign) None)) (ended ex lawful)
+    is : next (section_state v assign_kind n (section_of ex)) line.assign ≡ Some (to_line (suc n) (go_to (at_sets Assign no_sets) (exchange_state v assign_kind n ex)))
+    is = ap (λ (b : Bool). option_map (to_line (suc n)) (cond b (after_section (past_section (section_state v assign_kind n (section_of ex))) assign_kind line.assign) None)) (ended ex lawful)
 
-    quiet : (z : Rule) → ¬ Fails z (describing v assign_kind n (section_of ex)) line.assign
+    quiet : (z : Rule) → ¬ Fails z (section_state v assign_kind n (section_of ex)) line.assign
     quiet rule.Closed h = false≢true h.0
     quiet rule.Order h = none-some _ (sym h ∙ is)
     quiet rule.Exchange h = false≢true h.1
@@ -54,7 +54,7 @@ assign_end_takes s n = passes_on (λ z e. absurd (none-some z e)) quiet (record 
 
 module _ (taken : DescribedAreTaken) (a : Assigned) (lawful : IsExchange a.exchange) (feasible : IsFeasible (trees_of a.exchange) (exact_of a.exchange) a.sets) where
   abbrev Start : State
-  Start = described version_1 assign_kind 2 a.exchange
+  Start = exchange_state version_1 assign_kind 2 a.exchange
 
   abbrev After : State
   After = record Start { final = record { value = pos 0; sets = a.sets } }
@@ -63,12 +63,12 @@ module _ (taken : DescribedAreTaken) (a : Assigned) (lawful : IsExchange a.excha
   sets_all [] e = absurd (omega (arith, ap length e, feasible.same_length, some_trees a.exchange lawful))
   sets_all (x ∷ rest) e = sets_carry Start Assign (pos 0) a.sets feasible (λ valued. absurd (false≢true valued)) tt [] rest x e
 
-  pub assigned_carries : Carries (begun version_1 assign_kind) (section_records a.exchange ++ line.assign ∷ map line.set a.sets ++ line.end assign_end ∷ []) (go_to done (record (described version_1 assign_kind 2 a.exchange) { final = record { value = pos 0; sets = a.sets } }))
+  pub assigned_carries : Carries (begun version_1 assign_kind) (section_records a.exchange ++ line.assign ∷ map line.set a.sets ++ line.end assign_end ∷ []) (go_to done (record (exchange_state version_1 assign_kind 2 a.exchange) { final = record { value = pos 0; sets = a.sets } }))
   assigned_carries =
       carries_join (begun version_1 assign_kind) (go_to (at_end assign_end) After) (go_to done After) (section_records a.exchange ++ line.assign ∷ map line.set a.sets) (line.end assign_end ∷ [])
-      (carries_join (begun version_1 assign_kind) (describing version_1 assign_kind 2 (section_of a.exchange)) (go_to (at_end assign_end) After) (section_records a.exchange) (line.assign ∷ map line.set a.sets)
+      (carries_join (begun version_1 assign_kind) (section_state version_1 assign_kind 2 (section_of a.exchange)) (go_to (at_end assign_end) After) (section_records a.exchange) (line.assign ∷ map line.set a.sets)
       (section_carries taken version_1 assign_kind a.exchange lawful)
-      (carries_then (describing version_1 assign_kind 2 (section_of a.exchange)) (go_to (at_sets Assign no_sets) Start) (go_to (at_end assign_end) After) line.assign (map line.set a.sets) (assign_takes version_1 a.exchange lawful) (sets_all a.sets refl)))
+      (carries_then (section_state version_1 assign_kind 2 (section_of a.exchange)) (go_to (at_sets Assign no_sets) Start) (go_to (at_end assign_end) After) line.assign (map line.set a.sets) (assign_takes version_1 a.exchange lawful) (sets_all a.sets refl)))
       (carries_one (go_to (at_end assign_end) After) (go_to done After) (line.end assign_end) (assign_end_takes After))
 
   pub assigned_records_check : Checks (assigned_records a)

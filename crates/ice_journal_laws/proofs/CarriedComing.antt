@@ -19,8 +19,8 @@ use Rattle.ice_section.specs.Section.{good_record}
 use Rattle.ice_section.specs.Described.{bidder_records, section_records}
 use Rattle.ice_section.specs.Laws.{DescribedAreTaken}
 use Rattle.ice_journal_laws.specs.State.{at_group, State, begun, exchange_at, trees_at, goods_at}
-use Rattle.ice_journal_laws.specs.Next.{go_to, settled}
-use Rattle.ice_journal_laws.specs.Assigning.{describing, section_of, described}
+use Rattle.ice_journal_laws.specs.Next.{go_to, next_settlement}
+use Rattle.ice_journal_laws.specs.Assigning.{section_state, section_of, exchange_state}
 use Rattle.ice_journal_laws.specs.ShowingSession.{going_in, goings_in, AreShownGoing}
 use Rattle.ice_journal_laws.specs.StepsTaken.{Earns}
 use Rattle.ice_journal_laws.specs.Earning.{Earning, IsEarnedTaken, EarnGoings}
@@ -80,7 +80,7 @@ module _ (E : Earning) where
     pub bounds_are : state.bounds ≡ bounds
 
   abbrev behind : Going → State → State
-  behind g s = settled (record (with_going g s) { judged = g.judged })
+  behind g s = next_settlement (record (with_going g s) { judged = g.judged })
 
   pub goings_come : (going : List Going) (s start : State) → TakesTo start (line.settle s.number) (go_to (at_group Final) (settling s)) → 0 < length (trees_at s) → AreShownGoing (exchange_at s) s.number s.bounds going → EarnGoings E (exchange_at s) s.bounds going
       → Comes start (goings_in s.version (goods_at s) s.number going) s.version (exchange_at s) (s.number + length going) (bounds_after_rounds (exchange_at s) s.bounds going)
@@ -113,13 +113,13 @@ module _ (E : Earning) where
   pub session_comes : DescribedAreTaken → (v : Version) (ex : Exchange) → IsExchange ex → (going : List Going) → AreShownGoing ex 0 (opening_bounds ex) going → EarnGoings E ex (opening_bounds ex) going
       → Comes (begun v session_kind) (section_records ex ++ goings_in v (length (exact_of ex)) 0 going) v ex (length going) (bounds_after_rounds ex (opening_bounds ex) going)
   session_comes taken v ex lawful going is earned =
-      let next = goings_come going (described v session_kind 2 ex) (describing v session_kind 2 (section_of ex)) (first_settle_takes v ex lawful) (some_trees ex lawful) is earned in
+      let next = goings_come going (exchange_state v session_kind 2 ex) (section_state v session_kind 2 (section_of ex)) (first_settle_takes v ex lawful) (some_trees ex lawful) is earned in
       record {
         rest = next.rest;
         state = next.state;
         earns =
-            earns_join (IsEarnedTaken E) (begun v session_kind) (describing v session_kind 2 (section_of ex)) next.rest (section_records ex) (goings_in v (length (exact_of ex)) 0 going)
-            (earns_quiet (IsEarnedTaken E) (begun v session_kind) (describing v session_kind 2 (section_of ex)) (section_records ex) (section_carries taken v session_kind ex lawful) (section_quiet ex)) next.earns;
+            earns_join (IsEarnedTaken E) (begun v session_kind) (section_state v session_kind 2 (section_of ex)) next.rest (section_records ex) (goings_in v (length (exact_of ex)) 0 going)
+            (earns_quiet (IsEarnedTaken E) (begun v session_kind) (section_state v session_kind 2 (section_of ex)) (section_records ex) (section_carries taken v session_kind ex lawful) (section_quiet ex)) next.earns;
         settles = next.settles;
         version = next.version;
         exchange = next.exchange;

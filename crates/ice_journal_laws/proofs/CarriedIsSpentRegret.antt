@@ -18,7 +18,7 @@ use Rattle.ice_section.specs.Described.{section_records}
 use Rattle.ice_section.specs.Laws.{DescribedAreTaken}
 use Rattle.ice_journal_laws.specs.State.{at_group, State}
 use Rattle.ice_journal_laws.specs.Next.{to_line, go_to}
-use Rattle.ice_journal_laws.specs.Assigning.{describing, section_of, described}
+use Rattle.ice_journal_laws.specs.Assigning.{section_state, section_of, exchange_state}
 use Rattle.ice_journal_laws.specs.Showing.{group_records, stated_of, IsShown}
 use Rattle.ice_journal_laws.specs.StepsTaken.{branches_in}
 use Rattle.ice_journal_laws.specs.Earning.{EarnsLog}
@@ -58,7 +58,7 @@ module _ (taken : DescribedAreTaken) (ex : Exchange) (lawful : IsExchange ex) (p
   final_is_spent search budget =
       let said : plain (line.head version_2 regret_kind ∷ section_records ex ++ Stop2) ≡ line.head version_1 regret_kind ∷ section_records ex ++ line.spent p.value above ∷ map line.set p.sets ++ map line.step p.log ++ line.end spent_end ∷ [] =
       whole_says regret_kind ex Stop2 Stop (unpacks_spent ex p above counts) ∙ ap (λ (rs : List Record). line.head version_1 regret_kind ∷ rs) (regrouped (section_records ex) p above) in
-      let reached : IsReached EarnsStep version_1 regret_kind (section_records ex) (describing version_1 regret_kind 2 (section_of ex)) = earns_reached EarnsStep version_1 regret_kind (section_records ex) (describing version_1 regret_kind 2 (section_of ex)) (final_awaits EarnsStep taken version_1 ex lawful) in
+      let reached : IsReached EarnsStep version_1 regret_kind (section_records ex) (section_state version_1 regret_kind 2 (section_of ex)) = earns_reached EarnsStep version_1 regret_kind (section_records ex) (section_state version_1 regret_kind 2 (section_of ex)) (final_awaits EarnsStep taken version_1 ex lawful) in
       record {
         before = section_records ex;
         value = p.value;
@@ -66,10 +66,10 @@ module _ (taken : DescribedAreTaken) (ex : Exchange) (lawful : IsExchange ex) (p
         sets = p.sets;
         log = p.log;
         says = said;
-        state = to_line reached.line (describing version_1 regret_kind 2 (section_of ex));
+        state = to_line reached.line (section_state version_1 regret_kind 2 (section_of ex));
         reached = reached.reached;
         group = Final;
-        now = to_line reached.line (described version_1 regret_kind 2 ex);
+        now = to_line reached.line (exchange_state version_1 regret_kind 2 ex);
         awaited = first_group refl refl (ended ex lawful);
         counted = ap branches_in said ∙ count_stop (section_records ex) p above ∙ omega (arith, branches_none (section_records ex) (section_quiet ex), budget);
         earned_before = reached.earned;
@@ -84,7 +84,7 @@ module _ (taken : DescribedAreTaken) (ex : Exchange) (lawful : IsExchange ex) (p
     Final2 = group_records version_2 (length (exact_of ex)) (line.final final.value) final
 
     abbrev AtRival : State
-    AtRival = go_to (at_group Rival) (record (described version_1 regret_kind 2 ex) { final = stated_of final })
+    AtRival = go_to (at_group Rival) (record (exchange_state version_1 regret_kind 2 ex) { final = stated_of final })
 
     unpacks_both : Unpacks (length (exact_of ex)) (Final2 ++ Stop2) (Final1 ++ Stop)
     unpacks_both =

@@ -15,9 +15,9 @@ use Rattle.ice_journal.specs.Ranges.{IsRecord}
 use Rattle.ice_section.specs.Described.{section_records}
 use Rattle.ice_section.specs.Laws.{DescribedAreTaken}
 use Rattle.ice_journal_laws.specs.State.{at_group, State, begun, exchange_at, trees_at, goods_at}
-use Rattle.ice_journal_laws.specs.Next.{go_to, settled}
+use Rattle.ice_journal_laws.specs.Next.{go_to, next_settlement}
 use Rattle.ice_journal_laws.specs.Tests.{BalanceHolds}
-use Rattle.ice_journal_laws.specs.Assigning.{describing, section_of, described}
+use Rattle.ice_journal_laws.specs.Assigning.{section_state, section_of, exchange_state}
 use Rattle.ice_journal_laws.specs.Carrying.{Carries}
 use Rattle.ice_journal_laws.specs.SoFar.{IsSoFar}
 use Rattle.ice_journal_laws.specs.ShowingSession.{going_in, goings_in, AreShownGoing, last_going}
@@ -45,7 +45,7 @@ bounds_at_last ex bounds g [] = bounds
 bounds_at_last ex bounds g (other ∷ later) = bounds_at_last ex (bounds_after_round ex bounds g) other later
 
 abbrev behind : Going → State → State
-behind g s = settled (record (with_going g s) { judged = g.judged })
+behind g s = next_settlement (record (with_going g s) { judged = g.judged })
 
 -- settlements that go on, from here
 pub goings_carry : (g : Going) (later : List Going) (s start : State) → TakesTo start (line.settle s.number) (go_to (at_group Final) (settling s)) → 0 < length (trees_at s) → AreShownGoing (exchange_at s) s.number s.bounds (g ∷ later)
@@ -77,11 +77,11 @@ module _ (taken : DescribedAreTaken) (v : Version) (ex : Exchange) (lawful : IsE
   -- a session as far as its rounds go
   pub open_carries : CarriesToRest (begun v session_kind) (section_records ex ++ goings_in v (length (exact_of ex)) 0 (g ∷ later)) (last_going g later) v ex (length later) (bounds_at_last ex (opening_bounds ex) g later)
   open_carries =
-      let rest = goings_carry g later (described v session_kind 2 ex) (describing v session_kind 2 (section_of ex)) (first_settle_takes v ex lawful) (some_trees ex lawful) is in
+      let rest = goings_carry g later (exchange_state v session_kind 2 ex) (section_state v session_kind 2 (section_of ex)) (first_settle_takes v ex lawful) (some_trees ex lawful) is in
       record {
         state = rest.state;
         carries =
-            carries_join (begun v session_kind) (describing v session_kind 2 (section_of ex)) (resting_at (last_going g later).balance (last_going g later).judged (with_going (last_going g later) rest.state)) (section_records ex) (goings_in v (length (exact_of ex)) 0 (g ∷ later))
+            carries_join (begun v session_kind) (section_state v session_kind 2 (section_of ex)) (resting_at (last_going g later).balance (last_going g later).judged (with_going (last_going g later) rest.state)) (section_records ex) (goings_in v (length (exact_of ex)) 0 (g ∷ later))
             (section_carries taken v session_kind ex lawful) rest.carries;
         holds = rest.holds;
         version = rest.version;

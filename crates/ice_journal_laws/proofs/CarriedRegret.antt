@@ -19,7 +19,7 @@ use Rattle.ice_journal_laws.specs.Tests.{Fails}
 use Rattle.ice_journal_laws.specs.Checks.{is_checked, Checks}
 use Rattle.ice_journal_laws.specs.Written.{proved_records, regret_records, regretted_records}
 use Rattle.ice_journal_laws.specs.Progress.{passes_on}
-use Rattle.ice_journal_laws.specs.Assigning.{describing, section_of, described}
+use Rattle.ice_journal_laws.specs.Assigning.{section_state, section_of, exchange_state}
 use Rattle.ice_journal_laws.specs.Carrying.{Carries}
 use Rattle.ice_journal_laws.specs.Showing.{group_records, regret_group_records, regretted_in, IsShownRegretted}
 use Rattle.ice_journal_laws.proofs.Spelled.{steps_plain}
@@ -43,17 +43,17 @@ some_trees ex lawful = omega (arith, lawful.bidders_count, length-map ex.bidders
 
 module _ (taken : DescribedAreTaken) (v : Version) (r : Regretted) (is : IsShownRegretted r) where
   abbrev After : State
-  After = with_settlement r.settlement (described v regret_kind 2 r.exchange)
+  After = with_settlement r.settlement (exchange_state v regret_kind 2 r.exchange)
 
   abbrev groups : List Record
   groups = regret_group_records v (length (exact_of r.exchange)) r.settlement
 
-  pub regretted_carries : Carries (begun v regret_kind) (section_records r.exchange ++ regret_group_records v (length (exact_of r.exchange)) r.settlement ++ line.end regret_end ∷ []) (go_to done (with_settlement r.settlement (described v regret_kind 2 r.exchange)))
+  pub regretted_carries : Carries (begun v regret_kind) (section_records r.exchange ++ regret_group_records v (length (exact_of r.exchange)) r.settlement ++ line.end regret_end ∷ []) (go_to done (with_settlement r.settlement (exchange_state v regret_kind 2 r.exchange)))
   regretted_carries =
       carries_join (begun v regret_kind) (go_to (at_end regret_end) After) (go_to done After) (section_records r.exchange ++ groups) (line.end regret_end ∷ [])
-      (carries_join (begun v regret_kind) (describing v regret_kind 2 (section_of r.exchange)) (go_to (at_end regret_end) After) (section_records r.exchange) groups
+      (carries_join (begun v regret_kind) (section_state v regret_kind 2 (section_of r.exchange)) (go_to (at_end regret_end) After) (section_records r.exchange) groups
       (section_carries taken v regret_kind r.exchange is.exchange)
-      (settlement_carries (described v regret_kind 2 r.exchange) r.settlement (describing v regret_kind 2 (section_of r.exchange)) (final_takes v r.exchange r.settlement.final.value is.exchange) (some_trees r.exchange is.exchange) is.settlement))
+      (settlement_carries (exchange_state v regret_kind 2 r.exchange) r.settlement (section_state v regret_kind 2 (section_of r.exchange)) (final_takes v r.exchange r.settlement.final.value is.exchange) (some_trees r.exchange is.exchange) is.settlement))
       (carries_one (go_to (at_end regret_end) After) (go_to done After) (line.end regret_end) (regret_end_takes After))
 
 checked_regret : (v : Version) → is_checked v regret_kind ≡ true
@@ -63,7 +63,7 @@ checked_regret version_2 = refl
 -- in either version
 pub regretted_checks : DescribedAreTaken → (v : Version) (r : Regretted) → IsShownRegretted r → Checks (regretted_in v r)
 regretted_checks taken v r is =
-    carries_checks v regret_kind (section_records r.exchange ++ regret_group_records v (length (exact_of r.exchange)) r.settlement ++ line.end regret_end ∷ []) (go_to done (with_settlement r.settlement (described v regret_kind 2 r.exchange))) (checked_regret v) (regretted_carries taken v r is) refl
+    carries_checks v regret_kind (section_records r.exchange ++ regret_group_records v (length (exact_of r.exchange)) r.settlement ++ line.end regret_end ∷ []) (go_to done (with_settlement r.settlement (exchange_state v regret_kind 2 r.exchange))) (checked_regret v) (regretted_carries taken v r is) refl
 
 -- ---- version 1
 

@@ -17,7 +17,7 @@ use Rattle.ice_journal.specs.Records as line
 use Rattle.ice_journal_laws.specs.declared.rule.Rule.{Rule}
 use Rattle.ice_journal_laws.specs.declared.rule.Rule.TheVariants as rule
 use Rattle.ice_journal_laws.specs.State.{Place, at_balance_rows, done, at_round, at_verdict, State, exchange_at, settings_at}
-use Rattle.ice_journal_laws.specs.Next.{next, to_line, or_stop, with_row, settled}
+use Rattle.ice_journal_laws.specs.Next.{next, to_line, or_stop, with_row, next_settlement}
 use Rattle.ice_journal_laws.specs.Tests.{Fails, BalanceHolds}
 use Rattle.ice_journal_laws.specs.Progress.{passes_on}
 use Rattle.ice_journal_laws.specs.Written.{judged_records}
@@ -98,11 +98,11 @@ judged_carry s c judged (j ∷ later) holds are =
     (judged_carry s c (judged ++ j ∷ []) later holds are.1))
 
 -- the next settlement
-pub settle_takes : (s : State) (c : Certificate) (judged : List Judged) → BalanceHolds s c.den c.rows → TakesTo (resting_at c judged s) (line.settle (suc s.number)) (settled (record s { judged = judged }))
+pub settle_takes : (s : State) (c : Certificate) (judged : List Judged) → BalanceHolds s c.den c.rows → TakesTo (resting_at c judged s) (line.settle (suc s.number)) (next_settlement (record s { judged = judged }))
 settle_takes s c [] holds n = passes_on (λ z e. holds) quiet (record { leaf = tt; violation = tt; list = λ last. tt; verdict = tt }) is
   where
-    is : next (to_line n (resting_at c [] s)) (line.settle (suc s.number)) ≡ Some (to_line (suc n) (settled (record s { judged = [] })))
-    is = ap (λ (t : Bool). option_map (to_line (suc n)) (or_stop false s (with_row c.rows (at_balance_rows c.den) s (line.settle (suc s.number)) (cond t (Some (settled (record s { line = n; judged = [] }))) None)))) (eq-eqb (suc s.number) (suc s.number) refl)
+    is : next (to_line n (resting_at c [] s)) (line.settle (suc s.number)) ≡ Some (to_line (suc n) (next_settlement (record s { judged = [] })))
+    is = ap (λ (t : Bool). option_map (to_line (suc n)) (or_stop false s (with_row c.rows (at_balance_rows c.den) s (line.settle (suc s.number)) (cond t (Some (next_settlement (record s { line = n; judged = [] }))) None)))) (eq-eqb (suc s.number) (suc s.number) refl)
 
     quiet : (z : Rule) → ¬ Fails z (to_line n (resting_at c [] s)) (line.settle (suc s.number))
     quiet rule.Closed h = false≢true h.0
@@ -112,8 +112,8 @@ settle_takes s c [] holds n = passes_on (λ z e. holds) quiet (record { leaf = t
     quiet other h = h
 settle_takes s c (j ∷ later) holds n = passes_on (λ z e. absurd (none-some z e)) quiet (record { leaf = tt; violation = tt; list = tt; verdict = tt }) is
   where
-    is : next (to_line n (resting_at c (j ∷ later) s)) (line.settle (suc s.number)) ≡ Some (to_line (suc n) (settled (record s { judged = j ∷ later })))
-    is = ap (λ (t : Bool). option_map (to_line (suc n)) (cond t (Some (settled (record s { line = n; judged = j ∷ later }))) None)) (eq-eqb (suc s.number) (suc s.number) refl)
+    is : next (to_line n (resting_at c (j ∷ later) s)) (line.settle (suc s.number)) ≡ Some (to_line (suc n) (next_settlement (record s { judged = j ∷ later })))
+    is = ap (λ (t : Bool). option_map (to_line (suc n)) (cond t (Some (next_settlement (record s { line = n; judged = j ∷ later }))) None)) (eq-eqb (suc s.number) (suc s.number) refl)
 
     quiet : (z : Rule) → ¬ Fails z (to_line n (resting_at c (j ∷ later) s)) (line.settle (suc s.number))
     quiet rule.Closed h = false≢true h.0

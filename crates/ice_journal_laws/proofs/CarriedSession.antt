@@ -9,9 +9,9 @@ use Rattle.ice_journal.specs.Records as line
 use Rattle.ice_section.specs.Described.{section_records}
 use Rattle.ice_section.specs.Laws.{DescribedAreTaken}
 use Rattle.ice_journal_laws.specs.State.{at_group, done, State, begun, exchange_at, trees_at, goods_at}
-use Rattle.ice_journal_laws.specs.Next.{go_to, settled}
+use Rattle.ice_journal_laws.specs.Next.{go_to, next_settlement}
 use Rattle.ice_journal_laws.specs.Checks.{is_checked, Checks}
-use Rattle.ice_journal_laws.specs.Assigning.{describing, section_of, described}
+use Rattle.ice_journal_laws.specs.Assigning.{section_state, section_of, exchange_state}
 use Rattle.ice_journal_laws.specs.Carrying.{Carries}
 use Rattle.ice_journal_laws.specs.ShowingSession.{going_in, settlements_in, session_in, AreShownFrom, IsShownSession}
 use Rattle.ice_journal_laws.proofs.Carried.{TakesTo, carries_join, carries_checks}
@@ -28,7 +28,7 @@ pub record CarriesToEnd (start : State) (records : List Record) : Type 0 where
 
 -- the state in which the next settlement begins
 abbrev behind : Going → State → State
-behind g s = settled (record (with_going g s) { judged = g.judged })
+behind g s = next_settlement (record (with_going g s) { judged = g.judged })
 
 -- the settlements from here on
 pub settlements_carry : (going : List Going) (c : Closed) (s start : State) → TakesTo start (line.settle s.number) (go_to (at_group Final) (settling s)) → 0 < length (trees_at s) → AreShownFrom (exchange_at s) s.number s.bounds going c
@@ -48,12 +48,12 @@ settlements_carry (g ∷ later) c s start settles some is =
 module _ (taken : DescribedAreTaken) (v : Version) (x : Session) (is : IsShownSession x) where
   pub session_carries : CarriesToEnd (begun v session_kind) (section_records x.exchange ++ settlements_in v (length (exact_of x.exchange)) 0 x.going x.closed)
   session_carries =
-      let rest : CarriesToEnd (describing v session_kind 2 (section_of x.exchange)) (settlements_in v (length (exact_of x.exchange)) 0 x.going x.closed) =
-      settlements_carry x.going x.closed (described v session_kind 2 x.exchange) (describing v session_kind 2 (section_of x.exchange)) (first_settle_takes v x.exchange is.exchange) (some_trees x.exchange is.exchange) is.settlements in
+      let rest : CarriesToEnd (section_state v session_kind 2 (section_of x.exchange)) (settlements_in v (length (exact_of x.exchange)) 0 x.going x.closed) =
+      settlements_carry x.going x.closed (exchange_state v session_kind 2 x.exchange) (section_state v session_kind 2 (section_of x.exchange)) (first_settle_takes v x.exchange is.exchange) (some_trees x.exchange is.exchange) is.settlements in
       record {
         after = rest.after;
         carries =
-            carries_join (begun v session_kind) (describing v session_kind 2 (section_of x.exchange)) rest.after (section_records x.exchange) (settlements_in v (length (exact_of x.exchange)) 0 x.going x.closed)
+            carries_join (begun v session_kind) (section_state v session_kind 2 (section_of x.exchange)) rest.after (section_records x.exchange) (settlements_in v (length (exact_of x.exchange)) 0 x.going x.closed)
             (section_carries taken v session_kind x.exchange is.exchange) rest.carries;
         ends = rest.ends;
       }

@@ -16,11 +16,11 @@ use Rattle.ice_defs.specs.Lawful.{IsExchange}
 use Rattle.ice_refute.specs.Code.{CountsGoods}
 use Rattle.ice_journal.specs.Records.{Record, Version, version_1, version_2, regret_kind, spent_end}
 use Rattle.ice_journal.specs.Records as line
-use Rattle.ice_journal.specs.Plain.{all_zero, changes_from, changed}
+use Rattle.ice_journal.specs.Plain.{all_zero, changes_from, after_changes}
 use Rattle.ice_journal_laws.specs.Fields.{step_in}
 use Rattle.ice_journal_laws.specs.State.{Place, at_group, at_spent_sets, at_spent_log, at_end, done, State, trees_at, goods_at}
-use Rattle.ice_journal_laws.specs.Next.{to_line, go_to, bidder_count, after_section, section_ended, open_after}
-use Rattle.ice_journal_laws.specs.Assigning.{describing, section_of, described}
+use Rattle.ice_journal_laws.specs.Next.{to_line, go_to, bidder_count, after_section, past_section, open_after}
+use Rattle.ice_journal_laws.specs.Assigning.{section_state, section_of, exchange_state}
 use Rattle.ice_journal_laws.specs.Showing.{step_record, step_records}
 use Rattle.ice_journal_laws.specs.SoFar.{Orders}
 use Rattle.ice_journal_laws.proofs.CarriedSection.{ended}
@@ -37,9 +37,9 @@ spent_stands s Provisional value bound n = refl
 spent_stands s (Without b) value bound n = refl
 
 -- or behind the exchange of a regret journal
-pub first_spent_stands : (v : Version) (ex : Exchange) (value bound : ℤ) → IsExchange ex → StandsTo (describing v regret_kind 2 (section_of ex)) (line.spent value bound) (go_to (at_spent_sets 0) (described v regret_kind 2 ex))
+pub first_spent_stands : (v : Version) (ex : Exchange) (value bound : ℤ) → IsExchange ex → StandsTo (section_state v regret_kind 2 (section_of ex)) (line.spent value bound) (go_to (at_spent_sets 0) (exchange_state v regret_kind 2 ex))
 first_spent_stands v ex value bound lawful n =
-    ap (λ (b : Bool). option_map (to_line (suc n)) (cond b (after_section (section_ended (describing v regret_kind n (section_of ex))) regret_kind (line.spent value bound)) None)) (ended ex lawful)
+    ap (λ (b : Bool). option_map (to_line (suc n)) (cond b (after_section (past_section (section_state v regret_kind n (section_of ex))) regret_kind (line.spent value bound)) None)) (ended ex lawful)
 
 -- ---- its sets
 
@@ -74,7 +74,7 @@ read_as version_1 goods m (branch b n) h = record { step = branch b n; stated = 
 read_as version_1 goods m (leaf new) h = record { step = leaf new; stated = ap (λ (t : Bool). cond t (Some (leaf new)) None) (eq-eqb (length new) goods h); opens = λ k. refl }
 read_as version_1 goods m (dead b) h = record { step = dead b; stated = refl; opens = λ k. refl }
 read_as version_2 goods m (branch b n) h = record { step = branch b n; stated = refl; opens = λ k. refl }
-read_as version_2 goods m (leaf new) h = record { step = leaf (changed (all_zero goods) (changes_from 0 m new)); stated = refl; opens = λ k. refl }
+read_as version_2 goods m (leaf new) h = record { step = leaf (after_changes (all_zero goods) (changes_from 0 m new)); stated = refl; opens = λ k. refl }
 read_as version_2 goods m (dead b) h = record { step = dead b; stated = refl; opens = λ k. refl }
 
 module _ (s : State) where

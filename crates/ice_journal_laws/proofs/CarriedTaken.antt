@@ -5,7 +5,7 @@ use Rattle.std.specs.List.{AllByRecursion}
 use Rattle.ice_defs.specs.declared.Mark.TheVariants.{Never}
 use Rattle.ice_defs.specs.Trade.{Assignment}
 use Rattle.ice_defs.specs.Bound.{Multipliers}
-use Rattle.ice_defs.specs.Steps.{Step, branch, leaf, dead, Side, with_mark, sides_after, placed}
+use Rattle.ice_defs.specs.Steps.{Step, branch, leaf, dead, Side, with_mark, sides_after, steps_with_sides}
 use Rattle.ice_defs.specs.Log.{Fault, Reads, ends, branches, stops, is_fixed, has_sign, is_dead_leaf, closes, is_above, is_dead, is_alive, Passes}
 use Rattle.ice_defs.specs.declared.Group.{Group}
 use Rattle.ice_refute.specs.Code.{CountsGoods}
@@ -87,7 +87,7 @@ module _ (P : State → Taken → Type 0) where
 
     -- each of these steps has the property at its side
     abbrev Each : List Side → List Step → Type 0
-    Each sides log = AllByRecursion (λ p. Q p.0 p.1) (placed sides log)
+    Each sides log = AllByRecursion (λ p. Q p.0 p.1) (steps_with_sides sides log)
 
     abbrev GoesOn : List Side → List Step → Type 0
     GoesOn others left = (m : Multipliers) → length m ≡ goods_at s → Counts left → Each others left → (n : ℕ) → EachTaken P (to_line n (after_step s g found others m)) (step_records s.version m left)

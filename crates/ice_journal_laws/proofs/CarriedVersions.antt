@@ -10,7 +10,7 @@ use Rattle.ice_defs.specs.Session.{Proved, Settlement, Regretted}
 use Rattle.ice_refute.specs.Code.{CountsGoods}
 use Rattle.ice_journal.specs.Records.{Record, Kind, version_1, version_2, regret_kind, regret_end}
 use Rattle.ice_journal.specs.Records as line
-use Rattle.ice_journal.specs.Plain.{goods_in, all_zero, plain_records, plain, changes_from, changed}
+use Rattle.ice_journal.specs.Plain.{goods_in, all_zero, plain_records, plain, changes_from, after_changes}
 use Rattle.ice_journal.proofs.Packed.{leaf_back, zeros}
 use Rattle.ice_section.specs.Described.{section_records}
 use Rattle.ice_journal_laws.specs.Written.{proved_records, regret_records, regretted_records}
@@ -56,7 +56,7 @@ module _ (goods : ℕ) where
   steps_say m [] count counts = refl
   steps_say m (branch b n ∷ log) count counts = ap (λ (rs : List Record). line.step (branch b n) ∷ rs) (steps_say m log count counts.1)
   steps_say m (leaf new ∷ log) count counts =
-      let back : changed m (changes_from 0 m new) ≡ new = leaf_back m new (count ∙ sym counts.0) in
+      let back : after_changes m (changes_from 0 m new) ≡ new = leaf_back m new (count ∙ sym counts.0) in
       ap (λ (k : Multipliers). line.step (leaf k) ∷ plain_records goods k (step_records version_2 new log)) back
       ∙ ap (λ (rs : List Record). line.step (leaf new) ∷ rs) (steps_say new log counts.0 counts.1)
   steps_say m (dead b ∷ log) count counts = ap (λ (rs : List Record). line.step (dead b) ∷ rs) (steps_say m log count counts.1)

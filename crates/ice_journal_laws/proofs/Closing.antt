@@ -12,9 +12,9 @@ use Rattle.ice_defs.specs.Trade.{set_of, weights_of}
 use Rattle.ice_defs.specs.Bounds.{Bounds}
 use Rattle.ice_defs.specs.Weighing.{lower_weights}
 use Rattle.ice_defs.specs.Vickrey.{IsBestWithout}
-use Rattle.ice_defs.specs.Fraction.{Fraction, whole, IsFraction, Equals, AtMost, less, fraction_at}
+use Rattle.ice_defs.specs.Fraction.{Fraction, whole_number, IsFraction, Equals, AtMost, minus, fraction_at}
 use Rattle.ice_defs.specs.Threshold.{vickrey_of, ArePayments}
-use Rattle.ice_defs.specs.Cut.{cut_down, cut_sum, IsCut}
+use Rattle.ice_defs.specs.Cut.{discount_at_cut, cut_sum, IsCut}
 use Rattle.ice_defs.specs.Exchange.{Bidder, Exchange, trees_of, exact_of, names_of}
 use Rattle.ice_defs.specs.Session.{Proved, Settlement, Payment}
 use Rattle.ice_defs.specs.Right.{own_values, IsSettled, IsClosed}
@@ -34,7 +34,7 @@ use Rattle.ice_journal_laws.proofs.Faultless.{covered}
 
 -- some Vickrey discount is at least the cut
 abbrev IsReached : Fraction → List ℤ → Type 0
-IsReached cut vickrey = Any (λ v. AtMost cut (whole v)) vickrey
+IsReached cut vickrey = Any (λ v. AtMost cut (whole_number v)) vickrey
 
 reached_there : (cut : Fraction) (v : ℤ) (vickrey : List ℤ) → IsReached cut vickrey → IsReached cut (v ∷ vickrey)
 reached_there cut v vickrey (k, x, l, e, h) = (suc k, x, omega (arith, l), e, h)
@@ -47,7 +47,7 @@ reached_or_not cut [] = inr none
 reached_or_not cut (v ∷ vickrey) = by (reached_or_not cut vickrey)
   where
     neither : ¬ IsReached cut vickrey → (v *ℤ pos cut.den) <ℤ (cut.num *ℤ pos 1) → ¬ IsReached cut (v ∷ vickrey)
-    neither none lower (zero, x, l, e, h) = let mine : AtMost cut (whole v) = subst (λ (y : ℤ). AtMost cut (whole y)) (sym e) h in omega (arith, ints, mine, lower)
+    neither none lower (zero, x, l, e, h) = let mine : AtMost cut (whole_number v) = subst (λ (y : ℤ). AtMost cut (whole_number y)) (sym e) h in omega (arith, ints, mine, lower)
     neither none lower (suc k, x, l, e, h) = none (k, x, omega (arith, l), e, h)
 
     by : IsReached cut vickrey ⊎ (¬ IsReached cut vickrey) → IsReached cut (v ∷ vickrey) ⊎ (¬ IsReached cut (v ∷ vickrey))
@@ -80,7 +80,7 @@ payment_line vickrey worth cut p h = record {
 -- ---- the payments so far
 
 abbrev pub no_payment : Payment
-no_payment = record { name = []; vickrey = pos 0; discount = whole (pos 0); payment = whole (pos 0) }
+no_payment = record { name = []; vickrey = pos 0; discount = whole_number (pos 0); payment = whole_number (pos 0) }
 
 abbrev pub payment_at : List Payment → ℕ → Payment
 payment_at payments i = slice_index_or payments i no_payment
@@ -139,13 +139,13 @@ all_cut cut (p ∷ payments) each = (each 0 (omega arith), all_cut cut payments 
 
 -- ---- the total
 
-nothing_below : (cut : Fraction) (vickrey : List ℤ) → AtMost (whole (pos 0)) (cut_sum cut vickrey)
+nothing_below : (cut : Fraction) (vickrey : List ℤ) → AtMost (whole_number (pos 0)) (cut_sum cut vickrey)
 nothing_below cut [] = omega (arith, ints)
-nothing_below cut (v ∷ vickrey) = AtMost-plus (whole (pos 0)) (whole (pos 0)) (cut_down cut v) (cut_sum cut vickrey) (at_least_0-low (less (whole v) cut)) (nothing_below cut vickrey)
+nothing_below cut (v ∷ vickrey) = AtMost-plus (whole_number (pos 0)) (whole_number (pos 0)) (discount_at_cut cut v) (cut_sum cut vickrey) (at_least_0-low (minus (whole_number v) cut)) (nothing_below cut vickrey)
 
-total_low : (cut : Fraction) (vickrey : List ℤ) (total : ℤ) → IsFraction cut → AtMost (cut_sum cut vickrey) (whole total) → pos 0 ≤ℤ total
+total_low : (cut : Fraction) (vickrey : List ℤ) (total : ℤ) → IsFraction cut → AtMost (cut_sum cut vickrey) (whole_number total) → pos 0 ≤ℤ total
 total_low cut vickrey total proper paid =
-    let low : AtMost (whole (pos 0)) (whole total) = AtMost-trans (whole (pos 0)) (cut_sum cut vickrey) (whole total) (proper-cut_sum cut vickrey proper) (nothing_below cut vickrey) paid in
+    let low : AtMost (whole_number (pos 0)) (whole_number total) = AtMost-trans (whole_number (pos 0)) (cut_sum cut vickrey) (whole_number total) (proper-cut_sum cut vickrey proper) (nothing_below cut vickrey) paid in
     omega (arith, ints, low, times_one total)
 
 -- ---- the last settlement
@@ -186,7 +186,7 @@ module _ (ex : Exchange) (bounds : List Bounds) (x : Settlement) (ps : List Prov
         payable = record { proper = h.cut_proper; low = h.line.low; paid = h.line.paid };
         place = k;
         within = l;
-        high = subst (λ (y : ℤ). AtMost cut (whole y)) (sym (get_or_default vickreys k (pos 0) v l ∙ e)) high;
+        high = subst (λ (y : ℤ). AtMost cut (whole_number y)) (sym (get_or_default vickreys k (pos 0) v l ∙ e)) high;
         spent = h.line.spent;
       }
 
@@ -195,7 +195,7 @@ module _ (ex : Exchange) (bounds : List Bounds) (x : Settlement) (ps : List Prov
       let is = h.paid.each i l in
       record {
         proper = is.discount_proper;
-        equal = subst (λ (v : ℤ). Equals (payment_at payments i).discount (cut_down cut v)) (sym is.line.vickrey_is) is.line.discount;
+        equal = subst (λ (v : ℤ). Equals (payment_at payments i).discount (discount_at_cut cut v)) (sym is.line.vickrey_is) is.line.discount;
       })
 
   paid_each : HasClosed → ArePayments (own_values bounds x.final.sets) (map (λ (p : Payment). p.discount) payments) (map (λ (p : Payment). p.payment) payments)
@@ -203,9 +203,9 @@ module _ (ex : Exchange) (bounds : List Bounds) (x : Settlement) (ps : List Prov
     same_length = length-map payments (λ (p : Payment). p.payment) ∙ h.payments_count ∙ sym h.bounds_count ∙ sym values_count;
     proper = λ i l. subst IsFraction (sym (at_map (λ (p : Payment). p.payment) payments i no_payment)) (h.paid.each i (there i l)).payment_proper;
     each = λ i l.
-        subst (λ (f : Fraction). Equals f (less (vickrey_of (own_values bounds x.final.sets) i) (fraction_at (map (λ (p : Payment). p.discount) payments) i))) (sym (at_map (λ (p : Payment). p.payment) payments i no_payment))
-        (subst (λ (f : Fraction). Equals (payment_at payments i).payment (less (vickrey_of (own_values bounds x.final.sets) i) f)) (sym (at_map (λ (p : Payment). p.discount) payments i no_payment))
-        (subst (λ (v : ℤ). Equals (payment_at payments i).payment (less (whole v) (payment_at payments i).discount)) (sym (own_is i l)) (h.paid.each i (there i l)).line.payment));
+        subst (λ (f : Fraction). Equals f (minus (vickrey_of (own_values bounds x.final.sets) i) (fraction_at (map (λ (p : Payment). p.discount) payments) i))) (sym (at_map (λ (p : Payment). p.payment) payments i no_payment))
+        (subst (λ (f : Fraction). Equals (payment_at payments i).payment (minus (vickrey_of (own_values bounds x.final.sets) i) f)) (sym (at_map (λ (p : Payment). p.discount) payments i no_payment))
+        (subst (λ (v : ℤ). Equals (payment_at payments i).payment (minus (whole_number v) (payment_at payments i).discount)) (sym (own_is i l)) (h.paid.each i (there i l)).line.payment));
   }
     where
       values_count : length (own_values bounds x.final.sets) ≡ length bounds
@@ -237,5 +237,5 @@ module _ (ex : Exchange) (bounds : List Bounds) (x : Settlement) (ps : List Prov
     payments = paid_each h;
     surplus =
         surplus_of cut surplus (map (λ (p : Payment). p.discount) payments) (map (λ (p : Payment). p.vickrey) payments) x.final.value h.cut_proper (cut_down_each h) h.surplus_proper
-        (subst (λ (vs : List ℤ). Equals surplus (less (whole x.final.value) (cut_sum cut vs))) (sym (paid_vickreys h)) h.line.rest);
+        (subst (λ (vs : List ℤ). Equals surplus (minus (whole_number x.final.value) (cut_sum cut vs))) (sym (paid_vickreys h)) h.line.rest);
   }

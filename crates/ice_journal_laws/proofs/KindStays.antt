@@ -15,7 +15,7 @@ use Rattle.ice_journal.specs.Records as line
 use Rattle.ice_section.specs.Section.{Section, SectionFault, order, count, no_good, maker, take_record, may_end}
 use Rattle.ice_journal_laws.specs.Fields.{head_value, set_in, is_assign, settlement_in, is_spent, step_in, multipliers_after, amount_in, prices_in, is_limit, is_pool, accuracy_in, balance_in, row_in, verdict_in, threshold_in, payment_in, is_end, is_round_stop}
 use Rattle.ice_journal_laws.specs.State.{Stated, Place, at_section, at_group, at_sets, at_log, at_regret, at_prices, at_accuracy, at_accuracy_rows, at_balance_rows, at_round, at_verdict, at_threshold, at_payment, at_spent_sets, at_spent_log, at_pool, at_end, done, State, exchange_at, goods_at}
-use Rattle.ice_journal_laws.specs.Next.{next, next_at, go_to, to_line, bidder_count, if_true, or_stop, may_have_row, with_row, from_head, after_sets, with_set, after_log, after_step, after_regret, to_balance, settled, to_settlement, from_round, open_after, from_end, after_section, section_ended, from_section}
+use Rattle.ice_journal_laws.specs.Next.{next, next_at, go_to, to_line, bidder_count, if_true, or_stop, may_have_row, with_row, from_head, after_sets, with_set, after_log, after_step, after_regret, to_balance, next_settlement, to_settlement, from_round, open_after, from_end, after_section, past_section, from_section}
 use Rattle.ice_journal_laws.specs.Progress.{passing, passes_on, fails_at, list_fails_at, Leads, stays, goes}
 use Rattle.ice_journal_laws.proofs.Leading.{failed_passes}
 
@@ -83,8 +83,8 @@ of_after s session_kind r =
 of_after s exchange_kind r = tt
 of_after s prices_kind r = tt
 
-of_ended : (b : Bool) (s : State) (r : Record) → Keeps s.kind (cond b (after_section (section_ended s) s.kind r) None)
-of_ended true s r = of_after (section_ended s) s.kind r
+of_ended : (b : Bool) (s : State) (r : Record) → Keeps s.kind (cond b (after_section (past_section s) s.kind r) None)
+of_ended true s r = of_after (past_section s) s.kind r
 of_ended false s r = tt
 
 of_section : (s : State) (r : Record) (o : Result Section SectionFault) → Keeps s.kind (from_section s r o)
@@ -95,7 +95,7 @@ of_section s r (Err no_good) = refl
 of_section s r (Err (maker number)) = refl
 
 of_settlement : (s : State) (r : Record) → Keeps s.kind (to_settlement s r)
-of_settlement s r = of_then s.kind (λ number. if_true (number == suc s.number) (settled s)) (settlement_in r) (λ number. of_test s.kind (number == suc s.number) (settled s) refl)
+of_settlement s r = of_then s.kind (λ number. if_true (number == suc s.number) (next_settlement s)) (settlement_in r) (λ number. of_test s.kind (number == suc s.number) (next_settlement s) refl)
 
 of_round : (s : State) (r : Record) → Keeps s.kind (from_round s r)
 of_round s (line.submit x) = refl

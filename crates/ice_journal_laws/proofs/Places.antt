@@ -11,10 +11,10 @@ use Rattle.ice_journal_laws.specs.declared.rule.Rule.{Rule}
 use Rattle.ice_journal_laws.specs.declared.rule.Rule.TheVariants as rule
 use Rattle.ice_journal_laws.specs.State.{Place, State}
 use Rattle.ice_journal_laws.specs.Fields.{is_spent, is_limit, is_round_stop}
-use Rattle.ice_journal_laws.specs.Next.{next, to_line, go_to, from_section, after_section, section_ended}
+use Rattle.ice_journal_laws.specs.Next.{next, to_line, go_to, from_section, after_section, past_section}
 use Rattle.ice_journal_laws.specs.Tests.{Fails, place_of, is_refusal, ended_list}
 use Rattle.ice_journal_laws.specs.Progress.{passing, failed, TakesOn, passes_on, fails_at}
-use Rattle.ice_journal_laws.specs.Assigning.{describing, section_of, described}
+use Rattle.ice_journal_laws.specs.Assigning.{section_state, section_of, exchange_state}
 
 -- ---- a record that may not stand there
 
@@ -75,36 +75,36 @@ describes_where s r not_order = by (only_describing s r (describes r) refl)
     by (inr e) = e
 
 pub section_next : (v : Version) (k : Kind) (number : ℕ) (s : Section) (r : Record) (o : Result Section SectionFault) → take_record s r ≡ o
-    → next (describing v k number s) r ≡ option_map (to_line (suc number)) (from_section (describing v k number s) r o)
-section_next v k number s r o e = ap (λ (x : Result Section SectionFault). option_map (to_line (suc number)) (from_section (describing v k number s) r x)) e
+    → next (section_state v k number s) r ≡ option_map (to_line (suc number)) (from_section (section_state v k number s) r o)
+section_next v k number s r o e = ap (λ (x : Result Section SectionFault). option_map (to_line (suc number)) (from_section (section_state v k number s) r x)) e
 
-pub section_on : (v : Version) (k : Kind) (number : ℕ) (s after : Section) (r : Record) → take_record s r ≡ Ok after → TakesOn (describing v k number s) r (passing (describing v k (suc number) after))
+pub section_on : (v : Version) (k : Kind) (number : ℕ) (s after : Section) (r : Record) → take_record s r ≡ Ok after → TakesOn (section_state v k number s) r (passing (section_state v k (suc number) after))
 section_on v k number s after r taken = passes_on (λ z e. absurd (none-some z e)) quiet (record { leaf = tt; violation = tt; list = tt; verdict = tt }) (section_next v k number s r (Ok after) taken)
   where
     apart : Ok after ≡ Err order → ⊥
     apart e = cc
 
-    quiet : (z : Rule) → ¬ Fails z (describing v k number s) r
+    quiet : (z : Rule) → ¬ Fails z (section_state v k number s) r
     quiet rule.Closed h = false≢true (sym (no_stop r (describes_where s r (λ e. apart (sym taken ∙ e)))) ∙ h.0)
     quiet rule.Order h = none-some _ (sym h ∙ section_next v k number s r (Ok after) taken)
     quiet rule.Exchange h = false≢true (ap is_refusal (sym taken) ∙ h.1)
     quiet other h = h
 
 -- a maker refuses
-pub section_refused : (v : Version) (k : Kind) (number : ℕ) (s : Section) (r : Record) → is_refusal (take_record s r) ≡ true → TakesOn (describing v k number s) r (failed (record { line = number; rule = rule.Exchange }))
+pub section_refused : (v : Version) (k : Kind) (number : ℕ) (s : Section) (r : Record) → is_refusal (take_record s r) ≡ true → TakesOn (section_state v k number s) r (failed (record { line = number; rule = rule.Exchange }))
 section_refused v k number s r refused = fails_at (λ z e. absurd (none-some z e)) ((refl, refused), least)
   where
     not_order : take_record s r ≡ Err order → ⊥
     not_order e = false≢true (sym (ap is_refusal e) ∙ refused)
 
-    stays : (o : Result Section SectionFault) → is_refusal o ≡ true → take_record s r ≡ o → next (describing v k number s) r ≡ None → ⊥
+    stays : (o : Result Section SectionFault) → is_refusal o ≡ true → take_record s r ≡ o → next (section_state v k number s) r ≡ None → ⊥
     stays (Ok after) refusal e none = false≢true refusal
     stays (Err order) refusal e none = false≢true refusal
     stays (Err count) refusal e none = none-some _ (sym none ∙ section_next v k number s r (Err count) e)
     stays (Err no_good) refusal e none = none-some _ (sym none ∙ section_next v k number s r (Err no_good) e)
     stays (Err (maker fault)) refusal e none = none-some _ (sym none ∙ section_next v k number s r (Err (maker fault)) e)
 
-    least : (z : Rule) → place_of z < 3 → ¬ Fails z (describing v k number s) r
+    least : (z : Rule) → place_of z < 3 → ¬ Fails z (section_state v k number s) r
     least rule.Closed l h = false≢true (sym (no_stop r (describes_where s r not_order)) ∙ h.0)
     least rule.Order l h = stays (take_record s r) refused refl h
     least rule.Short l h = h
@@ -112,28 +112,28 @@ section_refused v k number s r refused = fails_at (λ z e. absurd (none-some z e
 
 -- the exchange is complete, and what is stated behind it begins
 module _ (v : Version) (k : Kind) (number : ℕ) (s : Section) (r : Record) (place : Place) (ended : may_end s ≡ true) (whole : s ≡ section_of (exchange_in s))
-    (misfits : take_record s r ≡ Err order) (goes : after_section (section_ended (describing v k number s)) k r ≡ Some (go_to place (section_ended (describing v k number s)))) where
+    (misfits : take_record s r ≡ Err order) (goes : after_section (past_section (section_state v k number s)) k r ≡ Some (go_to place (past_section (section_state v k number s)))) where
   Behind : State
-  Behind = record (described v k (suc number) (exchange_in s)) { place = place }
+  Behind = record (exchange_state v k (suc number) (exchange_in s)) { place = place }
 
-  behind_is : next (describing v k number s) r ≡ Some (record (described v k (suc number) (exchange_in s)) { place = place })
+  behind_is : next (section_state v k number s) r ≡ Some (record (exchange_state v k (suc number) (exchange_in s)) { place = place })
   behind_is =
       section_next v k number s r (Err order) misfits
-      ∙ ap (λ (b : Bool). option_map (to_line (suc number)) (cond b (after_section (section_ended (describing v k number s)) k r) None)) ended
+      ∙ ap (λ (b : Bool). option_map (to_line (suc number)) (cond b (after_section (past_section (section_state v k number s)) k r) None)) ended
       ∙ ap (λ (o : Option State). option_map (to_line (suc number)) o) goes
-      ∙ ap (λ (x : Section). let y : Option State = Some (record (described v k (suc number) (exchange_in s)) { section = x; place = place }) in y) whole
+      ∙ ap (λ (x : Section). let y : Option State = Some (record (exchange_state v k (suc number) (exchange_in s)) { section = x; place = place }) in y) whole
 
-  pub section_leads : (is_spent r || is_limit r || is_round_stop 2 r) ≡ false → TakesOn (describing v k number s) r (passing (record (described v k (suc number) (exchange_in s)) { place = place }))
+  pub section_leads : (is_spent r || is_limit r || is_round_stop 2 r) ≡ false → TakesOn (section_state v k number s) r (passing (record (exchange_state v k (suc number) (exchange_in s)) { place = place }))
   section_leads no_stop = passes_on (λ z e. absurd (none-some z e)) quiet (record { leaf = tt; violation = tt; list = tt; verdict = tt }) behind_is
     where
-      quiet : (z : Rule) → ¬ Fails z (describing v k number s) r
+      quiet : (z : Rule) → ¬ Fails z (section_state v k number s) r
       quiet rule.Closed h = false≢true (sym no_stop ∙ h.0)
       quiet rule.Order h = none-some _ (sym h ∙ behind_is)
       quiet rule.Exchange h = false≢true (ap is_refusal (sym misfits) ∙ h.1)
       quiet other h = h
 
   -- a stop stands there
-  pub section_stops : (is_spent r || is_limit r || is_round_stop 2 r) ≡ true → TakesOn (describing v k number s) r (failed (record { line = number; rule = rule.Closed }))
+  pub section_stops : (is_spent r || is_limit r || is_round_stop 2 r) ≡ true → TakesOn (section_state v k number s) r (failed (record { line = number; rule = rule.Closed }))
   section_stops stop = fails_at (λ z e. absurd (none-some z e)) ((stop, ap is_some behind_is), λ z l f. absurd (omega (arith, l)))
 
 pub section_is_whole : (s : Section) → is_some s.settings ≡ true → may_end s ≡ true → s ≡ section_of (exchange_in s)

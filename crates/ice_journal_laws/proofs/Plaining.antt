@@ -16,7 +16,7 @@ use Rattle.ice_defs.specs.Exchange.{Good, Bidder, Exchange, exact_of}
 use Rattle.ice_journal.specs.Records.{Record, Version, version_1, version_2, Kind, Change}
 use Rattle.ice_journal.specs.Nodes.{node_record}
 use Rattle.ice_journal.specs.Records as line
-use Rattle.ice_journal.specs.Plain.{changed, goods_in, all_zero, plain_records, plain}
+use Rattle.ice_journal.specs.Plain.{after_changes, goods_in, all_zero, plain_records, plain}
 use Rattle.ice_section.specs.Section.{good_record}
 use Rattle.ice_section.specs.Described.{node_records, bidder_records, section_records}
 use Rattle.ice_refute.specs.Code.{CountsGoods}
@@ -28,19 +28,19 @@ use Rattle.ice_journal_laws.proofs.Single.{some_same}
 -- the multipliers that the next changes are applied to
 abbrev pub kept : ℕ → Multipliers → List Record → Multipliers
 kept goods m [] = m
-kept goods m (line.near changes ∷ rest) = kept goods (changed m changes) rest
+kept goods m (line.near changes ∷ rest) = kept goods (after_changes m changes) rest
 kept goods m (line.step s ∷ rest) = kept goods m rest
 kept goods m (r ∷ rest) = kept goods (all_zero goods) rest
 
 pub plain_more : (goods : ℕ) (m : Multipliers) (xs ys : List Record) → plain_records goods m (xs ++ ys) ≡ plain_records goods m xs ++ plain_records goods (kept goods m xs) ys
 plain_more goods m [] ys = refl
-plain_more goods m (line.near changes ∷ xs) ys = ap (λ (rs : List Record). line.step (leaf (changed m changes)) ∷ rs) (plain_more goods (changed m changes) xs ys)
+plain_more goods m (line.near changes ∷ xs) ys = ap (λ (rs : List Record). line.step (leaf (after_changes m changes)) ∷ rs) (plain_more goods (after_changes m changes) xs ys)
 plain_more goods m (line.step s ∷ xs) ys = ap (λ (rs : List Record). line.step s ∷ rs) (plain_more goods m xs ys)
 plain_more goods m (r ∷ xs) ys = ap (λ (rs : List Record). r ∷ rs) (plain_more goods (all_zero goods) xs ys)
 
 kept_more : (goods : ℕ) (m : Multipliers) (xs ys : List Record) → kept goods m (xs ++ ys) ≡ kept goods (kept goods m xs) ys
 kept_more goods m [] ys = refl
-kept_more goods m (line.near changes ∷ xs) ys = kept_more goods (changed m changes) xs ys
+kept_more goods m (line.near changes ∷ xs) ys = kept_more goods (after_changes m changes) xs ys
 kept_more goods m (line.step s ∷ xs) ys = kept_more goods m xs ys
 kept_more goods m (r ∷ xs) ys = kept_more goods (all_zero goods) xs ys
 
@@ -117,7 +117,7 @@ unchanged_is goods m (dead b) x e =
     let is : dead b ≡ x = some_same (Some (dead b)) (dead b) x refl e in
     (is, subst (CountsGoods goods) is tt, subst (λ (y : Step). multipliers_after m y ≡ m) is refl)
 
-pub changed_length : (m : Multipliers) (changes : List Change) → length (changed m changes) ≡ length m
+pub changed_length : (m : Multipliers) (changes : List Change) → length (after_changes m changes) ≡ length m
 changed_length m [] = refl
 changed_length m (c ∷ later) = changed_length _ later ∙ length-set m c.good c.multiplier
 
@@ -149,16 +149,16 @@ step_2 goods records said m s x count wrote last e =
       length = length_after goods m x count counts;
     }
 
-leaf_2 : (goods : ℕ) (records said : List Record) (m : Multipliers) (changes : List Change) (x : Step) → length m ≡ goods → Wrote version_2 goods records said → IsLast version_2 goods records m → leaf (changed m changes) ≡ x
+leaf_2 : (goods : ℕ) (records said : List Record) (m : Multipliers) (changes : List Change) (x : Step) → length m ≡ goods → Wrote version_2 goods records said → IsLast version_2 goods records m → leaf (after_changes m changes) ≡ x
     → WroteStep version_2 goods (records ++ line.near changes ∷ []) said m x
 leaf_2 goods records said m changes x count wrote last is = subst (WroteStep version_2 goods (records ++ line.near changes ∷ []) said m) is (record {
   wrote = record {
     said = plain_more goods (all_zero goods) records (line.near changes ∷ [])
-        ∙ ap (λ (n : Multipliers). plain_records goods (all_zero goods) records ++ line.step (leaf (changed n changes)) ∷ []) last
-        ∙ ap (λ (rs : List Record). rs ++ line.step (leaf (changed m changes)) ∷ []) wrote.said;
+        ∙ ap (λ (n : Multipliers). plain_records goods (all_zero goods) records ++ line.step (leaf (after_changes n changes)) ∷ []) last
+        ∙ ap (λ (rs : List Record). rs ++ line.step (leaf (after_changes m changes)) ∷ []) wrote.said;
     goods = goods_no_more goods records (line.near changes) refl wrote.goods;
   };
-  last = kept_more goods (all_zero goods) records (line.near changes ∷ []) ∙ ap (λ (n : Multipliers). changed n changes) last;
+  last = kept_more goods (all_zero goods) records (line.near changes ∷ []) ∙ ap (λ (n : Multipliers). after_changes n changes) last;
   counts = changed_length m changes ∙ count;
   length = changed_length m changes ∙ count;
 })
@@ -168,7 +168,7 @@ pub wrote_step : (version : Version) (goods : ℕ) (records said : List Record) 
 wrote_step version_1 goods records said m (line.step s) x count wrote last e = step_1 goods records said m s x count wrote e
 wrote_step version_2 goods records said m (line.step s) x count wrote last e = step_2 goods records said m s x count wrote last e
 wrote_step version_2 goods records said m (line.near changes) x count wrote last e =
-    leaf_2 goods records said m changes x count wrote last (some_same (Some (leaf (changed m changes))) (leaf (changed m changes)) x refl e)
+    leaf_2 goods records said m changes x count wrote last (some_same (Some (leaf (after_changes m changes))) (leaf (after_changes m changes)) x refl e)
 wrote_step version goods records said m other x count wrote last e = absurd (none-some x e)
 
 -- ---- the section

@@ -15,7 +15,7 @@ use Rattle.ice_journal_laws.specs.declared.rule.Rule.{Rule}
 use Rattle.ice_journal_laws.specs.declared.rule.Rule.TheVariants as rule
 use Rattle.ice_journal_laws.specs.State.{at_prices, at_accuracy, at_accuracy_rows, at_round, at_verdict, at_pool, State, exchange_at, settings_at, trees_at, goods_at}
 use Rattle.ice_journal_laws.specs.Fields.{is_limit, prices_in, Accuracy, accuracy_in, submission_in, verdict_in}
-use Rattle.ice_journal_laws.specs.Next.{next, to_line, go_to, if_true, or_stop, from_round, to_settlement, settled}
+use Rattle.ice_journal_laws.specs.Next.{next, to_line, go_to, if_true, or_stop, from_round, to_settlement, next_settlement}
 use Rattle.ice_journal_laws.specs.Tests.{Fails, place_of, AreUnlawful, offered_weights}
 use Rattle.ice_journal_laws.specs.Progress.{passing, failed, TakesOn, passes_on, fails_at}
 use Rattle.ice_journal_laws.proofs.Places.{fails_order}
@@ -112,10 +112,10 @@ module _ (s : State) where
       quiet other h = h
 
   module _ (number : ℕ) (follows : eqb number (suc s.number) ≡ true) where
-    settles_next : next AtRound (line.settle number) ≡ Some (to_line (suc s.line) (settled s))
-    settles_next = ap (λ (b : Bool). option_map (to_line (suc s.line)) (if_true b (settled AtRound))) follows
+    settles_next : next AtRound (line.settle number) ≡ Some (to_line (suc s.line) (next_settlement s))
+    settles_next = ap (λ (b : Bool). option_map (to_line (suc s.line)) (if_true b (next_settlement AtRound))) follows
 
-    pub round_settles : TakesOn (go_to at_round s) (line.settle number) (passing (to_line (suc s.line) (settled s)))
+    pub round_settles : TakesOn (go_to at_round s) (line.settle number) (passing (to_line (suc s.line) (next_settlement s)))
     round_settles = passes_on (λ z e. absurd (none-some z e)) quiet (record { leaf = tt; violation = tt; list = tt; verdict = tt }) settles_next
       where
         quiet : (z : Rule) → ¬ Fails z AtRound (line.settle number)

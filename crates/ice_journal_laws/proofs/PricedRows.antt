@@ -16,7 +16,7 @@ use Rattle.ice_journal_laws.specs.declared.rule.Rule.{Rule}
 use Rattle.ice_journal_laws.specs.declared.rule.Rule.TheVariants as rule
 use Rattle.ice_journal_laws.specs.State.{at_accuracy_rows, at_balance_rows, at_verdict, done, State, trees_at}
 use Rattle.ice_journal_laws.specs.Fields.{is_round_stop, balance_in, row_in, submission_in}
-use Rattle.ice_journal_laws.specs.Next.{next, to_line, go_to, if_true, or_stop, may_have_row, with_row, to_settlement, settled}
+use Rattle.ice_journal_laws.specs.Next.{next, to_line, go_to, if_true, or_stop, may_have_row, with_row, to_settlement, next_settlement}
 use Rattle.ice_journal_laws.specs.Tests.{Fails, place_of, AccuracyHolds, BalanceHolds}
 use Rattle.ice_journal_laws.specs.Progress.{passing, failed, TakesOn, passes_on, fails_at, list_fails_at, EndsList}
 use Rattle.ice_journal_laws.specs.Assigning.{rule_of}
@@ -225,10 +225,10 @@ module _ (s : State) (den : ℕ) (rows : List Row) where
 
     -- the next settlement follows
     module _ (number : ℕ) (follows : eqb number (suc s.number) ≡ true) where
-      b_settles_next : next bAt (line.settle number) ≡ Some (to_line (suc s.line) (settled s))
-      b_settles_next = ap (λ (t : Bool). option_map (to_line (suc s.line)) (or_stop false (go_to done bAt) (with_row rows (at_balance_rows den) bAt (line.settle number) (if_true t (settled bAt))))) follows
+      b_settles_next : next bAt (line.settle number) ≡ Some (to_line (suc s.line) (next_settlement s))
+      b_settles_next = ap (λ (t : Bool). option_map (to_line (suc s.line)) (or_stop false (go_to done bAt) (with_row rows (at_balance_rows den) bAt (line.settle number) (if_true t (next_settlement bAt))))) follows
 
-      pub b_settles : TakesOn (go_to (at_balance_rows den rows) s) (line.settle number) (passing (to_line (suc s.line) (settled s)))
+      pub b_settles : TakesOn (go_to (at_balance_rows den rows) s) (line.settle number) (passing (to_line (suc s.line) (next_settlement s)))
       b_settles = passes_on (b_ends (line.settle number)) quiet (record { leaf = tt; violation = tt; list = λ _. tt; verdict = tt }) b_settles_next
         where
           quiet : (z : Rule) → ¬ Fails z bAt (line.settle number)

@@ -25,7 +25,7 @@ use Rattle.ice_journal_laws.specs.declared.rule.Rule.{Rule}
 use Rattle.ice_journal_laws.specs.declared.rule.Rule.TheVariants as rule
 use Rattle.ice_journal_laws.specs.Fields.{head_value}
 use Rattle.ice_journal_laws.specs.State.{Stated, Place, at_section, at_group, at_sets, at_log, at_regret, at_end, done, State, exchange_at, goods_at}
-use Rattle.ice_journal_laws.specs.Next.{next, go_to, to_line, bidder_count, from_section, after_section, section_ended, from_head, after_regret}
+use Rattle.ice_journal_laws.specs.Next.{next, go_to, to_line, bidder_count, from_section, after_section, past_section, from_head, after_regret}
 use Rattle.ice_journal_laws.specs.Tests.{Fails, Holds, is_refusal}
 use Rattle.ice_journal_laws.specs.Written.{proved_records, regret_records}
 use Rattle.ice_journal_laws.proofs.Faultless.{covered}
@@ -94,9 +94,9 @@ module _ (lawful : SectionIsLawful) (described : SectionRecords) (refutes : LogR
   -- the record after the section
   ends_section : (version : Version) (before : List Record) (s : State) (r : Record) (after : State) → s.version ≡ version → s.kind ≡ regret_kind → AllByRecursion IsRecord before
       → take_records no_section before ≡ Ok s.section → may_end s.section ≡ true → next (go_to at_section s) r ≡ Some after → ¬ Fails rule.Closed (go_to at_section s) r
-      → option_map (to_line (suc s.line)) (from_head (section_ended (go_to at_section s)) Final r (head_value Final r)) ≡ Some after → IsStanding version (before ++ r ∷ []) after
+      → option_map (to_line (suc s.line)) (from_head (past_section (go_to at_section s)) Final r (head_value Final r)) ≡ Some after → IsStanding version (before ++ r ∷ []) after
   ends_section version before s r after same kind records taken ended is pass e =
-      head_begins (go_to at_section s) (section_ended (go_to at_section s)) Final r (suc s.line) after is pass e (λ x t. IsStanding version (before ++ x ∷ []) t)
+      head_begins (go_to at_section s) (past_section (go_to at_section s)) Final r (suc s.line) after is pass e (λ x t. IsStanding version (before ++ x ∷ []) t)
       (λ value. record {
         same_version = same;
         kind = kind;
@@ -121,9 +121,9 @@ module _ (lawful : SectionIsLawful) (described : SectionRecords) (refutes : LogR
   })
   in_section version before s r after (Err order) same kind records taken is pass e f refused = by (may_end s.section) refl f
     where
-      by : (b : Bool) → may_end s.section ≡ b → option_map (to_line (suc s.line)) (cond b (after_section (section_ended (go_to at_section s)) s.kind r) None) ≡ Some after → IsStanding version (before ++ r ∷ []) after
+      by : (b : Bool) → may_end s.section ≡ b → option_map (to_line (suc s.line)) (cond b (after_section (past_section (go_to at_section s)) s.kind r) None) ≡ Some after → IsStanding version (before ++ r ∷ []) after
       by true ended h = ends_section version before s r after same kind records taken ended is pass
-          (subst (λ (k : Kind). option_map (to_line (suc s.line)) (after_section (section_ended (go_to at_section s)) k r) ≡ Some after) kind h)
+          (subst (λ (k : Kind). option_map (to_line (suc s.line)) (after_section (past_section (go_to at_section s)) k r) ≡ Some after) kind h)
       by false ended h = absurd (none-some after h)
   in_section version before s r after (Err count) same kind records taken is pass e f refused = absurd (refused refl)
   in_section version before s r after (Err no_good) same kind records taken is pass e f refused = absurd (refused refl)

@@ -1,7 +1,7 @@
 -- The regret and the surplus that a session says are functions of its records.
 use Rattle.std.proofs.Common.{◌≡◌, ℕ, suc, List, [], ◌∷◌, ◌++◌, map, ℤ, pos, refl, ◌∙◌, ap}
 use Rattle.std.specs.Prelude.{Option, None, option_map, unwrap_or}
-use Rattle.ice_defs.specs.Fraction.{Fraction, whole}
+use Rattle.ice_defs.specs.Fraction.{Fraction, whole_number}
 use Rattle.ice_defs.specs.Session.{Proved, Settlement, Going, Closed, Session}
 use Rattle.ice_journal.specs.Records.{Record, version_1, session_kind, closed_end}
 use Rattle.ice_journal.specs.Records as line
@@ -78,7 +78,7 @@ abbrev surplus_in : Record → Option Fraction
 surplus_in r = option_map (λ (c : Closing). c.surplus) (threshold_in r)
 
 abbrev pub surplus_said : List Record → Fraction
-surplus_said records = told surplus_in (whole (pos 0)) records
+surplus_said records = told surplus_in (whole_number (pos 0)) records
 
 closed_surplus : (number : ℕ) (c : Closed) (a : Fraction) → told surplus_in a (closed_records number c) ≡ c.surplus
 closed_surplus number c a =
@@ -94,5 +94,5 @@ settlements_surplus number (g ∷ later) c a =
 
 pub surplus_of_session : (x : Session) → surplus_said (session_records x) ≡ x.closed.surplus
 surplus_of_session x =
-    told_append surplus_in (whole (pos 0)) (line.head version_1 session_kind ∷ section_records x.exchange) (settlement_records 0 x.going x.closed)
-    ∙ settlements_surplus 0 x.going x.closed (told surplus_in (whole (pos 0)) (section_records x.exchange))
+    told_append surplus_in (whole_number (pos 0)) (line.head version_1 session_kind ∷ section_records x.exchange) (settlement_records 0 x.going x.closed)
+    ∙ settlements_surplus 0 x.going x.closed (told surplus_in (whole_number (pos 0)) (section_records x.exchange))

@@ -9,8 +9,8 @@ use Rattle.std.proofs.lemmas.Slice.Eq.{bytes_eq-Decides}
 use Rattle.ice_defs.specs.Set.{value}
 use Rattle.ice_defs.specs.Trade.{Assignment, set_of, weights_of}
 use Rattle.ice_defs.specs.Weighing.{lower_weights}
-use Rattle.ice_defs.specs.Fraction.{Fraction, whole, IsFraction, Equals, less}
-use Rattle.ice_defs.specs.Cut.{cut_down}
+use Rattle.ice_defs.specs.Fraction.{Fraction, whole_number, IsFraction, Equals, minus}
+use Rattle.ice_defs.specs.Cut.{discount_at_cut}
 use Rattle.ice_frac.proofs.Fractions.{Equals-trans, Equals-less, proper_less}
 use Rattle.ice_defs.specs.Exchange.{names_of}
 use Rattle.ice_defs.specs.Session.{Proved, Settlement, Going, Payment, Closed}
@@ -102,13 +102,13 @@ module _ (perturbed : PerturbedGivesRegret) (before : List Record) (s : State) (
       paid = λ i l.
           let there : i < length payments = omega (arith, l, length-map payments (λ (p : Payment). p.payment)) in
           let one = h.paid.each i there in
-          let at = get_or-map (λ (p : Payment). p.payment) payments i no_payment (whole (pos 0)) there in (
+          let at = get_or-map (λ (p : Payment). p.payment) payments i no_payment (whole_number (pos 0)) there in (
             final_worth s i,
             slice_index_or (vickreys s) i (pos 0),
-            subst (λ (f : Fraction). Equals f (less (whole (final_worth s i)) (cut_down s.cut (slice_index_or (vickreys s) i (pos 0))))) (sym at)
-                (Equals-trans (payment_at payments i).payment (less (whole (final_worth s i)) (payment_at payments i).discount) (less (whole (final_worth s i)) (cut_down s.cut (slice_index_or (vickreys s) i (pos 0))))
+            subst (λ (f : Fraction). Equals f (minus (whole_number (final_worth s i)) (discount_at_cut s.cut (slice_index_or (vickreys s) i (pos 0))))) (sym at)
+                (Equals-trans (payment_at payments i).payment (minus (whole_number (final_worth s i)) (payment_at payments i).discount) (minus (whole_number (final_worth s i)) (discount_at_cut s.cut (slice_index_or (vickreys s) i (pos 0))))
                 (proper_less (final_worth s i) (payment_at payments i).discount one.discount_proper) one.line.payment
-                (Equals-less (whole (final_worth s i)) (payment_at payments i).discount (whole (final_worth s i)) (cut_down s.cut (slice_index_or (vickreys s) i (pos 0))) refl one.line.discount)),
+                (Equals-less (whole_number (final_worth s i)) (payment_at payments i).discount (whole_number (final_worth s i)) (discount_at_cut s.cut (slice_index_or (vickreys s) i (pos 0))) refl one.line.discount)),
           );
     },
     subst (Tells before s) (last_text (all_going_records 0 past) s.number (record { settlement = x; withouts = ps; cut = s.cut; surplus = s.surplus; payments = payments })) h.tells,

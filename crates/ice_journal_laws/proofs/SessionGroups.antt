@@ -25,7 +25,7 @@ use Rattle.ice_refute.specs.Laws.{LogRefutes}
 use Rattle.ice_journal_laws.specs.declared.rule.Rule.{Rule}
 use Rattle.ice_journal_laws.specs.declared.rule.Rule.TheVariants as rule
 use Rattle.ice_journal_laws.specs.State.{Stated, at_section, at_group, at_sets, at_log, at_regret, at_threshold, State, exchange_at, settings_at}
-use Rattle.ice_journal_laws.specs.Next.{next, go_to, to_line, bidder_count, from_section, after_section, section_ended, if_true, after_regret}
+use Rattle.ice_journal_laws.specs.Next.{next, go_to, to_line, bidder_count, from_section, after_section, past_section, if_true, after_regret}
 use Rattle.ice_journal_laws.specs.Tests.{Fails, Holds, is_refusal}
 use Rattle.ice_journal_laws.specs.Written.{proved_records, without_records}
 use Rattle.ice_journal_laws.proofs.Faultless.{covered}
@@ -76,7 +76,7 @@ without_text_more b (q ∷ ps) p =
 module _ (version : Version) (before : List Record) (s : State) (same : s.version ≡ version) (kind : s.kind ≡ session_kind) where
   -- the section of the exchange, and the number of the first settlement behind it
   module _ (lawful : SectionIsLawful) (described : SectionRecords) (refutes : LogRefutes) (records : AllByRecursion IsRecord before) where
-    first_settled : (number : ℕ) (after : State) → IsAt before s at_section → may_end s.section ≡ true → number ≡ 0 → Some (to_line (suc s.line) (go_to (at_group Final) (section_ended s))) ≡ Some after
+    first_settled : (number : ℕ) (after : State) → IsAt before s at_section → may_end s.section ≡ true → number ≡ 0 → Some (to_line (suc s.line) (go_to (at_group Final) (past_section s))) ≡ Some after
         → IsStanding version (before ++ line.settle number ∷ []) after
     first_settled number after (taken, first, unjudged, complete) ended e is =
         let told = section_told lawful described refutes before s records taken ended in
@@ -94,11 +94,11 @@ module _ (version : Version) (before : List Record) (s : State) (same : s.versio
           );
         })
 
-    ends_section : (r : Record) (after : State) → IsAt before s at_section → may_end s.section ≡ true → option_map (to_line (suc s.line)) (after_section (section_ended (go_to at_section s)) session_kind r) ≡ Some after
+    ends_section : (r : Record) (after : State) → IsAt before s at_section → may_end s.section ≡ true → option_map (to_line (suc s.line)) (after_section (past_section (go_to at_section s)) session_kind r) ≡ Some after
         → IsStanding version (before ++ r ∷ []) after
     ends_section (line.settle number) after at ended is = by (eqb number 0) refl is
       where
-        by : (b : Bool) → eqb number 0 ≡ b → option_map (to_line (suc s.line)) (if_true b (go_to (at_group Final) (section_ended s))) ≡ Some after → IsStanding version (before ++ line.settle number ∷ []) after
+        by : (b : Bool) → eqb number 0 ≡ b → option_map (to_line (suc s.line)) (if_true b (go_to (at_group Final) (past_section s))) ≡ Some after → IsStanding version (before ++ line.settle number ∷ []) after
         by true e f = first_settled number after at ended (eqb-true number 0 e) f
         by false e f = absurd (none-some after f)
     ends_section other after at ended is = absurd (none-some after is)
@@ -112,8 +112,8 @@ module _ (version : Version) (before : List Record) (s : State) (same : s.versio
     })
     from_taken r after (Err order) at e is refused = by (may_end s.section) refl is
       where
-        by : (b : Bool) → may_end s.section ≡ b → option_map (to_line (suc s.line)) (cond b (after_section (section_ended (go_to at_section s)) s.kind r) None) ≡ Some after → IsStanding version (before ++ r ∷ []) after
-        by true ended f = ends_section r after at ended (subst (λ (k : Kind). option_map (to_line (suc s.line)) (after_section (section_ended (go_to at_section s)) k r) ≡ Some after) kind f)
+        by : (b : Bool) → may_end s.section ≡ b → option_map (to_line (suc s.line)) (cond b (after_section (past_section (go_to at_section s)) s.kind r) None) ≡ Some after → IsStanding version (before ++ r ∷ []) after
+        by true ended f = ends_section r after at ended (subst (λ (k : Kind). option_map (to_line (suc s.line)) (after_section (past_section (go_to at_section s)) k r) ≡ Some after) kind f)
         by false ended f = absurd (none-some after f)
     from_taken r after (Err count) at e is refused = absurd (refused refl)
     from_taken r after (Err no_good) at e is refused = absurd (refused refl)

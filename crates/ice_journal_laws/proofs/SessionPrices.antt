@@ -24,7 +24,7 @@ use Rattle.ice_journal_laws.specs.declared.rule.Rule.{Rule}
 use Rattle.ice_journal_laws.specs.declared.rule.Rule.TheVariants as rule
 use Rattle.ice_journal_laws.specs.Fields.{is_spent, is_limit, is_round_stop, row_in}
 use Rattle.ice_journal_laws.specs.State.{at_prices, at_pool, at_accuracy, at_accuracy_rows, at_balance_rows, at_round, at_verdict, done, State, exchange_at, settings_at, trees_at, exact_at, goods_at}
-use Rattle.ice_journal_laws.specs.Next.{next, go_to, to_line, if_true, or_stop, with_row, may_have_row, settled}
+use Rattle.ice_journal_laws.specs.Next.{next, go_to, to_line, if_true, or_stop, with_row, may_have_row, next_settlement}
 use Rattle.ice_journal_laws.specs.Tests.{Fails, Holds, AreUnlawful, offered_weights, AccuracyHolds, BalanceHolds}
 use Rattle.ice_journal_laws.specs.Written.{proved_records, regret_records, row_record, judged_records, opening_records, going_records}
 use Rattle.ice_journal_laws.specs.Stops.{all_going_records}
@@ -214,7 +214,7 @@ module _ (version : Version) (before : List Record) (s : State) (same : s.versio
   })
 
   -- the next settlement
-  next_settled : (n : ℕ) (after : State) → IsAt before s at_round → n ≡ suc s.number → Some (to_line (suc s.line) (settled s)) ≡ Some after → IsStanding version (before ++ line.settle n ∷ []) after
+  next_settled : (n : ℕ) (after : State) → IsAt before s at_round → n ≡ suc s.number → Some (to_line (suc s.line) (next_settlement s)) ≡ Some after → IsStanding version (before ++ line.settle n ∷ []) after
   next_settled n after (past, g, earlier, gone, tells) e is = of_same _ after is (IsStanding version (before ++ line.settle n ∷ [])) (record {
     same_version = same;
     kind = kind;
@@ -238,7 +238,7 @@ module _ (version : Version) (before : List Record) (s : State) (same : s.versio
   in_round (line.submit x) after at is = submitted x after at is
   in_round (line.settle n) after at is = by (eqb n (suc s.number)) refl is
     where
-      by : (t : Bool) → eqb n (suc s.number) ≡ t → option_map (to_line (suc s.line)) (if_true t (settled s)) ≡ Some after → IsStanding version (before ++ line.settle n ∷ []) after
+      by : (t : Bool) → eqb n (suc s.number) ≡ t → option_map (to_line (suc s.line)) (if_true t (next_settlement s)) ≡ Some after → IsStanding version (before ++ line.settle n ∷ []) after
       by true e f = next_settled n after at (eqb-true n (suc s.number) e) f
       by false e f = absurd (none-some after f)
   in_round other after at is = absurd (none-some after is)
@@ -297,7 +297,7 @@ module _ (version : Version) (before : List Record) (s : State) (same : s.versio
     in_balance_rows (line.settle n) after at is pass ends holds = by (eqb n (suc s.number)) refl is
       where
         by : (t : Bool) → eqb n (suc s.number) ≡ t
-            → option_map (to_line (suc s.line)) (or_stop false (go_to done s) (with_row rows (at_balance_rows den) s (line.settle n) (if_true t (settled s)))) ≡ Some after → IsStanding version (before ++ line.settle n ∷ []) after
+            → option_map (to_line (suc s.line)) (or_stop false (go_to done s) (with_row rows (at_balance_rows den) s (line.settle n) (if_true t (next_settlement s)))) ≡ Some after → IsStanding version (before ++ line.settle n ∷ []) after
         by true e f = next_settled n after (opens (line.settle n) refl at ends) (eqb-true n (suc s.number) e) f
         by false e f = absurd (none-some after f)
     in_balance_rows (line.row b weight set) after (past, x, offer, a, opened, settled, offered, priced, violated, accurate, tested, tells) is pass ends holds = by (may_have_row rows) refl is

@@ -16,7 +16,7 @@ use Rattle.ice_journal_laws.specs.declared.rule.Rule.{Rule}
 use Rattle.ice_journal_laws.specs.declared.rule.Rule.TheVariants as rule
 use Rattle.ice_journal_laws.specs.Fields.{step_in}
 use Rattle.ice_journal_laws.specs.State.{Place, at_section, at_group, at_sets, at_log, at_regret, at_prices, at_accuracy, at_accuracy_rows, at_balance_rows, at_round, at_verdict, at_threshold, at_payment, at_spent_sets, at_spent_log, at_pool, at_end, done, State, begun, exchange_at, settings_at, goods_at}
-use Rattle.ice_journal_laws.specs.Next.{next, next_at, go_to, to_line, after_section, section_ended}
+use Rattle.ice_journal_laws.specs.Next.{next, next_at, go_to, to_line, after_section, past_section}
 use Rattle.ice_journal_laws.specs.Tests.{Fails, Holds}
 use Rattle.ice_journal_laws.specs.Checks.{Tested, goes_on, Checks}
 use Rattle.ice_journal_laws.specs.Progress.{EndsList}
@@ -48,8 +48,8 @@ of_section prices_kind s t x h = cc
 takes : (place : Place) (s t : State) (x : Submission) → next_at s place (line.submit x) ≡ Some t → TakesSubmissions place
 takes at_section s t x h = by (may_end s.section) h
   where
-    by : (b : Bool) → cond b (after_section (section_ended s) s.kind (line.submit x)) None ≡ Some t → ⊥
-    by true h = of_section s.kind (section_ended s) t x h
+    by : (b : Bool) → cond b (after_section (past_section s) s.kind (line.submit x)) None ≡ Some t → ⊥
+    by true h = of_section s.kind (past_section s) t x h
     by false h = cc
 takes (at_group Assign) s t x h = absurd (cc)
 takes (at_group Final) s t x h = absurd (cc)

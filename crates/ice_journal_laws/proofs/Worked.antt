@@ -4,7 +4,7 @@ use Rattle.ice_defs.specs.declared.NodeKind.TheVariants.{Buy, Sell}
 use Rattle.ice_defs.specs.Exchange.{Exchange}
 use Rattle.ice_defs.specs.Sale.{all_sets, satisfied_sets, greatest_sale}
 use Rattle.ice_defs.specs.Steps.{branch, leaf}
-use Rattle.ice_defs.specs.Fraction.{whole}
+use Rattle.ice_defs.specs.Fraction.{whole_number}
 use Rattle.ice_journal.specs.Records.{Record, version_1, version_2, assign_kind, session_kind, assign_end, closed_end}
 use Rattle.ice_journal.specs.Records as line
 use Rattle.ice_section.specs.Described.{section_records}
@@ -36,7 +36,7 @@ opening = section_records market ++ line.settle 0 ∷ line.final (pos 10) ∷ on
 closed : List Record
 closed = opening ++ line.step (leaf (pos 640 ∷ [])) ∷ line.rival (pos 10) ∷ one ∷ one ∷ line.step (leaf (pos 640 ∷ [])) ∷ line.regret (pos 0)
     ∷ line.without 0 (pos 0) ∷ none ∷ none ∷ line.step (leaf (pos 1280 ∷ [])) ∷ line.without 1 (pos 0) ∷ none ∷ none ∷ line.step (leaf (pos 0 ∷ []))
-    ∷ line.threshold (whole (pos 5)) (whole (pos 0)) ∷ line.payment (codes "s") (pos 10) (whole (pos 5)) (whole (negsuc 14)) ∷ line.payment (codes "b") (pos 10) (whole (pos 5)) (whole (pos 15)) ∷ line.end closed_end ∷ []
+    ∷ line.threshold (whole_number (pos 5)) (whole_number (pos 0)) ∷ line.payment (codes "s") (pos 10) (whole_number (pos 5)) (whole_number (negsuc 14)) ∷ line.payment (codes "b") (pos 10) (whole_number (pos 5)) (whole_number (pos 15)) ∷ line.end closed_end ∷ []
 
 place_after : Option State → Option Place
 place_after s = option_map (λ x. x.place) s

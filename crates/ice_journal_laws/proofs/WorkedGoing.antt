@@ -20,7 +20,7 @@ use Rattle.ice_defs.specs.Pricing.{excess_net, IsViolation}
 use Rattle.ice_defs.specs.Exchange.{Exchange, Bidder, trees_of, exact_of, market_of, opening_bounds}
 use Rattle.ice_defs.specs.Lawful.{AreBounds, IsExchange}
 use Rattle.ice_defs.specs.Market.{owned_amount}
-use Rattle.ice_defs.specs.Fraction.{whole}
+use Rattle.ice_defs.specs.Fraction.{whole_number}
 use Rattle.ice_defs.specs.declared.Group.TheVariants.{Final, Rival, Provisional, Without}
 use Rattle.ice_defs.specs.Session.{Proved, Settlement, Going, Closed, Session}
 use Rattle.ice_journal_laws.specs.Showing.{IsShown, IsShownSettlement}
@@ -198,9 +198,9 @@ unfolding settlement
 closed = record {
   settlement = settlement;
   withouts = nothing_sold ∷ [];
-  cut = whole (pos 0);
-  surplus = whole (pos 0);
-  payments = record { name = codes "s"; vickrey = pos 0; discount = whole (pos 0); payment = whole (pos 0) } ∷ [];
+  cut = whole_number (pos 0);
+  surplus = whole_number (pos 0);
+  payments = record { name = codes "s"; vickrey = pos 0; discount = whole_number (pos 0); payment = whole_number (pos 0) } ∷ [];
 }
 
 shown_closed : IsShownClosed eager (opening_bounds eager) closed

@@ -17,7 +17,7 @@ use Rattle.ice_defs.specs.Exchange.{Exchange, Bidder, trees_of, exact_of, market
 use Rattle.ice_defs.specs.Lawful.{IsLimitedKind, IsLimitedTree, AreBounds, IsExchange}
 use Rattle.ice_defs.specs.Market.{owned_amount}
 use Rattle.ice_defs.specs.Vickrey.{IsEmpty}
-use Rattle.ice_defs.specs.Fraction.{whole}
+use Rattle.ice_defs.specs.Fraction.{whole_number}
 use Rattle.ice_defs.specs.declared.Group.{Group}
 use Rattle.ice_defs.specs.declared.Group.TheVariants.{Final, Rival, Without}
 use Rattle.ice_defs.specs.Group.{start_of}
@@ -178,9 +178,9 @@ unfolding settlement
 closed = record {
   settlement = settlement;
   withouts = nothing_sold ∷ [];
-  cut = whole (pos 0);
-  surplus = whole (pos 0);
-  payments = record { name = codes "s"; vickrey = pos 0; discount = whole (pos 0); payment = whole (pos 0) } ∷ [];
+  cut = whole_number (pos 0);
+  surplus = whole_number (pos 0);
+  payments = record { name = codes "s"; vickrey = pos 0; discount = whole_number (pos 0); payment = whole_number (pos 0) } ∷ [];
 }
 
 session : Session

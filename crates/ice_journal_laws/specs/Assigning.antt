@@ -11,16 +11,16 @@ use Rattle.ice_journal_laws.specs.declared.rule.Rule.TheVariants as rule
 use Rattle.ice_journal_laws.specs.State.{State, begun}
 
 -- the records of the section are read, and this line is next
-abbrev pub describing : Version → Kind → ℕ → Section → State
-describing version kind line section = record (begun version kind) { line = line; section = section }
+abbrev pub section_state : Version → Kind → ℕ → Section → State
+section_state version kind line section = record (begun version kind) { line = line; section = section }
 
 -- the section of a complete exchange
 abbrev pub section_of : Exchange → Section
 section_of ex = record { settings = Some ex.settings; goods = ex.goods; bidders = ex.bidders; draft = None }
 
 -- this exchange is described
-abbrev pub described : Version → Kind → ℕ → Exchange → State
-described version kind line ex = record (describing version kind line (section_of ex)) { bounds = opening_bounds ex }
+abbrev pub exchange_state : Version → Kind → ℕ → Exchange → State
+exchange_state version kind line ex = record (section_state version kind line (section_of ex)) { bounds = opening_bounds ex }
 
 -- the rule of a set at fault
 abbrev pub rule_of : SatRule → Rule

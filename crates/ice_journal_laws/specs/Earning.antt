@@ -4,7 +4,7 @@ use Rattle.std.specs.List.{AllByRecursion}
 use Rattle.ice_defs.specs.Tree.{Tree}
 use Rattle.ice_defs.specs.Set.{Weights}
 use Rattle.ice_defs.specs.Trade.{Assignment}
-use Rattle.ice_defs.specs.Steps.{Step, Side, placed}
+use Rattle.ice_defs.specs.Steps.{Step, Side, steps_with_sides}
 use Rattle.ice_defs.specs.Bounds.{Bounds}
 use Rattle.ice_defs.specs.Weighing.{lower_weights, weighted_weights, perturbed_weights}
 use Rattle.ice_defs.specs.declared.Group.{Group}
@@ -31,7 +31,7 @@ module _ (E : Earning) where
   module _ (ts : List Tree) (exact : List Bool) where
     -- each step of a log is earned
     abbrev pub EarnsLog : List Weights → Group → Assignment → List Step → Type 0
-    EarnsLog ws g first log = AllByRecursion (λ p. E ts exact ws (start_of ts g) first p.0 p.1) (placed (start_of ts g ∷ []) log)
+    EarnsLog ws g first log = AllByRecursion (λ p. E ts exact ws (start_of ts g) first p.0 p.1) (steps_with_sides (start_of ts g ∷ []) log)
 
     abbrev pub EarnsWithouts : List Weights → ℕ → List Proved → Type 0
     EarnsWithouts ws b [] = Unit {0}

@@ -112,8 +112,8 @@ abbrev pub from_accuracy_rows : State → ℕ → List Row → Record → Option
 from_accuracy_rows s den rows r = with_row rows (at_accuracy_rows den) s r (to_balance s r)
 
 -- the next settlement, with the bounds that the round leaves
-abbrev pub settled : State → State
-settled s = go_to (at_group Final)
+abbrev pub next_settlement : State → State
+next_settlement s = go_to (at_group Final)
     (record s {
       number = suc s.number;
       bounds = next_bounds (standings (exchange_at s) s.bounds s.offered) s.judged;
@@ -122,7 +122,7 @@ settled s = go_to (at_group Final)
     })
 
 abbrev pub to_settlement : State → Record → Option State
-to_settlement s r = option_and_then (λ number. if_true (number == suc s.number) (settled s)) (settlement_in r)
+to_settlement s r = option_and_then (λ number. if_true (number == suc s.number) (next_settlement s)) (settlement_in r)
 
 -- a submission, or the next settlement
 abbrev pub from_round : State → Record → Option State
@@ -183,13 +183,13 @@ after_section s exchange_kind r = None
 after_section s prices_kind r = None
 
 -- the section of the exchange is complete: its bounds are those of settlement 0
-abbrev pub section_ended : State → State
-section_ended s = record s { bounds = opening_bounds (exchange_at s) }
+abbrev pub past_section : State → State
+past_section s = record s { bounds = opening_bounds (exchange_at s) }
 
 -- where a maker refuses, the order is not at fault
 abbrev pub from_section : State → Record → Result Section SectionFault → Option State
 from_section s r (Ok section) = Some (record s { section = section })
-from_section s r (Err order) = if may_end s.section then after_section (section_ended s) s.kind r else None
+from_section s r (Err order) = if may_end s.section then after_section (past_section s) s.kind r else None
 from_section s r (Err count) = Some s
 from_section s r (Err no_good) = Some s
 from_section s r (Err (maker number)) = Some s

@@ -17,7 +17,7 @@ use Rattle.ice_defs.specs.declared.Group.{Group}
 use Rattle.ice_defs.specs.declared.Group.TheVariants.{Final}
 use Rattle.ice_defs.specs.Group.{start_of, first_sets}
 use Rattle.ice_journal_laws.specs.State.{at_section, at_group, State, begun, settings_at, trees_at, exact_at, weights_at}
-use Rattle.ice_journal_laws.specs.Next.{after_all, section_ended}
+use Rattle.ice_journal_laws.specs.Next.{after_all, past_section}
 use Rattle.ice_journal_laws.specs.StepsTaken.{EachTaken, branches_in}
 use Rattle.ice_journal_laws.specs.Earning.{IsEarnedTaken}
 
@@ -36,7 +36,7 @@ AreGoing ex number bounds (g ∷ later) =
 -- the section of the exchange ends
 pub data Awaits : State → Group → State → Type 0 where
   next_group : {s : State} {g : Group} → s.place ≡ at_group g → Awaits s g s
-  first_group : {s : State} → s.place ≡ at_section → s.kind ≡ regret_kind → IsTrue (may_end s.section) → Awaits s Final (section_ended s)
+  first_group : {s : State} → s.place ≡ at_section → s.kind ≡ regret_kind → IsTrue (may_end s.section) → Awaits s Final (past_section s)
 
 -- the journal of this kind says these records and then stops at a search that spent its branches
 pub record IsSpent (kind : Kind) (journal : List Record) : Type 0 where

@@ -14,8 +14,8 @@ use Rattle.ice_defs.specs.Vickrey.{IsEmpty}
 use Rattle.ice_defs.specs.Prices.{Prices, price_of}
 use Rattle.ice_defs.specs.Pricing.{IsViolation}
 use Rattle.ice_defs.specs.Rows.{Row, PassesAccuracy, PassesBalance, HasCommonDivisor}
-use Rattle.ice_defs.specs.Fraction.{Fraction, whole, AtMost, Below, Equals, less}
-use Rattle.ice_defs.specs.Cut.{cut_down, cut_sum}
+use Rattle.ice_defs.specs.Fraction.{Fraction, whole_number, AtMost, Below, Equals, minus}
+use Rattle.ice_defs.specs.Cut.{discount_at_cut, cut_sum}
 use Rattle.ice_defs.specs.Round.{IsNextVerdict}
 use Rattle.ice_journal.specs.Records.{Record, Change}
 use Rattle.ice_section.specs.Section.{SectionFault, order, count, no_good, maker, take_record, Section}
@@ -86,13 +86,13 @@ pub record Complete : Type 0 where
   pub stated : Stated
 
 -- the group whose last set this is
-abbrev pub completed : ℕ → Place → Record → Option Complete
-completed bidders (at_sets g found) r = if suc (length found.sets) == bidders
+abbrev pub complete_group : ℕ → Place → Record → Option Complete
+complete_group bidders (at_sets g found) r = if suc (length found.sets) == bidders
     then option_map (λ x. record { group = g; stated = with_set found x }) (set_in r) else None
-completed bidders place r = None
+complete_group bidders place r = None
 
 abbrev pub OfSets : State → Record → (Complete → Type 0) → Type 0
-OfSets s r P = IsSomeAnd (completed (length (trees_at s)) s.place r) P
+OfSets s r P = IsSomeAnd (complete_group (length (trees_at s)) s.place r) P
 
 -- the units of the sets don't sum to at most 0 in each good, or not to 0 in an exact one
 abbrev pub IsUnbalanced : State → Record → Type 0
@@ -215,11 +215,11 @@ vickreys s = map (λ without. s.final.value -ℤ without) s.withouts
 -- the cut is in range, the discounts that it leaves sum to at most the total, and to no less unless
 -- it is 0, and the surplus is the rest
 pub record IsThresholdLine (vickrey : List ℤ) (total : ℤ) (c : Closing) : Type 0 where
-  pub low : AtMost (whole (pos 0)) c.cut
-  pub high : Any (λ v. AtMost c.cut (whole v)) vickrey
-  pub paid : AtMost (cut_sum c.cut vickrey) (whole total)
-  pub spent : Below (whole (pos 0)) c.cut → Equals (cut_sum c.cut vickrey) (whole total)
-  pub rest : Equals c.surplus (less (whole total) (cut_sum c.cut vickrey))
+  pub low : AtMost (whole_number (pos 0)) c.cut
+  pub high : Any (λ v. AtMost c.cut (whole_number v)) vickrey
+  pub paid : AtMost (cut_sum c.cut vickrey) (whole_number total)
+  pub spent : Below (whole_number (pos 0)) c.cut → Equals (cut_sum c.cut vickrey) (whole_number total)
+  pub rest : Equals c.surplus (minus (whole_number total) (cut_sum c.cut vickrey))
 
 abbrev pub IsOtherThreshold : Place → State → Record → Type 0
 IsOtherThreshold at_threshold s r = IsSomeAnd (threshold_in r) (λ c. ¬ IsThresholdLine (vickreys s) s.final.value c)
@@ -231,8 +231,8 @@ final_worth s b = value (set_of s.final.sets b) (weights_of (weights_at s Final)
 
 pub record IsPaymentLine (vickrey : ℤ) (worth : ℤ) (cut : Fraction) (p : Payment) : Type 0 where
   pub vickrey_is : p.vickrey ≡ vickrey
-  pub discount : Equals p.discount (cut_down cut vickrey)
-  pub payment : Equals p.payment (less (whole worth) p.discount)
+  pub discount : Equals p.discount (discount_at_cut cut vickrey)
+  pub payment : Equals p.payment (minus (whole_number worth) p.discount)
 
 abbrev pub IsOtherPayment : Place → State → Record → Type 0
 IsOtherPayment (at_payment b) s r =

@@ -3,8 +3,8 @@ use Rattle.std.specs.Prelude.{ℕ, ◌<◌, ◌≡◌, List, ◌∷◌, length, 
 use Rattle.std.specs.List.{AllByRecursion}
 use Rattle.ice_defs.specs.Trade.{IsFeasible, total_value}
 use Rattle.ice_defs.specs.Weighing.{lower_weights}
-use Rattle.ice_defs.specs.Fraction.{Fraction, whole, Equals, less, fraction_at}
-use Rattle.ice_defs.specs.Cut.{cut_down}
+use Rattle.ice_defs.specs.Fraction.{Fraction, whole_number, Equals, minus, fraction_at}
+use Rattle.ice_defs.specs.Cut.{discount_at_cut}
 use Rattle.ice_defs.specs.Exchange.{trees_of, exact_of, opening_bounds}
 use Rattle.ice_defs.specs.Lawful.{IsExchange}
 use Rattle.ice_defs.specs.Session.{Assigned, Regretted, Session}
@@ -76,7 +76,7 @@ ChecksGiveRegret = (journal : List Record) → HasKind regret_kind journal → A
 -- each payment is a whole number less a discount, which the cut leaves of another whole number
 abbrev pub ArePaidByCut : Fraction → List Fraction → Type 0
 ArePaidByCut cut payments = (i : ℕ) → i < length payments
-    → (worth vickrey : ℤ) × Equals (fraction_at payments i) (less (whole worth) (cut_down cut vickrey))
+    → (worth vickrey : ℤ) × Equals (fraction_at payments i) (minus (whole_number worth) (discount_at_cut cut vickrey))
 
 -- where the records of a session lead to its end, they state the end's exchange and a right
 -- session, with the end's regret, surplus, bounds, final sets and cut

@@ -7,8 +7,8 @@ use Rattle.std.proofs.lemmas.Int.{unsigned_abs-mul}
 use Rattle.std.proofs.lemmas.List.{append_assoc, append-nil, length-map}
 use Rattle.std.proofs.Math.Nat.{dvd-mul_left, one-mul, one-dvd}
 use Rattle.std.proofs.lemmas.Nat.Gcd.{dvd_refl, dvd_trans}
-use Rattle.ice_defs.specs.Fraction.{Fraction, whole, IsFraction, Equals, less, fraction_at}
-use Rattle.ice_defs.specs.Cut.{cut_down}
+use Rattle.ice_defs.specs.Fraction.{Fraction, whole_number, IsFraction, Equals, minus, fraction_at}
+use Rattle.ice_defs.specs.Cut.{discount_at_cut}
 use Rattle.ice_defs.specs.Exchange.{Bidder, Exchange, trees_of, opening_bounds}
 use Rattle.ice_defs.specs.Tree.{Tree}
 use Rattle.ice_row_laws.specs.Laws.{AreSatisfied}
@@ -22,7 +22,7 @@ use Rattle.ice_pricing_laws.proofs.Lists.{all-map, all-each, all-at}
 use Rattle.ice_journal.specs.Records.{Record, version_1, version_2, session_kind, closed_end}
 use Rattle.ice_journal.specs.Records as line
 use Rattle.ice_journal.specs.Ranges.{IsRecord, IsFractionField}
-use Rattle.ice_journal.specs.Plain.{plain, plain_records, goods_in, all_zero, changed}
+use Rattle.ice_journal.specs.Plain.{plain, plain_records, goods_in, all_zero, after_changes}
 use Rattle.ice_section.specs.Described.{section_records}
 use Rattle.ice_defs.specs.Bound.{Multipliers}
 use Rattle.ice_journal_laws.specs.State.{exchange_at}
@@ -58,7 +58,7 @@ session_said x =
 -- the plain journal says the same payments
 plain_said : (goods : ℕ) (m : Multipliers) (before : List Payment) (records : List Record) → paid_from before (plain_records goods m records) ≡ paid_from before records
 plain_said goods m before [] = refl
-plain_said goods m before (line.near changes ∷ rest) = plain_said goods (changed m changes) before rest
+plain_said goods m before (line.near changes ∷ rest) = plain_said goods (after_changes m changes) before rest
 plain_said goods m before (line.step s ∷ rest) = plain_said goods m before rest
 plain_said goods m before (r ∷ rest) = plain_said goods (all_zero goods) (paid_after before r) rest
 
@@ -111,13 +111,13 @@ chosen-divides : (b : Bool) (x y : Fraction) (d : ℕ) → x.den ∣ d → y.den
 chosen-divides true x y d first second = first
 chosen-divides false x y d first second = second
 
-cut-divides : (cut f : Fraction) (worth vickrey : ℤ) → IsFractionField f → Equals f (less (whole worth) (cut_down cut vickrey)) → f.den ∣ cut.den
+cut-divides : (cut f : Fraction) (worth vickrey : ℤ) → IsFractionField f → Equals f (minus (whole_number worth) (discount_at_cut cut vickrey)) → f.den ∣ cut.den
 cut-divides cut f worth vickrey is equal =
-    let g : Fraction = cut_down cut vickrey in
-    let all : f.den ∣ 1 * g.den = lowest-divides f (less (whole worth) g) is equal in
+    let g : Fraction = discount_at_cut cut vickrey in
+    let all : f.den ∣ 1 * g.den = lowest-divides f (minus (whole_number worth) g) is equal in
     let own : f.den ∣ g.den = subst (λ k. f.den ∣ k) (one-mul g.den) all in
     let last : g.den ∣ cut.den =
-    chosen-divides (int_lt (less (whole vickrey) cut).num (pos 0)) (whole (pos 0)) (less (whole vickrey) cut) cut.den (one-dvd cut.den) (subst (λ k. 1 * cut.den ∣ k) (one-mul cut.den) (dvd_refl (1 * cut.den))) in
+    chosen-divides (int_lt (minus (whole_number vickrey) cut).num (pos 0)) (whole_number (pos 0)) (minus (whole_number vickrey) cut) cut.den (one-dvd cut.den) (subst (λ k. 1 * cut.den ∣ k) (one-mul cut.den) (dvd_refl (1 * cut.den))) in
     dvd_trans f.den own last
 
 -- ---- a right session's end
@@ -150,10 +150,10 @@ last_is_paid journal s records l place kind =
         divides = λ b h.
             let there : b < length (payments_of x.closed) = omega (arith, h, count, ap length said) in
             let (worth, vickrey, equal) = is.paid b there in
-            let own : IsFractionField (fraction_at (amounts payments) b) = all-at IsFractionField (amounts payments) b (whole (pos 0)) lawful (omega (arith, h, count)) in
+            let own : IsFractionField (fraction_at (amounts payments) b) = all-at IsFractionField (amounts payments) b (whole_number (pos 0)) lawful (omega (arith, h, count)) in
             let here : fraction_at (payments_of x.closed) b ≡ fraction_at (amounts payments) b = ap (λ (fs : List Fraction). fraction_at fs b) said in
             subst (λ (c : Fraction). (fraction_at (amounts payments) b).den ∣ c.den) is.cut
-            (cut-divides x.closed.cut (fraction_at (amounts payments) b) worth vickrey own (subst (λ (f : Fraction). Equals f (less (whole worth) (cut_down x.closed.cut vickrey))) here equal));
+            (cut-divides x.closed.cut (fraction_at (amounts payments) b) worth vickrey own (subst (λ (f : Fraction). Equals f (minus (whole_number worth) (discount_at_cut x.closed.cut vickrey))) here equal));
       },
       lawful,
       sym (ap (λ (sets : Assignment). length sets) is.final) ∙ closed.settled.final.feasible.same_length ∙ ap length trees,

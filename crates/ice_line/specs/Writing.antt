@@ -16,5 +16,5 @@ bit_byte true = 49
 bit_byte false = 48
 
 -- numerator, slash, denominator
-abbrev pub slashed : ℤ → ℤ → List ℕ
-slashed num den = signed_decimal num ++ 47 ∷ signed_decimal den
+abbrev pub fraction_text : ℤ → ℤ → List ℕ
+fraction_text num den = signed_decimal num ++ 47 ∷ signed_decimal den

@@ -1,7 +1,7 @@
 //! A line, written field by field.
 ghost use Rattle.std.specs.Prelude.{◌≡◌, ℕ, ◌+◌, ◌<◌, ◌≤◌, [], ◌++◌, ◌∷◌, length, decimal, map};
 ghost use Rattle.std.specs.Fmt.{signed_decimal};
-ghost use Rattle.ice_line.specs.Writing.{with_field, bit_byte, slashed};
+ghost use Rattle.ice_line.specs.Writing.{with_field, bit_byte, fraction_text};
 
 use arrayvec::ArrayVec;
 use itoa::Buffer;
@@ -75,7 +75,7 @@ impl LineWriter {
     /// Appends a fraction: numerator, slash, denominator.
     pub fn fraction(&mut self, num: i128, den: i128)
         requires { length self.old + 81 < 8192 }
-        ensures field { self.new ≡ with_field self.old (slashed num den) }
+        ensures field { self.new ≡ with_field self.old (fraction_text num den) }
         ensures len { length self.new ≤ length self.old + 82 }
     {
         self.number(num);

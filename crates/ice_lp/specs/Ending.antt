@@ -1,6 +1,6 @@
 -- How a trace ends.
 use Rattle.std.specs.Prelude.{ℕ, zero, suc, ◌≡◌, Option, Some, None}
-use Rattle.ice_defs.specs.Dictionary.{Dictionary, Spot, Choice, pivots, first_dictionary, choice, pivoted}
+use Rattle.ice_defs.specs.Dictionary.{Dictionary, Spot, Choice, pivots, first_dictionary, choice, pivot_dictionary}
 use Rattle.ice_defs.specs.Program.{Program}
 use Rattle.ice_defs.specs.Trace.{TraceEnd, least_end, infeasible_end, wide_end, pivots_end}
 use Rattle.ice_lp.specs.declared.ends.LpEnd.{LpEnd}
@@ -25,7 +25,7 @@ made_by count next None = count
 made_by count next (Some d) = next d
 
 abbrev pub made_at : ℕ → (Dictionary → ℕ) → Dictionary → Choice → ℕ
-made_at count next d (pivots l k) = made_by count next (pivoted d l k)
+made_at count next d (pivots l k) = made_by count next (pivot_dictionary d l k)
 made_at count next d other = count
 
 -- with those made so far, where so many are left

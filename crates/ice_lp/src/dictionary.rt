@@ -3,9 +3,9 @@
 ghost use Rattle.std.specs.Prelude.{slice_index_or, slice_set, ◌≡◌, ◌≢◌, ◌<◌, length, pos, Some, None, IfOk, IfErr};
 ghost use Rattle.std.specs.Result.{result_ok};
 ghost use Rattle.ice_defs.specs.Fraction.{fraction_at};
-ghost use Rattle.ice_defs.specs.Dictionary.{all_of, pivot_entry, pivot_entries, pivot_row, other_entry, other_entries, other_row, other_constant, new_left, no_left, pivoted};
+ghost use Rattle.ice_defs.specs.Dictionary.{all_of, pivot_entry, pivot_entries, pivot_row, other_entry, other_entries, other_row, other_constant, new_left, no_left, pivot_dictionary};
 ghost use Rattle.ice_program_laws.specs.Solutions.{IsDictionary, IsPivot};
-ghost use Rattle.ice_lp.specs.Replacing.{replaced, keeping};
+ghost use Rattle.ice_lp.specs.Replacing.{replacements, all_but};
 ghost use Rattle.ice_lp.specs.Shapes.{AreLong, IsWideLeft, IsWideObjective};
 
 use crate::spot::Spot;
@@ -176,9 +176,9 @@ impl LeftRow {
     ) -> Result<(), Wide>
         requires within { entering < length new.now.coeffs }
         requires same_length { place ≢ leaving → length self.old.coeffs ≡ length new.now.coeffs }
-        ensures made { let made = keeping leaving (other_row entering new.now) place self.old in
+        ensures made { let made = all_but leaving (other_row entering new.now) place self.old in
             IfOk result (λ _. made ≡ Some self.new) }
-        ensures wide { let made = keeping leaving (other_row entering new.now) place self.old in
+        ensures wide { let made = all_but leaving (other_row entering new.now) place self.old in
             IfErr result (λ _. made ≡ None) }
     {
         if place == leaving {
@@ -197,9 +197,9 @@ fn other_rows(
 ) -> Result<(), Wide>
     requires within { entering < length new.now.coeffs }
     requires same_length { AreLong (length new.now.coeffs) leaving left.old }
-    ensures made { let made = replaced (keeping leaving (other_row entering new.now)) 0 left.old in
+    ensures made { let made = replacements (all_but leaving (other_row entering new.now)) 0 left.old in
         IfOk result (λ _. made ≡ Some left.new) }
-    ensures wide { let made = replaced (keeping leaving (other_row entering new.now)) 0 left.old in
+    ensures wide { let made = replacements (all_but leaving (other_row entering new.now)) 0 left.old in
         IfErr result (λ _. made ≡ None) }
 {
     for place in 0..left.len() {
@@ -277,8 +277,8 @@ impl Dictionary {
     ) -> Result<(), Wide>
         requires proper { IsDictionary self.old }
         requires chosen { IsPivot self.old leaving entering }
-        ensures made { IfOk result (λ _. pivoted self.old leaving entering ≡ Some self.new) }
-        ensures wide { IfErr result (λ _. pivoted self.old leaving entering ≡ None) }
+        ensures made { IfOk result (λ _. pivot_dictionary self.old leaving entering ≡ Some self.new) }
+        ensures wide { IfErr result (λ _. pivot_dictionary self.old leaving entering ≡ None) }
     {
         let leaves = self.leaves(leaving);
         let new = pivot_left(alloc, &mut self.left, leaving, entering)?;

@@ -1,7 +1,7 @@
 //! The first dictionary of a program.
 ghost use Rattle.std.specs.Prelude.{◌≡◌, ◌<◌, length, map, slice_index_or, pos, neg_ℤ, All, IfOk};
 ghost use Rattle.ice_defs.specs.Sum.{numbers_below};
-ghost use Rattle.ice_defs.specs.Fraction.{whole};
+ghost use Rattle.ice_defs.specs.Fraction.{whole_number};
 ghost use Rattle.ice_defs.specs.Dictionary.{first_left, first_dictionary};
 ghost use Rattle.ice_lp.specs.Limits.{IsNumber, IsConstraint};
 
@@ -13,7 +13,7 @@ use std::alloc::{AllocError, Global};
 /// A whole number as a fraction.
 pub(crate) fn whole(number: i128) -> Frac
     requires { IsNumber number }
-    ensures { result ≡ whole number }
+    ensures { result ≡ whole_number number }
 {
     match Frac::new(number, 1) {
         Some(fraction) => fraction,
@@ -35,7 +35,7 @@ fn numbers(alloc: Global, count: usize) -> Result<Vec<usize>, AllocError>
 /// The least of each row.
 fn leasts(alloc: Global, rows: &[Row], columns: usize) -> Result<Vec<Frac>, AllocError>
     requires { All (IsConstraint columns) rows.now }
-    ensures { IfOk result (λ made. made.items ≡ map (λ row. whole row.least) rows.now) }
+    ensures { IfOk result (λ made. made.items ≡ map (λ row. whole_number row.least) rows.now) }
 {
     let mut made = Vec::with_capacity(alloc, rows.len())?;
     for row in rows {
@@ -48,7 +48,7 @@ fn leasts(alloc: Global, rows: &[Row], columns: usize) -> Result<Vec<Frac>, Allo
 fn minus(row: &Row, column: usize) -> Frac
     requires within { column < length row.now.coeffs }
     requires sized { All IsNumber row.now.coeffs }
-    ensures { result ≡ whole (neg_ℤ (slice_index_or row.now.coeffs column (pos 0))) }
+    ensures { result ≡ whole_number (neg_ℤ (slice_index_or row.now.coeffs column (pos 0))) }
 {
     whole(-row.coeffs[column])
 }
@@ -63,7 +63,7 @@ fn minus_all(
     requires within { column < columns }
     requires proper { All (IsConstraint columns) rows.now }
     ensures { IfOk result (λ made. made.items
-        ≡ map (λ row. whole (neg_ℤ (slice_index_or row.coeffs column (pos 0)))) rows.now) }
+        ≡ map (λ row. whole_number (neg_ℤ (slice_index_or row.coeffs column (pos 0)))) rows.now) }
 {
     let mut made = Vec::with_capacity(alloc, rows.len())?;
     for row in rows {

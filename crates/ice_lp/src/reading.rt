@@ -1,7 +1,7 @@
 //! What the end of a trace says.
 ghost use Rattle.std.specs.Prelude.{◌≡◌, ◌+◌, ◌≤◌, ◌==◌, map, find, position, Some, None, MatchOption, IfOk};
 ghost use Rattle.ice_defs.specs.Sum.{numbers_below};
-ghost use Rattle.ice_defs.specs.Fraction.{fraction_at, negated};
+ghost use Rattle.ice_defs.specs.Fraction.{fraction_at, negation};
 ghost use Rattle.ice_defs.specs.Trace.{constant_of, objective_of, mix_entry};
 ghost use Rattle.ice_lp.specs.Answers.{IsRead};
 
@@ -133,7 +133,7 @@ fn point(
 ) -> Result<Vec<Frac>, AllocError>
     requires { rows + columns ≤ 1000 }
     ensures { IfOk result (λ made. made.items
-        ≡ map (λ j. negated (objective_of dictionary.now (rows + j))) (numbers_below columns)) }
+        ≡ map (λ j. negation (objective_of dictionary.now (rows + j))) (numbers_below columns)) }
 {
     let mut made = Vec::with_capacity(alloc, columns)?;
     for column in 0..columns {

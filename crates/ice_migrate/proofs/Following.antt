@@ -13,7 +13,7 @@ use Rattle.ice_journal.specs.Plain.{goods_in, all_zero}
 use Rattle.ice_section.specs.Section.{Section, SectionFault, order, count, no_good, maker, Draft, take_record, may_end}
 use Rattle.ice_journal_laws.specs.Fields.{step_in, multipliers_after}
 use Rattle.ice_journal_laws.specs.State.{Place, at_section, at_group, at_log, at_spent_log, at_end, State, goods_at}
-use Rattle.ice_journal_laws.specs.Next.{next, next_at, to_line, go_to, open_after, after_step, after_section, section_ended, from_section}
+use Rattle.ice_journal_laws.specs.Next.{next, next_at, to_line, go_to, open_after, after_step, after_section, past_section, from_section}
 use Rattle.ice_journal_laws.specs.Tests.{is_refusal, IsRefused}
 use Rattle.ice_migrate.specs.Reading.{bidders_in}
 use Rattle.ice_migrate.proofs.Keeping.{is_past, IsKept, Keeps, keeps, of_after}
@@ -257,15 +257,15 @@ module _ (s after : State) (r : Record) (is : s.version ≡ version_1) (inside :
         line_is = refl;
       }
 
-  opens : may_end s.section ≡ true → option_map (to_line (suc s.line)) (after_section (section_ended s) s.kind r) ≡ Some after → Follows s r after
-  opens ended e = by (after_section (section_ended s) s.kind r) refl (of_after (section_ended s) s.kind r) e
+  opens : may_end s.section ≡ true → option_map (to_line (suc s.line)) (after_section (past_section s) s.kind r) ≡ Some after → Follows s r after
+  opens ended e = by (after_section (past_section s) s.kind r) refl (of_after (past_section s) s.kind r) e
     where
-      by : (o : Option State) → after_section (section_ended s) s.kind r ≡ o → Keeps (section_ended s) o → option_map (to_line (suc s.line)) o ≡ Some after → Follows s r after
+      by : (o : Option State) → after_section (past_section s) s.kind r ≡ o → Keeps (past_section s) o → option_map (to_line (suc s.line)) o ≡ Some after → Follows s r after
       by None at kept f = absurd (none-some after f)
       by (Some t) at kept f = inner (is_inner r) refl
         where
           inner : (b : Bool) → is_inner r ≡ b → Follows s r after
-          inner true i = absurd (none-some t (sym (opens_none (section_ended s) s.kind r i) ∙ at))
+          inner true i = absurd (none-some t (sym (opens_none (past_section s) s.kind r i) ∙ at))
           inner false i =
               subst (FollowsIf s r) f
               (stays s t r is (λ past. none_drafted s.section.draft (and_parts (nat_lt 0 (length s.section.bidders)) (is_none s.section.draft) ended).1) kept (opening_names r i)
@@ -276,7 +276,7 @@ module _ (s after : State) (r : Record) (is : s.version ≡ version_1) (inside :
       let place : s.place ≡ at_section = section_place s.place inside in
       by (take_record s.section r) refl (sym (ap (λ (p : Place). option_map (to_line (suc s.line)) (next_at s p r)) place) ∙ e)
     where
-      ended : (b : Bool) → may_end s.section ≡ b → option_map (to_line (suc s.line)) (cond b (after_section (section_ended s) s.kind r) None) ≡ Some after → Follows s r after
+      ended : (b : Bool) → may_end s.section ≡ b → option_map (to_line (suc s.line)) (cond b (after_section (past_section s) s.kind r) None) ≡ Some after → Follows s r after
       ended true m f = opens m f
       ended false m f = absurd (none-some after f)
 

@@ -15,7 +15,7 @@ use Rattle.ice_journal.specs.Plain.{all_zero}
 use Rattle.ice_journal.specs.Records as line
 use Rattle.ice_journal_laws.specs.Fields.{head_value, set_in, is_assign, settlement_in, is_spent, step_in, multipliers_after, amount_in, prices_in, is_limit, is_pool, accuracy_in, balance_in, row_in, verdict_in, threshold_in, payment_in, is_end, is_round_stop}
 use Rattle.ice_journal_laws.specs.State.{Stated, Place, at_section, at_group, at_sets, at_log, at_regret, at_prices, at_accuracy, at_accuracy_rows, at_balance_rows, at_round, at_verdict, at_threshold, at_payment, at_spent_sets, at_spent_log, at_pool, at_end, done, State, exchange_at, goods_at}
-use Rattle.ice_journal_laws.specs.Next.{next_at, go_to, bidder_count, if_true, or_stop, may_have_row, with_row, from_head, after_sets, with_set, after_log, after_step, after_regret, to_balance, settled, to_settlement, from_round, open_after, from_end, after_section}
+use Rattle.ice_journal_laws.specs.Next.{next_at, go_to, bidder_count, if_true, or_stop, may_have_row, with_row, from_head, after_sets, with_set, after_log, after_step, after_regret, to_balance, next_settlement, to_settlement, from_round, open_after, from_end, after_section}
 
 abbrev pub is_past : Place → Bool
 is_past at_section = false
@@ -102,7 +102,7 @@ of_after s exchange_kind r = tt
 of_after s prices_kind r = tt
 
 of_settlement : (s : State) (r : Record) → Keeps s (to_settlement s r)
-of_settlement s r = of_then s (λ number. if_true (number == suc s.number) (settled s)) (settlement_in r) (λ number. of_test s (number == suc s.number) (settled s) (refl, refl, refl))
+of_settlement s r = of_then s (λ number. if_true (number == suc s.number) (next_settlement s)) (settlement_in r) (λ number. of_test s (number == suc s.number) (next_settlement s) (refl, refl, refl))
 
 of_round : (s : State) (r : Record) → Keeps s (from_round s r)
 of_round s (line.submit x) = (refl, refl, refl)

@@ -20,7 +20,7 @@ use Rattle.ice_journal.specs.Records.{Record, version_1, version_2, Kind, assign
 use Rattle.ice_journal.specs.Spelling.{line_of}
 use Rattle.ice_journal.specs.Journal.{IsJournal, bytes_of}
 use Rattle.ice_journal.specs.Lines.{kind_of}
-use Rattle.ice_journal.specs.Plain.{goods_in, all_zero, packed_records, packed}
+use Rattle.ice_journal.specs.Plain.{goods_in, all_zero, packed_records, in_version_2}
 use Rattle.ice_write.proofs.Loops.{bytes_cons, fails_as, put_as, first_fails, then_put}
 use Rattle.ice_migrate.specs.Reading.{Starts, HasLine}
 use Rattle.ice_migrate.specs.Packing.{before_of, packed_record, packed_after, PutsPacked}
@@ -113,7 +113,7 @@ pub record HasHead (journal : List Record) (kind : Kind) (after : List ℕ) : Ty
   pub rest : List Record
   pub is : IsJournal after rest
   pub lawful : IsRecord (line.head version_2 kind)
-  pub packed_is : bytes_of (packed journal) ≡ line_of (line.head version_2 kind) ++ bytes_of (packed_records (goods_in journal) (all_zero (goods_in journal)) rest)
+  pub packed_is : bytes_of (in_version_2 journal) ≡ line_of (line.head version_2 kind) ++ bytes_of (packed_records (goods_in journal) (all_zero (goods_in journal)) rest)
 
 has_kind : (kind : Kind) (rest : List Record) (k : Kind) (after : List ℕ) → k ≡ kind → IsRecord (line.head version_2 kind) → IsJournal after rest → HasHead (line.head version_1 kind ∷ rest) k after
 has_kind kind rest k after same lawful is = record {
@@ -121,7 +121,7 @@ has_kind kind rest k after same lawful is = record {
   is = is;
   lawful = subst (λ (y : Kind). IsRecord (line.head version_2 y)) (sym same) lawful;
   packed_is = subst
-      (λ (y : Kind). bytes_of (packed (line.head version_1 kind ∷ rest)) ≡ line_of (line.head version_2 y) ++ bytes_of (packed_records (goods_in rest) (all_zero (goods_in rest)) rest)) (sym same)
+      (λ (y : Kind). bytes_of (in_version_2 (line.head version_1 kind ∷ rest)) ≡ line_of (line.head version_2 y) ++ bytes_of (packed_records (goods_in rest) (all_zero (goods_in rest)) rest)) (sym same)
       (bytes_cons (line.head version_2 kind) (packed_records (goods_in rest) (all_zero (goods_in rest)) rest));
 }
 
@@ -145,13 +145,13 @@ module _ (journal : List Record) (old : Taken) (migrated : IsMigrated journal) (
   pub head_fails : (put : Result (Unit {0}) SinkFault) (fault : SinkFault) (new : Taken) → put ≡ Err fault → FailsIn (line_of (line.head version_2 kind)) old new → PutsPacked journal put old new
   head_fails put fault new is fails = record {
     migrated = migrated;
-    is_put = fails_as (bytes_of (packed journal)) (head ++ behind) put fault is h.packed_is (first_fails head behind fails);
+    is_put = fails_as (bytes_of (in_version_2 journal)) (head ++ behind) put fault is h.packed_is (first_fails head behind fails);
   }
 
   pub head_then : (goods : ℕ) (mid : Taken) (put : Result (Unit {0}) SinkFault) (new : Taken) → goods ≡ goods_in journal → Takes (line_of (line.head version_2 kind)) old mid
       → IsPut (bytes_of (packed_records goods (all_zero goods) h.rest)) put mid new → PutsPacked journal put old new
   head_then goods mid put new same takes puts = record {
     migrated = migrated;
-    is_put = put_as (bytes_of (packed journal)) (head ++ behind) put old new h.packed_is
+    is_put = put_as (bytes_of (in_version_2 journal)) (head ++ behind) put old new h.packed_is
         (then_put head behind put new takes (subst (λ (n : ℕ). IsPut (bytes_of (packed_records n (all_zero n) h.rest)) put mid new) same puts));
   }

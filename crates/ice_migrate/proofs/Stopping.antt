@@ -14,7 +14,7 @@ use Rattle.ice_journal.specs.Plain.{all_zero}
 use Rattle.ice_section.specs.Section.{may_end}
 use Rattle.ice_journal_laws.specs.Fields.{is_spent, is_limit, is_round_stop, is_end, step_in}
 use Rattle.ice_journal_laws.specs.State.{Place, at_section, at_group, at_log, at_balance_rows, at_spent_sets, at_spent_log, at_prices, at_pool, at_end, done, State, goods_at}
-use Rattle.ice_journal_laws.specs.Next.{next, next_at, go_to, to_line, if_true, after_section, section_ended, open_after}
+use Rattle.ice_journal_laws.specs.Next.{next, next_at, go_to, to_line, if_true, after_section, past_section, open_after}
 use Rattle.ice_journal_laws.specs.Tests.{IsStop}
 use Rattle.ice_migrate.proofs.Keeping.{is_past}
 use Rattle.ice_migrate.specs.Stopped.{place_of, HasCounts}
@@ -65,7 +65,7 @@ no_step version_2 goods m r stop = by r stop
     by other e = refl
 
 module _ (s : State) where
-  spent_opens : (value bound : ℤ) (kind : Kind) (b : Bool) → Leads (at_spent_sets 0) (cond b (after_section (section_ended s) kind (line.spent value bound)) None)
+  spent_opens : (value bound : ℤ) (kind : Kind) (b : Bool) → Leads (at_spent_sets 0) (cond b (after_section (past_section s) kind (line.spent value bound)) None)
   spent_opens value bound kind false = tt
   spent_opens value bound assign_kind true = tt
   spent_opens value bound regret_kind true = refl
@@ -84,7 +84,7 @@ module _ (s : State) where
   spent_leads (at_spent_log sides) value bound = none_leads (at_spent_sets 0) _ (ap (option_map _) (no_step s.version (goods_at s) (all_zero (goods_at s)) (line.spent value bound) refl))
   spent_leads other value bound = tt
 
-  limit_opens : (stage : Stage) (limit : LimitKind) (violation : ℤ) (den : ℕ) (kind : Kind) (b : Bool) → Leads at_pool (cond b (after_section (section_ended s) kind (line.limit stage limit violation den)) None)
+  limit_opens : (stage : Stage) (limit : LimitKind) (violation : ℤ) (den : ℕ) (kind : Kind) (b : Bool) → Leads at_pool (cond b (after_section (past_section s) kind (line.limit stage limit violation den)) None)
   limit_opens stage limit violation den kind false = tt
   limit_opens stage limit violation den assign_kind true = tt
   limit_opens stage limit violation den regret_kind true = tt
@@ -104,7 +104,7 @@ module _ (s : State) where
   limit_leads at_prices stage limit violation den = refl
   limit_leads other stage limit violation den = tt
 
-  open_opens : (kind : Kind) (b : Bool) → Leads done (cond b (after_section (section_ended s) kind (line.end open_end)) None)
+  open_opens : (kind : Kind) (b : Bool) → Leads done (cond b (after_section (past_section s) kind (line.end open_end)) None)
   open_opens kind false = tt
   open_opens assign_kind true = tt
   open_opens regret_kind true = tt
@@ -125,7 +125,7 @@ module _ (s : State) where
   open_leads (at_end word) = test_leads (is_end word (line.end open_end)) done s
   open_leads other = tt
 
-  refused_opens : (file number : ℕ) (name : List ℕ) (kind : Kind) (b : Bool) → Leads done (cond b (after_section (section_ended s) kind (line.refused file number name)) None)
+  refused_opens : (file number : ℕ) (name : List ℕ) (kind : Kind) (b : Bool) → Leads done (cond b (after_section (past_section s) kind (line.refused file number name)) None)
   refused_opens file number name kind false = tt
   refused_opens file number name assign_kind true = tt
   refused_opens file number name regret_kind true = tt
@@ -145,7 +145,7 @@ module _ (s : State) where
   refused_leads (at_balance_rows den rows) file number name = test_leads (is_round_stop (s.number + 2) (line.refused file number name)) done s
   refused_leads other file number name = tt
 
-  unread_opens : (file : ℕ) (kind : Kind) (b : Bool) → Leads done (cond b (after_section (section_ended s) kind (line.unread file)) None)
+  unread_opens : (file : ℕ) (kind : Kind) (b : Bool) → Leads done (cond b (after_section (past_section s) kind (line.unread file)) None)
   unread_opens file kind false = tt
   unread_opens file assign_kind true = tt
   unread_opens file regret_kind true = tt

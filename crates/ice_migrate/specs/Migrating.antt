@@ -3,7 +3,7 @@ use Rattle.std.specs.Prelude.{ℕ, ◌≡◌, ◌≢◌, ◌⊎◌, Bool, true, 
 use Rattle.ice_journal.specs.Records.{Record, version_1, regret_kind, session_kind}
 use Rattle.ice_journal.specs.Records as line
 use Rattle.ice_journal.specs.Journal.{grammar, unended, IsLinesFault}
-use Rattle.ice_journal.specs.Plain.{plain, packed}
+use Rattle.ice_journal.specs.Plain.{plain, in_version_2}
 use Rattle.ice_journal_laws.specs.declared.rule.Rule.TheVariants as rule
 use Rattle.ice_journal_laws.specs.Checks.{Failure, FirstFailure}
 use Rattle.ice_journal_laws.specs.Answers.{OfJournal}
@@ -30,7 +30,7 @@ pub record IsMigrated (journal : List Record) : Type 0 where
   pub old : IsTrue (is_old journal)
   pub passes : PassesOrStops journal
   pub ordered : order_failure journal ≡ None
-  pub comes_back : plain (packed journal) ≡ journal
+  pub comes_back : plain (in_version_2 journal) ≡ journal
 
 -- its first failed test is another one than that of a stop, or behind its stop this one fails first
 abbrev pub FailsAt : List Record → Failure → Type 0

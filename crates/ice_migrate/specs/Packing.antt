@@ -9,7 +9,7 @@ use Rattle.ice_defs.specs.Steps.{branch, leaf, dead}
 use Rattle.ice_journal.specs.Records.{Record}
 use Rattle.ice_journal.specs.Records as line
 use Rattle.ice_journal.specs.Journal.{bytes_of}
-use Rattle.ice_journal.specs.Plain.{all_zero, changes_from, packed}
+use Rattle.ice_journal.specs.Plain.{all_zero, changes_from, in_version_2}
 use Rattle.ice_migrate.specs.Migrating.{IsMigrated}
 use Rattle.ice_migrate.specs.declared.packing.Packing.{Packing}
 
@@ -36,4 +36,4 @@ packed_after goods m r = all_zero goods
 -- the journal, which was judged, is put in version 2
 pub record PutsPacked (journal : List Record) (put : Result (Unit {0}) SinkFault) (old new : Taken) : Type 0 where
   pub migrated : IsMigrated journal
-  pub is_put : IsPut (bytes_of (packed journal)) put old new
+  pub is_put : IsPut (bytes_of (in_version_2 journal)) put old new

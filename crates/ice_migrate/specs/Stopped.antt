@@ -21,10 +21,10 @@ place_of End = at_end spent_end
 place_of Done = done
 
 -- what a place counts
-abbrev pub counted : Place → ℕ
-counted (Sets taken) = taken
-counted (Log open_sides) = open_sides
-counted other = 0
+abbrev pub count_at : Place → ℕ
+count_at (Sets taken) = taken
+count_at (Log open_sides) = open_sides
+count_at other = 0
 
 -- the exchange of the state has so many goods and bidders, and its journal is of version 1
 pub record HasCounts (s : State) (c : Counts) : Type 0 where

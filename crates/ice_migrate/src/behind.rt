@@ -5,7 +5,7 @@ ghost use Rattle.ice_journal.specs.Journal.{IsJournal};
 ghost use Rattle.ice_journal_laws.specs.State.{State};
 ghost use Rattle.ice_migrate.specs.Order.{order_from, order_failure};
 ghost use Rattle.ice_migrate.specs.Migrating.{is_old, StopsAt};
-ghost use Rattle.ice_migrate.specs.Stopped.{counted, StandsAt, failure_of};
+ghost use Rattle.ice_migrate.specs.Stopped.{count_at, StandsAt, failure_of};
 
 use crate::counts::Counts;
 use crate::place::Place;
@@ -28,7 +28,7 @@ fn first_out_of_order(
     records: &mut Records<'_>,
 ) -> Option<FailedTest>
     requires few { line + length records.old < 2 ^ 63 + 2 }
-    requires low { counted place ≤ line }
+    requires low { count_at place ≤ line }
     ensures { (s : State) (left : List Record) → IsJournal records.old left
         → StandsAt s counts place line → order_from s left ≡ option_map failure_of result }
 {

@@ -5,7 +5,7 @@ ghost use Rattle.ice_journal.specs.Lines.{record_of};
 ghost use Rattle.ice_journal_laws.specs.State.{State, at_spent_sets, at_spent_log, at_end};
 ghost use Rattle.ice_journal_laws.specs.Next.{next, next_at, go_to};
 ghost use Rattle.ice_journal_laws.specs.Tests.{IsStop};
-ghost use Rattle.ice_migrate.specs.Stopped.{place_of, counted, HasCounts};
+ghost use Rattle.ice_migrate.specs.Stopped.{place_of, count_at, HasCounts};
 
 use crate::counts::Counts;
 use ice_journal::{EndWord, Line};
@@ -30,7 +30,7 @@ fn behind_sets(taken: u64, bidders: u64) -> Place
     requires some { 0 < taken }
     ensures place { place_of result
         ≡ (if taken == bidders then at_spent_log 1 else at_spent_sets taken) }
-    ensures few { counted result ≤ taken }
+    ensures few { count_at result ≤ taken }
 {
     if taken == bidders {
         Place::Log { sides: 1 }
@@ -43,7 +43,7 @@ fn behind_sets(taken: u64, bidders: u64) -> Place
 fn behind_step(sides: u64) -> Place
     ensures place { place_of result
         ≡ (if sides == 0 then at_end spent_end else at_spent_log sides) }
-    ensures few { counted result ≤ sides }
+    ensures few { count_at result ≤ sides }
 {
     if sides == 0 {
         Place::End
@@ -57,7 +57,7 @@ impl Place {
     pub(crate) fn behind(first: &Line) -> Place
         ensures place { (s after : State) → IsStop s (record_of first.now)
             → next s (record_of first.now) ≡ Some after → after.place ≡ place_of result }
-        ensures none { counted result ≡ 0 }
+        ensures none { count_at result ≡ 0 }
     {
         match first {
             Line::Spent { .. } => Place::Sets { taken: 0 },
@@ -69,11 +69,11 @@ impl Place {
     /// Behind one record more, in a journal of version 1 with so many goods and bidders; None where
     /// the record may not stand here.
     pub(crate) fn after(self, line: &Line, counts: Counts) -> Option<Place>
-        requires few { counted self < 2 ^ 64 - 1 }
+        requires few { count_at self < 2 ^ 64 - 1 }
         ensures place { (s : State) → HasCounts s counts → s.place ≡ place_of self
             → next_at s (place_of self) (record_of line.now)
             ≡ option_map (λ place. go_to (place_of place) s) result }
-        ensures more { IfSome result (λ place. counted place ≤ suc (counted self)) }
+        ensures more { IfSome result (λ place. count_at place ≤ suc (count_at self)) }
     {
         match (self, line) {
             (Place::Sets { taken }, Line::Set(_)) => Some(behind_sets(taken + 1, counts.bidders)),

@@ -3,7 +3,7 @@ use Rattle.std.proofs.Common.{ℕ, ◌≤◌, ◌≡◌, ◌^◌, List, ℤ, ap,
 use Rattle.ice_defs.specs.Fraction.{Equals}
 use Rattle.ice_defs.specs.Prices.{Prices}
 use Rattle.ice_defs.specs.Rows.{Certificate, HasCommonDivisor}
-use Rattle.ice_defs.specs.PricingRun.{Member, first_stage, solution_prices, allowed, IsAccurateStage, turns}
+use Rattle.ice_defs.specs.PricingRun.{Member, first_stage, solution_prices, allowance, IsAccurateStage, turns}
 use Rattle.ice_pricing_laws.specs.Laws.{balance_at}
 use Rattle.ice_pricing_laws.specs.Ends.{certificate_at}
 use Rattle.ice_pricing_laws.proofs.Ends.{accuracy_stage_ends, balance_stage_ends}
@@ -32,8 +32,8 @@ module _ (t : ProvisionalTrade) (is : IsProvisional t) where
           solved,
           none,
           den,
-          (let P : ℤ → Type 0 = λ z. Equals (record { num = z; den = p.den }) (allowed t.trees t.weights t.sets t.goods t.cap first_stage x) in
-              let Q : ℕ → Type 0 = λ d. Equals (record { num = w; den = d }) (allowed t.trees t.weights t.sets t.goods t.cap first_stage x) in
+          (let P : ℤ → Type 0 = λ z. Equals (record { num = z; den = p.den }) (allowance t.trees t.weights t.sets t.goods t.cap first_stage x) in
+              let Q : ℕ → Type 0 = λ d. Equals (record { num = w; den = d }) (allowance t.trees t.weights t.sets t.goods t.cap first_stage x) in
               subst P one (subst Q (sym den) equals)),
         );
         unlimited = stage_is_unlimited t.trees t.weights t.sets t.goods t.cap first_stage pool x solved none (subst (λ d. d ≤ 2 ^ 32) den end.den_fits) end.fits;

@@ -4,7 +4,7 @@ use Rattle.std.specs.List.{AllByRecursion}
 use Rattle.ice_defs.specs.Fraction.{Fraction, IsFraction, Equals, fraction_at}
 use Rattle.ice_defs.specs.Prices.{Prices}
 use Rattle.ice_defs.specs.PricingLimit.{rows_limit, den_limit}
-use Rattle.ice_defs.specs.PricingRun.{Member, StageAt, solution_prices, allowed, weights_at, common_den, num_over, HasNoneToAdd, MayFollow, IsAtLimit}
+use Rattle.ice_defs.specs.PricingRun.{Member, StageAt, solution_prices, allowance, weights_at, common_den, num_over, HasNoneToAdd, MayFollow, IsAtLimit}
 use Rattle.ice_defs.specs.Rows.{Certificate, HasCommonDivisor}
 use Rattle.ice_pricing_laws.specs.Weights.{certificate_with, weights_of_duals, nums_of}
 use Rattle.ice_pricing_laws.proofs.Scans.{certificate_fits}
@@ -64,13 +64,13 @@ run-stopped t at pool WithoutMemory state is = tt
 module _ (t : ProvisionalTrade) (at : StageAt) (pool : List Member) (x y : List Fraction) (is : IsSolved t at pool x y) (p : Prices) (same : p ≡ solution_prices t.trees t.weights t.sets t.goods t.cap x)
     (most last : Fraction) (read : last ≡ fraction_at x t.goods) (proper : IsFraction most) (own : IsFraction (allowed_excess at.stage (record { num = at.delta; den = at.den }) last))
     (equal : Equals most (allowed_excess at.stage (record { num = at.delta; den = at.den }) last)) where
-  own-is : allowed_excess at.stage (record { num = at.delta; den = at.den }) last ≡ allowed t.trees t.weights t.sets t.goods t.cap at x
+  own-is : allowed_excess at.stage (record { num = at.delta; den = at.den }) last ≡ allowance t.trees t.weights t.sets t.goods t.cap at x
   own-is = ap (allowed_excess at.stage (record { num = at.delta; den = at.den })) read ∙ sym (allowed-is t at x)
 
-  there : Equals most (allowed t.trees t.weights t.sets t.goods t.cap at x)
+  there : Equals most (allowance t.trees t.weights t.sets t.goods t.cap at x)
   there = subst (λ (a : Fraction). Equals most a) own-is equal
 
-  allowed-proper : IsFraction (allowed t.trees t.weights t.sets t.goods t.cap at x)
+  allowed-proper : IsFraction (allowance t.trees t.weights t.sets t.goods t.cap at x)
   allowed-proper = subst IsFraction own-is own
 
   adds-full : (m : Member) → 200 ≤ length pool → IsFirstAbove t p most m → IsAtLimit t.trees t.weights t.sets t.goods t.cap rows_limit at pool

@@ -1,9 +1,9 @@
 -- What the turns of a stage lead to.
 use Rattle.std.proofs.Common.{ℕ, ◌≡◌, List, map, drop, Some, pos, arith, refl, ap, sym, subst, ◌∙◌}
-use Rattle.ice_defs.specs.Fraction.{Fraction, whole, times}
+use Rattle.ice_defs.specs.Fraction.{Fraction, whole_number, times}
 use Rattle.ice_defs.specs.Program.{Program, AreDuals, IsInfeasible}
 use Rattle.ice_defs.specs.PricingLimit.{Stage, accuracy_stage, balance_stage, fairness_stage}
-use Rattle.ice_defs.specs.PricingRun.{Member, StageAt, point_at, duals_at, solution, weight_factor, weights_at, lowered}
+use Rattle.ice_defs.specs.PricingRun.{Member, StageAt, point_at, duals_at, solution, weight_factor, weights_at, in_lowest_terms}
 use Rattle.ice_defs.specs.Trace.{trace_end}
 use Rattle.ice_defs.specs.declared.LimitKind.TheVariants.{Wide, Pivots, Rows, Den}
 use Rattle.ice_pricing_laws.specs.Ends.{IsRunMarket}
@@ -66,7 +66,7 @@ pub weights-are : (t : ProvisionalTrade) (at : StageAt) (pool : List Member) (y 
     → duals_at t.trees t.weights t.sets t.goods t.cap (program_over t at pool) (trace_end (program_over t at pool)) ≡ y
     → weights_at t.trees t.weights t.sets t.goods t.cap at pool ≡ weights_of_duals (dual_factor at.stage at.den) (drop t.goods y)
 weights-are t at pool y e =
-    ap (λ z. map (λ f. lowered t.trees t.weights t.sets t.goods t.cap (times (whole (pos (weight_factor t.trees t.weights t.sets t.goods t.cap at.stage at.den))) f)) (drop t.goods z)) e
+    ap (λ z. map (λ f. in_lowest_terms t.trees t.weights t.sets t.goods t.cap (times (whole_number (pos (weight_factor t.trees t.weights t.sets t.goods t.cap at.stage at.den))) f)) (drop t.goods z)) e
     ∙ ap (λ k. weights_of_duals k (drop t.goods y)) (by at.stage at.den)
   where
     by : (s : Stage) (den : ℕ) → weight_factor t.trees t.weights t.sets t.goods t.cap s den ≡ dual_factor s den

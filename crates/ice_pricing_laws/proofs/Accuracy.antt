@@ -11,7 +11,7 @@ use Rattle.ice_defs.specs.Prices.{Prices, price_of, ArePrices}
 use Rattle.ice_defs.specs.Pricing.{IsChoice, IsViolation}
 use Rattle.ice_defs.specs.Fraction.{Fraction, AtMost, Below, fraction_at}
 use Rattle.ice_defs.specs.Program.{IsPoint, IsLeast, cost}
-use Rattle.ice_defs.specs.PricingRun.{Member, StageAt, first_stage, accuracy_program, solution_prices, allowed, HasNoneToAdd, excess_of}
+use Rattle.ice_defs.specs.PricingRun.{Member, StageAt, first_stage, accuracy_program, solution_prices, allowance, HasNoneToAdd, excess_of}
 use Rattle.ice_defs.proofs.Products.{times-le}
 use Rattle.ice_frac.proofs.Fractions.{AtMost-trans, Equals_from_AtMost, AtMost-left}
 use Rattle.ice_frac.proofs.Ring.{cancel_le, scale_le, turn3}
@@ -103,12 +103,12 @@ module _ (ts : List Tree) (ws : List Weights) (sets : Assignment) (goods : ℕ) 
 
   -- where none is to be added, no excess is above what is allowed
   pub none-le : (at : StageAt) (x : List Fraction) (v : ℤ) → HasNoneToAdd ts ws sets goods cap at x → IsViolation ts ws sets (solution_prices ts ws sets goods cap x) v
-      → AtMost (record { num = v; den = (solution_prices ts ws sets goods cap x).den }) (allowed ts ws sets goods cap at x)
+      → AtMost (record { num = v; den = (solution_prices ts ws sets goods cap x).den }) (allowance ts ws sets goods cap at x)
   none-le at x v none is =
       let ((b, s), there, e) = is.attained in
       let m : Member = record { bidder = b; set = s } in
-      let most = at_most_from_not (allowed ts ws sets goods cap at x) (excess_of ts ws sets goods cap (solution_prices ts ws sets goods cap x) m) (λ below. none m (there, below)) in
-      subst (λ z. AtMost (record { num = z; den = (solution_prices ts ws sets goods cap x).den }) (allowed ts ws sets goods cap at x)) e most
+      let most = at_most_from_not (allowance ts ws sets goods cap at x) (excess_of ts ws sets goods cap (solution_prices ts ws sets goods cap x) m) (λ below. none m (there, below)) in
+      subst (λ z. AtMost (record { num = z; den = (solution_prices ts ws sets goods cap x).den }) (allowance ts ws sets goods cap at x)) e most
 
 pub least_is_accurate : LeastIsAccurate
 least_is_accurate ts ws sets goods cap pool x v satisfied members least none is =

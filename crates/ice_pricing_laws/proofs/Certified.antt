@@ -10,9 +10,9 @@ use Rattle.ice_defs.specs.Set.{Weights, value, units}
 use Rattle.ice_defs.specs.Trade.{Assignment, tree_of, set_of, weights_of}
 use Rattle.ice_defs.specs.Prices.{Prices, ArePrices}
 use Rattle.ice_defs.specs.Pricing.{IsViolation, top_of}
-use Rattle.ice_defs.specs.Rows.{Row, weighted_sum, wanted}
+use Rattle.ice_defs.specs.Rows.{Row, weighted_sum, demand}
 use Rattle.ice_defs.specs.Rows as rows
-use Rattle.ice_defs.specs.Fraction.{Fraction, whole, Equals, times, fraction_at}
+use Rattle.ice_defs.specs.Fraction.{Fraction, whole_number, Equals, times, fraction_at}
 use Rattle.ice_defs.specs.Program.{Constraint, dot, leasts, cost}
 use Rattle.ice_defs.specs.PricingRun.{Member, accuracy_program, balance_program, solution_prices, worth_above}
 use Rattle.ice_defs.proofs.Products.{times-le}
@@ -92,10 +92,10 @@ module _ (goods : ℕ) (pool : List Member) (y : List Fraction) (d : ℕ) (a : �
   weights-multiples factor den ns weights i h =
       let f : Fraction = fraction_at y (goods + i) in
       let here = are (goods + i) (omega (arith, size, h)) in
-      let whole_over : IsOver d (pos factor *ℤ a (goods + i)) (times (whole (pos factor)) f) = times-over d (pos factor) (a (goods + i)) f here in
-      let e : Equals (record { num = weight_at ns i; den = den }) (times (whole (pos factor)) f) =
-      subst (λ (g : Fraction). Equals (record { num = weight_at ns i; den = den }) (times (whole (pos factor)) g)) (get_or-drop goods y i (whole (pos 0))) (weights.equal i (omega (arith, length-drop goods y, size, h))) in
-      over-same den d (weight_at ns i) (pos factor *ℤ a (goods + i)) (times (whole (pos factor)) f) (record { proper = whole_over.proper; equal = sym e }) whole_over
+      let whole_over : IsOver d (pos factor *ℤ a (goods + i)) (times (whole_number (pos factor)) f) = times-over d (pos factor) (a (goods + i)) f here in
+      let e : Equals (record { num = weight_at ns i; den = den }) (times (whole_number (pos factor)) f) =
+      subst (λ (g : Fraction). Equals (record { num = weight_at ns i; den = den }) (times (whole_number (pos factor)) g)) (get_or-drop goods y i (whole_number (pos 0))) (weights.equal i (omega (arith, length-drop goods y, size, h))) in
+      over-same den d (weight_at ns i) (pos factor *ℤ a (goods + i)) (times (whole_number (pos factor)) f) (record { proper = whole_over.proper; equal = sym e }) whole_over
 
 module _ (ts : List Tree) (ws : List Weights) (sets : Assignment) (goods : ℕ) (cap : ℤ) (pool : List Member) where
   units-rows : (g : ℕ) (ns : List ℕ) → length ns ≡ length pool → weighted_sum (rows.units_above ts ws sets g) (rows_with pool ns) ≡ pool_sum pool (λ m. above ts ws sets goods cap m g) (weight_at ns)
@@ -111,10 +111,10 @@ module _ (ts : List Tree) (ws : List Weights) (sets : Assignment) (goods : ℕ) 
   -- most the violation at any prices within the cap
   worth-most : (p : Prices) (v : ℤ) (rs : List Row) (den : ℕ) → AreSatisfied ts sets → ArePrices goods cap p → IsViolation ts ws sets p v
       → AllByRecursion (rows.IsRow ts ws sets) rs → total_weight rs ≤ den
-      → (pos p.den *ℤ (weighted_sum (rows.worth_above ts ws sets) rs -ℤ (pos 100 *ℤ (cap *ℤ wanted ts ws sets goods rs)))) ≤ℤ (v *ℤ pos den)
+      → (pos p.den *ℤ (weighted_sum (rows.worth_above ts ws sets) rs -ℤ (pos 100 *ℤ (cap *ℤ demand ts ws sets goods rs)))) ≤ℤ (v *ℤ pos den)
   worth-most p v rs den satisfied within is are weights =
       let sum = weighted_sum (rows.worth_above ts ws sets) rs in
-      let all = wanted ts ws sets goods rs in
+      let all = demand ts ws sets goods rs in
       let top = cap *ℤ pos p.den in
       let turned : top *ℤ all ≡ pos p.den *ℤ (cap *ℤ all) =
       *ℤ_comm top all ∙ ap (λ z. all *ℤ z) (*ℤ_comm cap (pos p.den)) ∙ times_swap p.den all cap ∙ ap (λ z. pos p.den *ℤ z) (*ℤ_comm all cap) in
@@ -189,7 +189,7 @@ duals_pass_accuracy ts ws sets goods cap pool x y v den ns some satisfied member
     omega (arith, ints, most)) in
     let proper = rows-proper ts ws sets pool ns members in
     let lower =
-    accuracy-lower (weighted_sum (rows.worth_above ts ws sets) rs) (pool_sum pool worth b) (sum_below a goods) cap (wanted ts ws sets goods rs) v s e den p.den he worths wants some even facts.total in
+    accuracy-lower (weighted_sum (rows.worth_above ts ws sets) rs) (pool_sum pool worth b) (sum_below a goods) cap (demand ts ws sets goods rs) v s e den p.den he worths wants some even facts.total in
     let upper = worth-most ts ws sets goods cap pool p v rs den satisfied accurate.within is proper heavy in
     record { proper = weights.positive; rows = proper; weights = heavy; equal = omega (arith, ints, lower, upper) }
 
@@ -239,7 +239,7 @@ duals_pass_balance ts ws sets goods cap pool p delta x y v den ns satisfied memb
       one_time (pos e *ℤ weighted_sum (rows.units_above ts ws sets g) rs),
     ) in
     let wants = wanted-most 1 e den (λ g. weighted_sum (rows.units_above ts ws sets g) rs) a goods facts.low each in
-    let all : ℤ = wanted ts ws sets goods rs in
+    let all : ℤ = demand ts ws sets goods rs in
     let asked : all ≤ℤ pos den =
     times_cancel e all (pos den) he (omega (arith, ints, wants, one_time (pos e *ℤ all), times-le den (sum_below a goods) (pos e) facts.last, *ℤ_comm (pos den) (pos e))) in
     let worth : Member → ℤ = worth_above ts ws sets goods cap in

@@ -8,7 +8,7 @@ use Rattle.ice_defs.specs.Sum.{sum_below, numbers_below}
 use Rattle.ice_defs.specs.Tree.{Tree}
 use Rattle.ice_defs.specs.Set.{Weights}
 use Rattle.ice_defs.specs.Trade.{Assignment}
-use Rattle.ice_defs.specs.Fraction.{Fraction, whole, IsFraction, AtMost, fraction_at}
+use Rattle.ice_defs.specs.Fraction.{Fraction, whole_number, IsFraction, AtMost, fraction_at}
 use Rattle.ice_defs.specs.Program.{Constraint, dot, leasts, AreNonNegative, AreDuals}
 use Rattle.ice_defs.specs.PricingRun.{Member, only_at, worth_above, units_above, accuracy_program, balance_program}
 use Rattle.ice_defs.proofs.Sums.{sum_below-same, sum_below-single, sum_below-zero, at_same, at_other}
@@ -94,13 +94,13 @@ module _ (ts : List Tree) (ws : List Weights) (sets : Assignment) (goods : ℕ) 
 
     low-of : AreNonNegative y → (g : ℕ) → g < goods → pos 0 ≤ℤ a g
     low-of low g h =
-        let at = all-at (λ f. IsFraction f × AtMost (whole (pos 0)) f) y g (whole (pos 0)) low (omega (arith, size, h)) in
+        let at = all-at (λ f. IsFraction f × AtMost (whole_number (pos 0)) f) y g (whole_number (pos 0)) low (omega (arith, size, h)) in
         let some = least-over d (pos 0) (a g) (fraction_at y g) (are g (omega (arith, size, h))) at.1 in
         omega (arith, ints, some, zero-*ℤ (pos d))
 
     -- a column's sum is at most its cost
     column-most : (g : Constraint → ℤ) (first : ℕ → Constraint) (later : Member → Constraint) (most : ℤ)
-        → AtMost (dot (map g (map first (numbers_below goods) ++ map later pool)) y) (whole most)
+        → AtMost (dot (map g (map first (numbers_below goods) ++ map later pool)) y) (whole_number most)
         → (sum_below (λ i. g (first i) *ℤ a i) goods +ℤ pool_sum pool (λ m. g (later m)) (λ i. a (goods + i))) ≤ℤ (most *ℤ pos d)
     column-most g first later most h =
         let row = over-most d most _ _ (sized (map g (map first (numbers_below goods) ++ map later pool))) h in

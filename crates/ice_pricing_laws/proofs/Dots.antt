@@ -4,7 +4,7 @@ use Rattle.std.proofs.lemmas.Int.{ints}
 use Rattle.std.proofs.Math.Nat.{mul-pos}
 use Rattle.std.proofs.Math.IntN.{zero-*ℤ}
 use Rattle.ice_defs.specs.Sum.{sum_below}
-use Rattle.ice_defs.specs.Fraction.{Fraction, whole, AtMost, plus, times}
+use Rattle.ice_defs.specs.Fraction.{Fraction, whole_number, AtMost, plus, times}
 use Rattle.ice_defs.specs.Program.{dot}
 use Rattle.ice_defs.proofs.Sums.{sum_below-zero, sum_below-front}
 use Rattle.ice_frac.proofs.Ring.{mul_assoc_ℤ}
@@ -18,10 +18,10 @@ coefficient cs j = slice_index_or cs j (pos 0)
 abbrev pub dot_num : List ℤ → (ℕ → ℤ) → ℕ → ℤ
 dot_num cs n k = sum_below (λ j. coefficient cs j *ℤ n j) k
 
-zero-over : (d : ℕ) (n : ℤ) → 0 < d → n ≡ pos 0 → IsOver d n (whole (pos 0))
+zero-over : (d : ℕ) (n : ℤ) → 0 < d → n ≡ pos 0 → IsOver d n (whole_number (pos 0))
 zero-over d n h e = record { proper = omega arith; equal = zero-*ℤ (pos d) ∙ sym (ap (λ z. z *ℤ pos 1) e) }
 
-pub times-over : (d : ℕ) (c n : ℤ) (f : Fraction) → IsOver d n f → IsOver d (c *ℤ n) (times (whole c) f)
+pub times-over : (d : ℕ) (c n : ℤ) (f : Fraction) → IsOver d n f → IsOver d (c *ℤ n) (times (whole_number c) f)
 times-over d c n f is = record {
   proper = omega (arith, is.proper);
   equal =
@@ -45,27 +45,27 @@ pub dot-over : (d : ℕ) (cs : List ℤ) (xs : List Fraction) (n : ℕ → ℤ) 
 dot-over d [] xs n h are = zero-over d (dot_num [] n (length xs)) h (sum_below-zero (λ j. pos 0 *ℤ n j) (length xs) (λ j l. zero-*ℤ (n j)))
 dot-over d (c ∷ cs) [] n h are = zero-over d (pos 0) h refl
 dot-over d (c ∷ cs) (x ∷ xs) n h are =
-    same-over d ((c *ℤ n 0) +ℤ dot_num cs (λ j. n (suc j)) (length xs)) (dot_num (c ∷ cs) n (length (x ∷ xs))) (plus (times (whole c) x) (dot cs xs))
+    same-over d ((c *ℤ n 0) +ℤ dot_num cs (λ j. n (suc j)) (length xs)) (dot_num (c ∷ cs) n (length (x ∷ xs))) (plus (times (whole_number c) x) (dot cs xs))
     (sym (sum_below-front (λ j. coefficient (c ∷ cs) j *ℤ n j) (length xs)))
-    (plus-over d (c *ℤ n 0) (dot_num cs (λ j. n (suc j)) (length xs)) (times (whole c) x) (dot cs xs) h
+    (plus-over d (c *ℤ n 0) (dot_num cs (λ j. n (suc j)) (length xs)) (times (whole_number c) x) (dot cs xs) h
     (times-over d c (n 0) x (are 0 (omega arith)))
     (dot-over d cs xs (λ j. n (suc j)) h (λ j l. are (suc j) (omega (arith, l)))))
 
 -- ---- bounds
 
-pub least-over : (d : ℕ) (least n : ℤ) (f : Fraction) → IsOver d n f → AtMost (whole least) f → (least *ℤ pos d) ≤ℤ n
+pub least-over : (d : ℕ) (least n : ℤ) (f : Fraction) → IsOver d n f → AtMost (whole_number least) f → (least *ℤ pos d) ≤ℤ n
 least-over d least n f is h =
-    let most : AtMost (whole least) (record { num = n; den = d }) = AtMost-right (whole least) f (record { num = n; den = d }) is.proper is.equal h in
+    let most : AtMost (whole_number least) (record { num = n; den = d }) = AtMost-right (whole_number least) f (record { num = n; den = d }) is.proper is.equal h in
     omega (arith, ints, most)
 
-pub over-least : (d : ℕ) (least n : ℤ) (f : Fraction) → 0 < d → IsOver d n f → (least *ℤ pos d) ≤ℤ n → AtMost (whole least) f
+pub over-least : (d : ℕ) (least n : ℤ) (f : Fraction) → 0 < d → IsOver d n f → (least *ℤ pos d) ≤ℤ n → AtMost (whole_number least) f
 over-least d least n f hd is h =
-    let most : AtMost (whole least) (record { num = n; den = d }) = omega (arith, ints, h) in
-    AtMost-right (whole least) (record { num = n; den = d }) f hd (sym is.equal) most
+    let most : AtMost (whole_number least) (record { num = n; den = d }) = omega (arith, ints, h) in
+    AtMost-right (whole_number least) (record { num = n; den = d }) f hd (sym is.equal) most
 
-pub over-most : (d : ℕ) (most n : ℤ) (f : Fraction) → IsOver d n f → AtMost f (whole most) → n ≤ℤ (most *ℤ pos d)
+pub over-most : (d : ℕ) (most n : ℤ) (f : Fraction) → IsOver d n f → AtMost f (whole_number most) → n ≤ℤ (most *ℤ pos d)
 over-most d most n f is h =
-    let less : AtMost (record { num = n; den = d }) (whole most) = AtMost-left f (record { num = n; den = d }) (whole most) is.proper is.equal h in
+    let less : AtMost (record { num = n; den = d }) (whole_number most) = AtMost-left f (record { num = n; den = d }) (whole_number most) is.proper is.equal h in
     omega (arith, ints, less)
 
 -- of one fraction over two denominators

@@ -8,7 +8,7 @@ use Rattle.ice_defs.specs.Trade.{Assignment, set_of}
 use Rattle.ice_defs.specs.Prices.{Prices, ArePrices}
 use Rattle.ice_defs.specs.Pricing.{IsChoice, excess_net, IsBalanced}
 use Rattle.ice_defs.specs.Rows.{Certificate, PassesBalance}
-use Rattle.ice_defs.specs.Fraction.{Fraction, whole, IsFraction, Equals, AtMost, fraction_at}
+use Rattle.ice_defs.specs.Fraction.{Fraction, whole_number, IsFraction, Equals, AtMost, fraction_at}
 use Rattle.ice_defs.specs.Program.{IsPoint, IsLeast, AreDuals, AreNonNegative, IsInfeasible}
 use Rattle.ice_defs.specs.Trace.{trace_end}
 use Rattle.ice_defs.specs.PricingLimit.{Stage, accuracy_stage, balance_stage, fairness_stage}
@@ -77,7 +77,7 @@ all-drop P (suc n) (x ∷ xs) (is, are) = all-drop P n xs are
 
 weights-are : (factor goods : ℕ) (y : List Fraction) → AreNonNegative y
     → AreWeights factor (drop goods y) (common_den (weights_of_duals factor (drop goods y))) (nums_of (weights_of_duals factor (drop goods y)))
-weights-are factor goods y low = (lowered_are_weights factor (drop goods y) (all-drop (λ f. IsFraction f × AtMost (whole (pos 0)) f) goods y low)).0
+weights-are factor goods y low = (lowered_are_weights factor (drop goods y) (all-drop (λ f. IsFraction f × AtMost (whole_number (pos 0)) f) goods y low)).0
 
 pub accuracy_stage_ends : AccuracyStageEnds
 accuracy_stage_ends ts ws sets goods cap pool x market state solved none =

@@ -12,7 +12,7 @@ use Rattle.ice_defs.specs.Pricing.{IsChoice}
 use Rattle.ice_defs.specs.Fraction.{Fraction, AtMost}
 use Rattle.ice_defs.specs.Program.{IsPoint}
 use Rattle.ice_defs.specs.PricingLimit.{Stage, accuracy_stage, balance_stage, fairness_stage}
-use Rattle.ice_defs.specs.PricingRun.{Member, StageAt, stage_program, solution_prices, allowed, excess_of, starts, follows, turns}
+use Rattle.ice_defs.specs.PricingRun.{Member, StageAt, stage_program, solution_prices, allowance, excess_of, starts, follows, turns}
 use Rattle.ice_defs.proofs.Lists.{all_push}
 use Rattle.ice_frac.proofs.Fractions.{AtMost-right}
 use Rattle.ice_pricing_laws.specs.Pools.{no_member, member_at, AreDistinct, ViolatorIsNew, PoolStaysDistinct, RunPoolIsProper}
@@ -29,7 +29,7 @@ module _ (ts : List Tree) (ws : List Weights) (sets : Assignment) (goods : ℕ) 
   at_stage stage delta den = record { stage = stage; delta = delta; den = den }
 
   abbrev IsAllowed : StageAt → List Fraction → Member → Type 0
-  IsAllowed at x m = AtMost (excess_of ts ws sets goods cap (solution_prices ts ws sets goods cap x) m) (allowed ts ws sets goods cap at x)
+  IsAllowed at x m = AtMost (excess_of ts ws sets goods cap (solution_prices ts ws sets goods cap x) m) (allowance ts ws sets goods cap at x)
 
   balance-allowed : (stage : Stage) (delta : ℤ) (den : ℕ) (pool : List Member) (x : List Fraction)
       → IsPoint (stage_program ts ws sets goods cap (at_stage balance_stage delta den) pool) x → AllByRecursion (IsAllowed (at_stage balance_stage delta den) x) pool
@@ -56,7 +56,7 @@ module _ (ts : List Tree) (ws : List Weights) (sets : Assignment) (goods : ℕ) 
       all-each (MeetsAccuracy ts ws sets goods cap (den_of x) (num_at x)) (IsAllowed (at_stage accuracy_stage delta den) x) pool
       (λ m h. let most = accuracy-excess ts ws sets goods cap p (den_of x) (num_at x) (are_prices-over goods x low size) m h in
       let over : AtMost (excess_of ts ws sets goods cap p m) (record { num = num_at x goods; den = den_of x }) = omega (arith, ints, most, *ℤ_comm (pos (den_of x)) (excess ts ws sets goods cap p m)) in
-      AtMost-right (excess_of ts ws sets goods cap p m) (record { num = num_at x goods; den = den_of x }) (allowed ts ws sets goods cap (at_stage accuracy_stage delta den) x) hd (sym own.equal) over)
+      AtMost-right (excess_of ts ws sets goods cap p m) (record { num = num_at x goods; den = den_of x }) (allowance ts ws sets goods cap (at_stage accuracy_stage delta den) x) hd (sym own.equal) over)
       is.members
   stage-allowed balance_stage delta den pool x point = balance-allowed balance_stage delta den pool x point
   stage-allowed fairness_stage delta den pool x point = balance-allowed fairness_stage delta den pool x point
@@ -64,8 +64,8 @@ module _ (ts : List Tree) (ws : List Weights) (sets : Assignment) (goods : ℕ) 
 pub violator_is_new : ViolatorIsNew
 violator_is_new ts ws sets goods cap at pool x m point (there, below) i h e =
     let p = solution_prices ts ws sets goods cap x in
-    let most = subst (λ k. AtMost (excess_of ts ws sets goods cap p k) (allowed ts ws sets goods cap at x)) e
-    (all-at (λ k. AtMost (excess_of ts ws sets goods cap p k) (allowed ts ws sets goods cap at x)) pool i no_member (stage-allowed ts ws sets goods cap at.stage at.delta at.den pool x point) h) in
+    let most = subst (λ k. AtMost (excess_of ts ws sets goods cap p k) (allowance ts ws sets goods cap at x)) e
+    (all-at (λ k. AtMost (excess_of ts ws sets goods cap p k) (allowance ts ws sets goods cap at x)) pool i no_member (stage-allowed ts ws sets goods cap at.stage at.delta at.den pool x point) h) in
     omega (arith, ints, most, below)
 
 -- one more, that isn't there

@@ -9,7 +9,7 @@ use Rattle.ice_defs.specs.Sum.{sum_below, numbers_below}
 use Rattle.ice_defs.specs.Tree.{Tree}
 use Rattle.ice_defs.specs.Set.{Weights, units}
 use Rattle.ice_defs.specs.Trade.{Assignment, tree_of, set_of}
-use Rattle.ice_defs.specs.Fraction.{Fraction, whole, IsFraction, AtMost, fraction_at}
+use Rattle.ice_defs.specs.Fraction.{Fraction, whole_number, IsFraction, AtMost, fraction_at}
 use Rattle.ice_defs.specs.Program.{Constraint, dot, AreNonNegative, IsPoint}
 use Rattle.ice_defs.specs.PricingRun.{Member, only_at, worth_above, units_above, accuracy_program, balance_program}
 use Rattle.ice_defs.proofs.Products.{times_neg}
@@ -114,16 +114,16 @@ module _ (ts : List Tree) (ws : List Weights) (sets : Assignment) (goods : ℕ) 
     low-over : AreNonNegative x → (j : ℕ) → j < suc goods → pos 0 ≤ℤ n j
     low-over low j h =
         let is = are j (omega (arith, size, h)) in
-        let at = all-at (λ f. IsFraction f × AtMost (whole (pos 0)) f) x j (whole (pos 0)) low (omega (arith, size, h)) in
+        let at = all-at (λ f. IsFraction f × AtMost (whole_number (pos 0)) f) x j (whole_number (pos 0)) low (omega (arith, size, h)) in
         omega (arith, ints, least-over d (pos 0) (n j) (fraction_at x j) is at.1, zero-*ℤ (pos d))
 
     over-low : ((j : ℕ) → j < suc goods → pos 0 ≤ℤ n j) → AreNonNegative x
-    over-low low = all-from (λ f. IsFraction f × AtMost (whole (pos 0)) f) x (whole (pos 0))
+    over-low low = all-from (λ f. IsFraction f × AtMost (whole_number (pos 0)) f) x (whole_number (pos 0))
         (λ j h. let is = are j h in
         (is.proper, over-least d (pos 0) (n j) (fraction_at x j) hd is (let some = low j (omega (arith, size, h)) in omega (arith, ints, some, zero-*ℤ (pos d)))))
 
     abbrev Meets : Constraint → Type 0
-    Meets row = AtMost (whole row.least) (dot row.coeffs x)
+    Meets row = AtMost (whole_number row.least) (dot row.coeffs x)
 
     abbrev Member100 : Member → Constraint
     Member100 m = record { coeffs = units_above ts ws sets goods cap (pos 100) m ++ pos 1 ∷ []; least = worth_above ts ws sets goods cap m }

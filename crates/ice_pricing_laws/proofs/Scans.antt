@@ -10,7 +10,7 @@ use Rattle.ice_defs.specs.Trade.{Assignment}
 use Rattle.ice_defs.specs.Pricing.{IsChoice, excess_net}
 use Rattle.ice_defs.specs.Fraction.{Fraction}
 use Rattle.ice_defs.specs.PricingLimit.{wide_limit, pivots_limit, rows_limit, den_limit}
-use Rattle.ice_defs.specs.PricingRun.{Member, StageAt, stage_program, point_at, solution_prices, allowed, Violates, IsBestSet, common_den, num_over, weights_at}
+use Rattle.ice_defs.specs.PricingRun.{Member, StageAt, stage_program, point_at, solution_prices, allowance, Violates, IsBestSet, common_den, num_over, weights_at}
 use Rattle.ice_frac.proofs.Ring.{scale_le}
 use Rattle.ice_pricing_laws.proofs.Lists.{all-at}
 use Rattle.ice_pricing_laws.specs.Scans.{ScanFindsNone, ScanGivesViolation, FirstMayFollow, CertificateFits, StageIsUnlimited}
@@ -21,7 +21,7 @@ module _ (ts : List Tree) (ws : List Weights) (sets : Assignment) (goods : ℕ) 
       → (s : NodeSet) → ¬ Violates ts ws sets goods cap at x (record { bidder = m.bidder; set = s })
   best-none at x m best calm s (there, below) =
       let p = solution_prices ts ws sets goods cap x in
-      let a : Fraction = allowed ts ws sets goods cap at x in
+      let a : Fraction = allowance ts ws sets goods cap at x in
       let most = scale_le a.den (excess_net ts ws sets p (m.bidder, s)) (excess_net ts ws sets p (m.bidder, m.set)) (best.1 s there) in
       calm (best.0, omega (arith, ints, most, below))
 

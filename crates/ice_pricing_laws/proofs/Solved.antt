@@ -4,7 +4,7 @@ use Rattle.std.specs.List.{AllByRecursion}
 use Rattle.std.proofs.lemmas.List.{get_or-map, get_or-take, length-map, length-take-le, get_or_append_left, get_or_at, length_push}
 use Rattle.std.proofs.lemmas.Nat.Gcd.{dvd_refl}
 use Rattle.ice_defs.specs.Prices.{Prices, price_of}
-use Rattle.ice_defs.specs.Fraction.{Fraction, whole, IsFraction, AtMost, fraction_at}
+use Rattle.ice_defs.specs.Fraction.{Fraction, whole_number, IsFraction, AtMost, fraction_at}
 use Rattle.ice_defs.specs.Program.{AreNonNegative}
 use Rattle.ice_defs.specs.PricingRun.{common_den, num_over, prices_of}
 use Rattle.ice_pricing_laws.proofs.Lists.{all-each}
@@ -13,7 +13,7 @@ use Rattle.ice_pricing_laws.proofs.Dots.{coefficient, over-same}
 use Rattle.ice_pricing_laws.proofs.Excess.{ArePricesOver}
 
 pub all-proper : (x : List Fraction) → AreNonNegative x → AllByRecursion IsFraction x
-all-proper x low = all-each (λ f. IsFraction f × AtMost (whole (pos 0)) f) IsFraction x (λ f h. h.0) low
+all-proper x low = all-each (λ f. IsFraction f × AtMost (whole_number (pos 0)) f) IsFraction x (λ f h. h.0) low
 
 all-take : {X : Type 0} (P : X → Type 0) (n : ℕ) (xs : List X) → AllByRecursion P xs → AllByRecursion P (take n xs)
 all-take P zero xs are = tt
@@ -45,8 +45,8 @@ module _ (goods : ℕ) (x : List Fraction) (low : AreNonNegative x) (size : leng
       let fs : List Fraction = take goods x in
       let long : g < length fs = omega (arith, length-take-le goods x (omega (arith, size)), h) in
       let is = are_over (common_den fs) fs (all-take IsFraction goods x (all-proper x low)) (dvd_refl (common_den fs)) g long in
-      subst (λ f. IsOver (common_den fs) (price_of (prices_of fs) g) f) (get_or-take goods x g (whole (pos 0)) h)
-      (subst (λ z. IsOver (common_den fs) z (fraction_at fs g)) (sym (get_or-map (num_over (common_den fs)) fs g (whole (pos 0)) (pos 0) long)) is)
+      subst (λ f. IsOver (common_den fs) (price_of (prices_of fs) g) f) (get_or-take goods x g (whole_number (pos 0)) h)
+      (subst (λ z. IsOver (common_den fs) z (fraction_at fs g)) (sym (get_or-map (num_over (common_den fs)) fs g (whole_number (pos 0)) (pos 0) long)) is)
 
   pub are_prices-over : ArePricesOver goods (prices_of (take goods x)) (den_of x) (num_at x)
   are_prices-over = record {
@@ -72,7 +72,7 @@ module _ (goods : ℕ) (q : Prices) (y : ℤ) (hq : 0 < q.den) (size : length q.
 
   pub point_with-over : AreOver q.den (nums_with q y) (point_with q y)
   point_with-over j h =
-      let e = get_or-map (over_den q.den) (q.nums ++ y ∷ []) j (pos 0) (whole (pos 0)) (omega (arith, length-map (q.nums ++ y ∷ []) (over_den q.den), h)) in
+      let e = get_or-map (over_den q.den) (q.nums ++ y ∷ []) j (pos 0) (whole_number (pos 0)) (omega (arith, length-map (q.nums ++ y ∷ []) (over_den q.den), h)) in
       subst (λ f. IsOver q.den (nums_with q y j) f) (sym e) (record { proper = hq; equal = refl })
 
   pub nums_with-price : (g : ℕ) → g < goods → nums_with q y g ≡ price_of q g

@@ -5,7 +5,7 @@ use Rattle.ice_defs.specs.declared.NodeKind.TheVariants.{Buy, Sell}
 use Rattle.ice_defs.specs.Tree.{Tree}
 use Rattle.ice_defs.specs.Set.{Weights}
 use Rattle.ice_defs.specs.Trade.{Assignment}
-use Rattle.ice_defs.specs.Fraction.{whole}
+use Rattle.ice_defs.specs.Fraction.{whole_number}
 use Rattle.ice_defs.specs.Frac.{gcd, gcd_in}
 use Rattle.ice_defs.specs.Trace.{end_from}
 use Rattle.ice_defs.specs.PricingRun.{Member, first_stage, solution}
@@ -25,12 +25,12 @@ abbrev buyer : Member
 buyer = record { bidder = 1; set = true ∷ [] }
 
 -- over the empty pool the price is 0, and then the buyer violates
-starts_free : solution market weighted none 1 (pos 100) first_stage [] ≡ Some (whole (pos 0) ∷ whole (pos 0) ∷ [])
+starts_free : solution market weighted none 1 (pos 100) first_stage [] ≡ Some (whole_number (pos 0) ∷ whole_number (pos 0) ∷ [])
 unfolding end_from gcd gcd_in
 starts_free = refl
 
 -- over the buyer's set it is 11, with no violation, and no row is needed
-then_accurate : solution market weighted none 1 (pos 100) first_stage (buyer ∷ []) ≡ Some (whole (pos 11) ∷ whole (pos 0) ∷ [])
+then_accurate : solution market weighted none 1 (pos 100) first_stage (buyer ∷ []) ≡ Some (whole_number (pos 11) ∷ whole_number (pos 0) ∷ [])
 unfolding end_from gcd gcd_in
 then_accurate = refl
 
@@ -39,7 +39,7 @@ unfolding end_from gcd gcd_in
 no_rows = refl
 
 -- in the balance stage the buyer's row shows that no lower price is accurate
-then_balanced : solution market weighted none 1 (pos 100) (balance_at (pos 0) 1) (buyer ∷ []) ≡ Some (whole (pos 11) ∷ whole (pos 11) ∷ [])
+then_balanced : solution market weighted none 1 (pos 100) (balance_at (pos 0) 1) (buyer ∷ []) ≡ Some (whole_number (pos 11) ∷ whole_number (pos 11) ∷ [])
 unfolding end_from gcd gcd_in
 then_balanced = refl
 

@@ -8,7 +8,7 @@ use Rattle.ice_defs.specs.Pricing.{IsViolation, IsAccurate, IsBalanced}
 use Rattle.ice_defs.specs.Rows.{Certificate, PassesAccuracy, PassesBalance}
 use Rattle.ice_defs.specs.Fraction.{Fraction, Equals}
 use Rattle.ice_defs.specs.Program.{IsLeast, IsInfeasible}
-use Rattle.ice_defs.specs.PricingRun.{Member, StageAt, first_stage, accuracy_program, stage_program, solution, solution_prices, allowed}
+use Rattle.ice_defs.specs.PricingRun.{Member, StageAt, first_stage, accuracy_program, stage_program, solution, solution_prices, allowance}
 use Rattle.ice_defs.specs.PricingRun.{weights_at, HasNoneToAdd, IsAccurateStage, IsRunState, common_den}
 use Rattle.ice_row_laws.specs.Laws.{AreSatisfied}
 use Rattle.ice_pricing_laws.specs.Laws.{AreMembers, balance_at}
@@ -46,7 +46,7 @@ AccuracyStageEnds = (ts : List Tree) (ws : List Weights) (sets : Assignment) (go
     → IsRunMarket ts ws sets goods cap → IsRunState ts ws sets goods cap first_stage pool
     → solution ts ws sets goods cap first_stage pool ≡ Some x
     → HasNoneToAdd ts ws sets goods cap first_stage x
-    → (v : ℤ) × Equals (record { num = v; den = (solution_prices ts ws sets goods cap x).den }) (allowed ts ws sets goods cap first_stage x)
+    → (v : ℤ) × Equals (record { num = v; den = (solution_prices ts ws sets goods cap x).den }) (allowance ts ws sets goods cap first_stage x)
     × AreCertified ts ws sets goods cap (solution_prices ts ws sets goods cap x) v (certificate_at ts ws sets goods cap first_stage pool)
 
 -- a stage that is past had accurate prices over its denominator, and delta is their violation

@@ -7,7 +7,7 @@ use Rattle.ice_defs.specs.Trade.{Assignment}
 use Rattle.ice_defs.specs.Prices.{Prices}
 use Rattle.ice_defs.specs.Pricing.{IsViolation, IsAccurate}
 use Rattle.ice_defs.specs.Rows.{Row, Certificate, PassesAccuracy, PassesBalance}
-use Rattle.ice_defs.specs.Fraction.{Fraction, whole, Equals, times, fraction_at}
+use Rattle.ice_defs.specs.Fraction.{Fraction, whole_number, Equals, times, fraction_at}
 use Rattle.ice_defs.specs.Frac.{lowest}
 use Rattle.ice_defs.specs.Program.{IsLeast, AreDuals, AreNonNegative}
 use Rattle.ice_defs.specs.PricingRun.{Member, first_stage, accuracy_program, balance_program, solution_prices, HasNoneToAdd, common_den}
@@ -30,7 +30,7 @@ pub record AreWeights (factor : ℕ) (fs : List Fraction) (den : ℕ) (ns : List
   pub positive : 0 < den
   pub same_length : length ns ≡ length fs
   pub equal : (i : ℕ) → i < length fs
-      → Equals (record { num = pos (slice_index_or ns i 0); den = den }) (times (whole (pos factor)) (fraction_at fs i))
+      → Equals (record { num = pos (slice_index_or ns i 0); den = den }) (times (whole_number (pos factor)) (fraction_at fs i))
 
 -- the duals of a least point of the accuracy program give rows that pass the accuracy test
 abbrev pub DualsPassAccuracy : Type 0
@@ -68,7 +68,7 @@ abbrev pub lowest_of : Fraction → Fraction
 lowest_of f = lowest f.num f.den
 
 abbrev pub weights_of_duals : ℕ → List Fraction → List Fraction
-weights_of_duals factor fs = map (λ y. lowest_of (times (whole (pos factor)) y)) fs
+weights_of_duals factor fs = map (λ y. lowest_of (times (whole_number (pos factor)) y)) fs
 
 abbrev pub nums_over : ℕ → List Fraction → List ℕ
 nums_over den ws = map (λ w. unsigned_abs (num_over den w)) ws

@@ -3,9 +3,9 @@ use Rattle.std.proofs.Common.{◌≡◌, ◌≢◌, ℕ, zero, suc, ◌+◌, ◌
 use Rattle.std.specs.Option.{option_map, option_and_then}
 use Rattle.std.proofs.lemmas.Int.{ints}
 use Rattle.std.proofs.lemmas.Bool.{both_ways}
-use Rattle.ice_defs.specs.Fraction.{Fraction, IsFraction, AtMost, negated, fraction_at}
+use Rattle.ice_defs.specs.Fraction.{Fraction, IsFraction, AtMost, negation, fraction_at}
 use Rattle.ice_defs.specs.Frac.{div}
-use Rattle.ice_defs.specs.Dictionary.{Left, Dictionary, Spot, Choice, is_least, is_unbounded, is_wide, pivots, is_positive, is_negative, lower_spot, entering_from, entering, Ratio, is_below, is_before, lower_ratio, leaving_from, choice_of, choice_at, choice, no_left}
+use Rattle.ice_defs.specs.Dictionary.{Left, Dictionary, Spot, Choice, is_least, is_unbounded, is_wide, pivots, is_positive, is_negative, lower_spot, entering_from, entering_spot, Ratio, is_below, is_before, lower_ratio, leaving_from, choice_of, choice_at, choice, no_left}
 use Rattle.ice_frac.proofs.Fractions.{AtMost-trans}
 use Rattle.ice_program_laws.proofs.Results.{some_is, then_some, map_some, IsQuotient, div_means}
 
@@ -105,7 +105,7 @@ coeff_at k row = fraction_at row.coeffs k
 -- a row's ratio, at least q
 pub record HasRatio (k : ℕ) (row : Left) (q : Fraction) : Type 0 where
   pub ratio : Fraction
-  pub is : IsQuotient row.constant (negated (coeff_at k row)) ratio
+  pub is : IsQuotient row.constant (negation (coeff_at k row)) ratio
   pub above : AtMost q ratio
 
 -- the least of the ratios of the rows with a negative coefficient
@@ -114,7 +114,7 @@ pub record Leaves (k start : ℕ) (rows : List Left) (r : Ratio) : Type 0 where
   pub place : r.spot.place ≡ start + offset
   pub within : offset < length rows
   pub negative : is_negative (coeff_at k (row_at rows offset)) ≡ true
-  pub is : IsQuotient (row_at rows offset).constant (negated (coeff_at k (row_at rows offset))) r.ratio
+  pub is : IsQuotient (row_at rows offset).constant (negation (coeff_at k (row_at rows offset))) r.ratio
   pub least : (i : ℕ) → i < length rows → is_negative (coeff_at k (row_at rows i)) ≡ true → HasRatio k (row_at rows i) r.ratio
 
 abbrev pub NoneNegative : ℕ → List Left → Type 0
@@ -127,7 +127,7 @@ LeavesAs k start rows (Some r) = Leaves k start rows r
 AtMost-refl : (a : Fraction) → AtMost a a
 AtMost-refl a = omega (arith, ints)
 
-leaves_here : (k start : ℕ) (row : Left) (rows : List Left) (r : Ratio) → r.spot.place ≡ start → is_negative (coeff_at k row) ≡ true → IsQuotient row.constant (negated (coeff_at k row)) r.ratio
+leaves_here : (k start : ℕ) (row : Left) (rows : List Left) (r : Ratio) → r.spot.place ≡ start → is_negative (coeff_at k row) ≡ true → IsQuotient row.constant (negation (coeff_at k row)) r.ratio
     → ((i : ℕ) → i < length rows → is_negative (coeff_at k (row_at rows i)) ≡ true → HasRatio k (row_at rows i) r.ratio) → Leaves k start (row ∷ rows) r
 leaves_here k start row rows r place negative is rest = record { offset = zero; place = omega (arith, place); within = omega arith; negative = negative; is = is; least = each }
   where
@@ -143,7 +143,7 @@ leaves_later k start row rows r first l = record { offset = suc l.offset; place 
     each (suc i) m n = l.least i (omega arith) n
 
 leaves_step : (k start : ℕ) (row : Left) (rows : List Left) (r : Ratio) (o : Option Ratio) → r.spot.place ≡ start → is_negative (coeff_at k row) ≡ true
-    → IsQuotient row.constant (negated (coeff_at k row)) r.ratio → LeavesAs k (suc start) rows o → LeavesAs k start (row ∷ rows) (lower_ratio r o)
+    → IsQuotient row.constant (negation (coeff_at k row)) r.ratio → LeavesAs k (suc start) rows o → LeavesAs k start (row ∷ rows) (lower_ratio r o)
 leaves_step k start row rows r None place negative is rest = leaves_here k start row rows r place negative is (λ i l n. absurd (both_ways _ (rest i l) n))
 leaves_step k start row rows r (Some other) place negative is rest = by (is_before other r) refl
   where
@@ -161,7 +161,7 @@ leaves_on k start row rows None h rest = each
     each (suc i) l = rest i (omega arith)
 leaves_on k start row rows (Some r) h rest = leaves_later k start row rows r (λ n. absurd (both_ways _ h n)) rest
 
-nonzero_negated : (f : Fraction) → is_negative f ≡ true → (negated f).num ≢ pos 0
+nonzero_negated : (f : Fraction) → is_negative f ≡ true → (negation f).num ≢ pos 0
 nonzero_negated f h e = let l : f.num <ℤ pos 0 = negative_is f h in omega (arith, ints, l, e)
 
 pub record HasProper (k : ℕ) (row : Left) : Type 0 where
@@ -173,34 +173,34 @@ leaving_is k start [] o proper h = subst (λ x. LeavesAs k start [] x) (some_is 
 leaving_is k start (row ∷ rows) o proper h = by (λ x e. leaving_is k (suc start) rows x (λ i l. proper (suc i) (omega arith)) e) (is_negative (coeff_at k row)) refl h
   where
     by : ((x : Option Ratio) → leaving_from k (suc start) rows ≡ Some x → LeavesAs k (suc start) rows x) → (b : Bool) → is_negative (coeff_at k row) ≡ b
-        → (if b then option_and_then (λ ratio. option_map (lower_ratio (record { spot = record { place = start; variable = row.variable }; ratio = ratio })) (leaving_from k (suc start) rows)) (div row.constant (negated (coeff_at k row)))
+        → (if b then option_and_then (λ ratio. option_map (lower_ratio (record { spot = record { place = start; variable = row.variable }; ratio = ratio })) (leaving_from k (suc start) rows)) (div row.constant (negation (coeff_at k row)))
         else leaving_from k (suc start) rows) ≡ Some o
         → LeavesAs k start (row ∷ rows) o
     by rest true n h =
-        let first = then_some (λ ratio. option_map (lower_ratio (record { spot = record { place = start; variable = row.variable }; ratio = ratio })) (leaving_from k (suc start) rows)) (div row.constant (negated (coeff_at k row))) o h in
+        let first = then_some (λ ratio. option_map (lower_ratio (record { spot = record { place = start; variable = row.variable }; ratio = ratio })) (leaving_from k (suc start) rows)) (div row.constant (negation (coeff_at k row))) o h in
         let r : Ratio = record { spot = record { place = start; variable = row.variable }; ratio = first.0 } in
         let later = map_some (lower_ratio r) (leaving_from k (suc start) rows) o first.2 in
         let p : HasProper k row = proper zero (omega arith) in
         subst (λ x. LeavesAs k start (row ∷ rows) x) later.2
-        (leaves_step k start row rows r later.0 refl n (div_means row.constant (negated (coeff_at k row)) first.0 p.constant p.coeff (nonzero_negated (coeff_at k row) n) first.1) (rest later.0 later.1))
+        (leaves_step k start row rows r later.0 refl n (div_means row.constant (negation (coeff_at k row)) first.0 p.constant p.coeff (nonzero_negated (coeff_at k row) n) first.1) (rest later.0 later.1))
     by rest false n h = leaves_on k start row rows o n (rest o h)
 
 -- ---- the choice
 
 pub data Turn (d : Dictionary) : Choice → Type 0 where
-  no_entering : entering d ≡ None → Turn d is_least
-  no_leaving : {k : Spot} → entering d ≡ Some k → leaving_from k.place 0 d.left ≡ Some None → Turn d (is_unbounded k)
+  no_entering : entering_spot d ≡ None → Turn d is_least
+  no_leaving : {k : Spot} → entering_spot d ≡ Some k → leaving_from k.place 0 d.left ≡ Some None → Turn d (is_unbounded k)
   too_wide : Turn d is_wide
-  pivoting : {l : ℕ} {k : Spot} (r : Ratio) → r.spot.place ≡ l → entering d ≡ Some k → leaving_from k.place 0 d.left ≡ Some (Some r) → Turn d (pivots l k)
+  pivoting : {l : ℕ} {k : Spot} (r : Ratio) → r.spot.place ≡ l → entering_spot d ≡ Some k → leaving_from k.place 0 d.left ≡ Some (Some r) → Turn d (pivots l k)
 
 pub turn_of : (d : Dictionary) → Turn d (choice d)
-turn_of d = by (entering d) refl
+turn_of d = by (entering_spot d) refl
   where
-    then_by : (k : Spot) → entering d ≡ Some k → (o : Option (Option Ratio)) → leaving_from k.place 0 d.left ≡ o → Turn d (choice_of k o)
+    then_by : (k : Spot) → entering_spot d ≡ Some k → (o : Option (Option Ratio)) → leaving_from k.place 0 d.left ≡ o → Turn d (choice_of k o)
     then_by k e None f = too_wide
     then_by k e (Some None) f = no_leaving e f
     then_by k e (Some (Some r)) f = pivoting r refl e f
 
-    by : (o : Option Spot) → entering d ≡ o → Turn d (choice_at d o)
+    by : (o : Option Spot) → entering_spot d ≡ o → Turn d (choice_at d o)
     by None e = no_entering e
     by (Some k) e = then_by k e (leaving_from k.place 0 d.left) refl

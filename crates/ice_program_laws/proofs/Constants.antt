@@ -2,7 +2,7 @@
 use Rattle.std.proofs.Common.{◌≡◌, ◌≢◌, ℕ, ◌<◌, refl, sym, ap, subst, ◌∙◌, arith, Bool, true, false, length, ℤ, pos, negsuc, ◌<ℤ◌, ◌≤ℤ◌}
 use Rattle.std.proofs.lemmas.Int.{ints}
 use Rattle.std.proofs.Math.IntN.{zero-*ℤ}
-use Rattle.ice_defs.specs.Fraction.{Fraction, whole, IsFraction, AtMost, Below, negated, fraction_at}
+use Rattle.ice_defs.specs.Fraction.{Fraction, whole_number, IsFraction, AtMost, Below, negation, fraction_at}
 use Rattle.ice_defs.specs.Frac.{reciprocal}
 use Rattle.ice_defs.specs.Dictionary.{Left, Dictionary, Spot, is_negative, Ratio}
 use Rattle.ice_defs.proofs.Products.{times_one}
@@ -15,10 +15,10 @@ use Rattle.ice_program_laws.proofs.PivotQ.{by_place, cancel_left}
 use Rattle.ice_program_laws.proofs.Pivot.{Made}
 use Rattle.ice_program_laws.proofs.Choosing.{negative_is, not_negative, coeff_at, HasRatio, Leaves}
 
-pub low_from_num : (a : Fraction) → pos 0 ≤ℤ a.num → AtMost (whole (pos 0)) a
+pub low_from_num : (a : Fraction) → pos 0 ≤ℤ a.num → AtMost (whole_number (pos 0)) a
 low_from_num a h = omega (arith, ints, h, times_one a.num, zero-*ℤ (pos a.den))
 
-pub above_from_num : (a : Fraction) → pos 0 <ℤ a.num → Below (whole (pos 0)) a
+pub above_from_num : (a : Fraction) → pos 0 <ℤ a.num → Below (whole_number (pos 0)) a
 above_from_num a h = omega (arith, ints, h, times_one a.num, zero-*ℤ (pos a.den))
 
 pub nonneg_from_num : (a : Fraction) → IsFraction a → pos 0 ≤ℤ a.num → IsNonNeg (rational_of a)
@@ -39,7 +39,7 @@ quotient_low e a r ha h q low =
     ∙ ap (λ z. z *ℚ rational_of r) (*ℚ_comm (rational_of b) (rational_of a) ∙ rational_of-reciprocal a ha nonzero) ∙ one-*ℚ (rational_of r) in
     subst IsNonNeg is (nonneg-product (rational_of b) (rational_of e) hb low)
 
-negated_above : (f : Fraction) → is_negative f ≡ true → pos 0 <ℤ (negated f).num
+negated_above : (f : Fraction) → is_negative f ≡ true → pos 0 <ℤ (negation f).num
 negated_above f h = let l : f.num <ℤ pos 0 = negative_is f h in omega (arith, ints, l)
 
 abbrev pub Low : Dictionary → Type 0
@@ -52,8 +52,8 @@ module _ (d after : Dictionary) (l : ℕ) (k : Spot) (hd : IsDictionary d) (hp :
   pub negative_here : is_negative (coeff_at k.place (left_at d l)) ≡ true
   negative_here = subst (λ i. is_negative (coeff_at k.place (left_at d i)) ≡ true) (sym place) leaves.negative
 
-  quotient_here : IsQuotient (left_at d l).constant (negated (coeff_at k.place (left_at d l))) r.ratio
-  quotient_here = subst (λ i. IsQuotient (left_at d i).constant (negated (coeff_at k.place (left_at d i))) r.ratio) (sym place) leaves.is
+  quotient_here : IsQuotient (left_at d l).constant (negation (coeff_at k.place (left_at d l))) r.ratio
+  quotient_here = subst (λ i. IsQuotient (left_at d i).constant (negation (coeff_at k.place (left_at d i))) r.ratio) (sym place) leaves.is
 
   -- the new constant is the least ratio
   new_constant : rational_of m.new.constant ≡ rational_of r.ratio
@@ -70,7 +70,7 @@ module _ (d after : Dictionary) (l : ℕ) (k : Spot) (hd : IsDictionary d) (hp :
   module _ (low : Low d) where
     new_low : IsNonNeg (rational_of m.new.constant)
     new_low = subst IsNonNeg (sym new_constant)
-        (quotient_low (left_at d l).constant (negated (coeff_at k.place (left_at d l))) r.ratio (coeff_proper l hp.row) (negated_above (coeff_at k.place (left_at d l)) negative_here) quotient_here (low l hp.row))
+        (quotient_low (left_at d l).constant (negation (coeff_at k.place (left_at d l))) r.ratio (coeff_proper l hp.row) (negated_above (coeff_at k.place (left_at d l)) negative_here) quotient_here (low l hp.row))
 
     other_low : (i : ℕ) → i < length d.left → i ≢ l → IsNonNeg (rational_of (left_at after i).constant)
     other_low i h ne = subst IsNonNeg (sym (m.others i h ne).added.added.constant) (by (is_negative (coeff_at k.place (left_at d i))) refl)
@@ -84,7 +84,7 @@ module _ (d after : Dictionary) (l : ℕ) (k : Spot) (hd : IsDictionary d) (hp :
             let a : ℚ = rational_of f in
             let q : ℚ = rational_of x.ratio in
             let least : ℚ = rational_of r.ratio in
-            let hf : IsNonNeg (neg_ℚ a) = subst IsNonNeg (rational_of-negated f (coeff_proper i h)) (nonneg_from_num (negated f) (coeff_proper i h) (let l : pos 0 <ℤ (negated f).num = negated_above f e in omega (arith, ints, l))) in
+            let hf : IsNonNeg (neg_ℚ a) = subst IsNonNeg (rational_of-negated f (coeff_proper i h)) (nonneg_from_num (negation f) (coeff_proper i h) (let l : pos 0 <ℤ (negation f).num = negated_above f e in omega (arith, ints, l))) in
             let part : neg_ℚ a *ℚ q ≡ rational_of (left_at d i).constant = ap (λ z. z *ℚ q) (sym (rational_of-negated f (coeff_proper i h))) ∙ x.is.value in
             let is : neg_ℚ a *ℚ (q +ℚ neg_ℚ least) ≡ rational_of (left_at d i).constant +ℚ a *ℚ rational_of m.new.constant =
             *ℚ-+ℚ (neg_ℚ a) q (neg_ℚ least) ∙ ap (λ z. z +ℚ neg_ℚ a *ℚ neg_ℚ least) part

@@ -2,7 +2,7 @@
 use Rattle.std.proofs.Common.{◌≡◌, ℕ, zero, suc, ◌<◌, refl, sym, ap, ◌∙◌, arith, List, [], ◌∷◌, length, slice_index_or, ℤ, pos}
 use Rattle.std.specs.List.{AllByRecursion}
 use Rattle.std.proofs.Math.Nat.{mul-pos}
-use Rattle.ice_defs.specs.Fraction.{Fraction, whole, IsFraction, AtMost, times, fraction_at}
+use Rattle.ice_defs.specs.Fraction.{Fraction, whole_number, IsFraction, AtMost, times, fraction_at}
 use Rattle.ice_defs.specs.Program.{dot, AreNonNegative}
 use Rattle.ice_frac.proofs.Rational.{whole_ℚ, ◌+ℚ◌, ◌*ℚ◌, IsNonNeg, one_positive, rational_of, rational_of-plus, rational_of-times, rational_of-whole, nonneg_from_AtMost, AtMost_from_nonneg}
 use Rattle.ice_program_laws.proofs.Field.{zero-*ℚ, AtMostℚ, at_most-same, nonneg_from_at_most}
@@ -21,8 +21,8 @@ to_ℚ a b ha hb h = record { rest = nonneg_from_AtMost a b ha hb h }
 pub from_ℚ : (a b : Fraction) → IsFraction a → IsFraction b → AtMostℚ (rational_of a) (rational_of b) → AtMost a b
 from_ℚ a b ha hb h = AtMost_from_nonneg a b ha hb h.rest
 
-pub nonneg_at_ℚ : (a : Fraction) → IsFraction a → AtMost (whole (pos 0)) a → IsNonNeg (rational_of a)
-nonneg_at_ℚ a ha h = nonneg_from_at_most (rational_of a) (at_most-same _ _ _ _ (rational_of-whole (pos 0)) refl (to_ℚ (whole (pos 0)) a one_positive ha h))
+pub nonneg_at_ℚ : (a : Fraction) → IsFraction a → AtMost (whole_number (pos 0)) a → IsNonNeg (rational_of a)
+nonneg_at_ℚ a ha h = nonneg_from_at_most (rational_of a) (at_most-same _ _ _ _ (rational_of-whole (pos 0)) refl (to_ℚ (whole_number (pos 0)) a one_positive ha h))
 
 -- ---- products of lists
 
@@ -46,6 +46,6 @@ pub dot_is : (cs : List ℤ) (xs : List Fraction) → ((j : ℕ) → IsFraction 
 dot_is [] xs h = rational_of-whole (pos 0) ∙ sym (sum-zero (λ j. whole_ℚ (slice_index_or [] j (pos 0)) *ℚ rational_of (fraction_at xs j)) (length xs) (λ j l. zero-*ℚ (rational_of (fraction_at xs j))))
 dot_is (c ∷ cs) [] h = rational_of-whole (pos 0)
 dot_is (c ∷ cs) (x ∷ xs) h =
-    rational_of-plus (times (whole c) x) (dot cs xs) (mul-pos one_positive (h zero)) (proper-dot cs xs (λ j. h (suc j)))
-    ∙ ap (λ y. y +ℚ rational_of (dot cs xs)) (rational_of-times (whole c) x one_positive (h zero) ∙ ap (λ y. y *ℚ rational_of x) (rational_of-whole c))
+    rational_of-plus (times (whole_number c) x) (dot cs xs) (mul-pos one_positive (h zero)) (proper-dot cs xs (λ j. h (suc j)))
+    ∙ ap (λ y. y +ℚ rational_of (dot cs xs)) (rational_of-times (whole_number c) x one_positive (h zero) ∙ ap (λ y. y *ℚ rational_of x) (rational_of-whole c))
     ∙ ap (λ y. whole_ℚ c *ℚ rational_of x +ℚ y) (dot_is cs xs (λ j. h (suc j)))

@@ -5,9 +5,9 @@ use Rattle.std.proofs.lemmas.Int.{ints}
 use Rattle.std.proofs.lemmas.List.{length-map, get_or-map}
 use Rattle.std.proofs.Math.Nat.{mul-pos}
 use Rattle.ice_defs.specs.Sum.{numbers_below}
-use Rattle.ice_defs.specs.Fraction.{Fraction, whole, IsFraction, Equals, AtMost, plus, negated, fraction_at}
+use Rattle.ice_defs.specs.Fraction.{Fraction, whole_number, IsFraction, Equals, AtMost, plus, negation, fraction_at}
 use Rattle.ice_defs.specs.Program.{Constraint, Program, dot, AreNonNegative, IsPoint, cost, column, leasts, AreDuals, IsMix}
-use Rattle.ice_defs.specs.Dictionary.{Dictionary, Spot, entering}
+use Rattle.ice_defs.specs.Dictionary.{Dictionary, Spot, entering_spot}
 use Rattle.ice_defs.specs.Trace.{constant_of, objective_of, mix_entry, point_of, duals_of, mix_of}
 use Rattle.ice_defs.proofs.Below.{length-numbers_below, get_or-numbers_below}
 use Rattle.ice_defs.proofs.Lists.{all-from}
@@ -35,7 +35,7 @@ said-length : (f : ℕ → Fraction) (n : ℕ) → length (map f (numbers_below 
 said-length f n = length-map (numbers_below n) f ∙ length-numbers_below n
 
 said-at : (f : ℕ → Fraction) (n j : ℕ) → j < n → fraction_at (map f (numbers_below n)) j ≡ f j
-said-at f n j h = get_or-map f (numbers_below n) j 0 (whole (pos 0)) (subst (λ m. j < m) (sym (length-numbers_below n)) h) ∙ ap f (get_or-numbers_below n j 0 h)
+said-at f n j h = get_or-map f (numbers_below n) j 0 (whole_number (pos 0)) (subst (λ m. j < m) (sym (length-numbers_below n)) h) ∙ ap f (get_or-numbers_below n j 0 h)
 
 said-all : (f : ℕ → Fraction) (P : Fraction → Type 0) (vs : List ℕ) → ((v : ℕ) → P (f v)) → AllByRecursion P (map f vs)
 said-all f P [] h = tt
@@ -62,15 +62,15 @@ record IsHigh (f : Fraction) : Type 0 where
   proper : IsFraction f
   high : f.num ≤ℤ pos 0
 
-negated_low : (f : Fraction) → IsHigh f → IsLow (negated f)
-negated_low f h = record { proper = h.proper; low = nonneg_from_num (negated f) h.proper (let l : f.num ≤ℤ pos 0 = h.high in omega (arith, ints, l)) }
+negated_low : (f : Fraction) → IsHigh f → IsLow (negation f)
+negated_low f h = record { proper = h.proper; low = nonneg_from_num (negation f) h.proper (let l : f.num ≤ℤ pos 0 = h.high in omega (arith, ints, l)) }
 
-zero_low : IsLow (whole (pos 0))
-zero_low = record { proper = one_positive; low = nonneg_from_num (whole (pos 0)) one_positive (omega (arith, ints)) }
+zero_low : IsLow (whole_number (pos 0))
+zero_low = record { proper = one_positive; low = nonneg_from_num (whole_number (pos 0)) one_positive (omega (arith, ints)) }
 
 said-low : (f : ℕ → Fraction) (n : ℕ) → ((v : ℕ) → IsLow (f v)) → AreNonNegative (map f (numbers_below n))
-said-low f n h = said-all f (λ x. IsFraction x × AtMost (whole (pos 0)) x) (numbers_below n)
-    (λ v. ((h v).proper, from_ℚ (whole (pos 0)) (f v) one_positive (h v).proper (at_most-same _ _ _ _ (sym (rational_of-whole (pos 0))) refl (at_most_from_nonneg (rational_of (f v)) (h v).low))))
+said-low f n h = said-all f (λ x. IsFraction x × AtMost (whole_number (pos 0)) x) (numbers_below n)
+    (λ v. ((h v).proper, from_ℚ (whole_number (pos 0)) (f v) one_positive (h v).proper (at_most-same _ _ _ _ (sym (rational_of-whole (pos 0))) refl (at_most_from_nonneg (rational_of (f v)) (h v).low))))
 
 cancel_left_sum : (a b c : ℚ) → a +ℚ b ≡ a +ℚ c → b ≡ c
 cancel_left_sum a b c h = cancel_right b c a (+ℚ_comm b a ∙ h ∙ +ℚ_comm a c)
@@ -112,7 +112,7 @@ module _ (p : Program) (d : Dictionary) (reached : Reached p d) where
     proper_mix = mix_proper (length p.rows + length p.costs) d reached.dictionary reached.stands k spot
 
     low_mix : (v : ℕ) → IsLow (mix_entry d k v)
-    low_mix = mix_has d k IsLow zero_low (record { proper = one_positive; low = nonneg_from_num (whole (pos 1)) one_positive (omega (arith, ints)) })
+    low_mix = mix_has d k IsLow zero_low (record { proper = one_positive; low = nonneg_from_num (whole_number (pos 1)) one_positive (omega (arith, ints)) })
         (λ i h. let f : Fraction = coeff_at k.place (left_at d i) in
         let proper : IsFraction f = (reached.dictionary.left i h).coeffs.proper k.place spot.place in
         record { proper = proper; low = nonneg_from_num f proper (not_negative f (none i h)) })
@@ -160,7 +160,7 @@ module _ (p : Program) (d : Dictionary) (reached : Reached p d) where
         record {
           same_length = said-length (mix_entry d k) (length p.rows);
           non_negative = said-low (mix_entry d k) (length p.rows) low_mix;
-          columns = λ j h. from_ℚ (dot (column p j) y) (whole (pos 0)) (proper-dot (column p j) y proper) one_positive
+          columns = λ j h. from_ℚ (dot (column p j) y) (whole_number (pos 0)) (proper-dot (column p j) y proper) one_positive
               (record {
                 rest = subst IsNonNeg
                     (mix_slack j h ∙ ap neg_ℚ (sym (column_dot (mix_entry d k) j proper_mix)) ∙ sym (zero-+ℚ (neg_ℚ (rational_of (dot (column p j) y))))
@@ -172,13 +172,13 @@ module _ (p : Program) (d : Dictionary) (reached : Reached p d) where
               let hf : IsFraction f = reached.dictionary.objective.proper k.place spot.place in
               let hy : IsFraction (dot (leasts p) y) = proper-dot (leasts p) y proper in
               let same : Equals (dot (leasts p) y) f = Equals_from_rational_of (dot (leasts p) y) f hy hf (leasts_dot (mix_entry d k) proper_mix ∙ sym mix_total) in
-              (order_laws.below (whole (pos 0)) (dot (leasts p) y)).1
-              (λ high. (order_laws.below (whole (pos 0)) f).0 (above_from_num f spot.positive) (AtMost-left (dot (leasts p) y) f (whole (pos 0)) hy same high));
+              (order_laws.below (whole_number (pos 0)) (dot (leasts p) y)).1
+              (λ high. (order_laws.below (whole_number (pos 0)) f).0 (above_from_num f spot.positive) (AtMost-left (dot (leasts p) y) f (whole_number (pos 0)) hy same high));
         }
 
   -- ---- the point
 
-  module _ (none : entering d ≡ None) where
+  module _ (none : entering_spot d ≡ None) where
     high_objective : (v : ℕ) → IsHigh (objective_of d v)
     high_objective = objective_has d IsHigh (record { proper = one_positive; high = omega (arith, ints) })
         (λ j h. record {
@@ -186,26 +186,26 @@ module _ (p : Program) (d : Dictionary) (reached : Reached p d) where
           high = not_positive (fraction_at d.objective j) (none_enters 0 d.right d.objective reached.dictionary.objective.same_length none j h);
         })
 
-    low_price : (j : ℕ) → IsLow (negated (objective_of d (length p.rows + j)))
+    low_price : (j : ℕ) → IsLow (negation (objective_of d (length p.rows + j)))
     low_price j = negated_low (objective_of d (length p.rows + j)) (high_objective (length p.rows + j))
 
-    price_is : (j : ℕ) → rational_of (negated (objective_of d (length p.rows + j))) ≡ neg_ℚ (rational_of (objective_of d (length p.rows + j)))
+    price_is : (j : ℕ) → rational_of (negation (objective_of d (length p.rows + j))) ≡ neg_ℚ (rational_of (objective_of d (length p.rows + j)))
     price_is j = rational_of-negated (objective_of d (length p.rows + j)) (high_objective (length p.rows + j)).proper
 
     abbrev row_sum : ℕ → ℚ
-    row_sum i = sum_ℚ (λ j. whole_ℚ (entry p i j) *ℚ rational_of (negated (objective_of d (length p.rows + j)))) (length p.costs)
+    row_sum i = sum_ℚ (λ j. whole_ℚ (entry p i j) *ℚ rational_of (negation (objective_of d (length p.rows + j)))) (length p.costs)
 
     abbrev slack_sum : ℚ
     slack_sum = sum_ℚ (λ j. rational_of (objective_of d (length p.rows + j)) *ℚ whole_ℚ (cost_of p j)) (length p.costs)
 
     tail_is : (i : ℕ) → sum_ℚ (λ j. rational_of (objective_of d (length p.rows + j)) *ℚ rational_of (unit p i (length p.rows + j))) (length p.costs) ≡ slack_sum +ℚ row_sum i
     tail_is i =
-        sum-same _ (λ j. rational_of (objective_of d (length p.rows + j)) *ℚ whole_ℚ (cost_of p j) +ℚ whole_ℚ (entry p i j) *ℚ rational_of (negated (objective_of d (length p.rows + j)))) (length p.costs)
+        sum-same _ (λ j. rational_of (objective_of d (length p.rows + j)) *ℚ whole_ℚ (cost_of p j) +ℚ whole_ℚ (entry p i j) *ℚ rational_of (negation (objective_of d (length p.rows + j)))) (length p.costs)
         (λ j h. let x : ℚ = rational_of (objective_of d (length p.rows + j)) in
         ap (λ u. x *ℚ u) (unit_slack p i j) ∙ *ℚ-+ℚ x (whole_ℚ (cost_of p j)) (neg_ℚ (whole_ℚ (entry p i j)))
         ∙ ap (λ u. x *ℚ whole_ℚ (cost_of p j) +ℚ u)
         (*ℚ-neg x (whole_ℚ (entry p i j)) ∙ ap neg_ℚ (*ℚ_comm x (whole_ℚ (entry p i j))) ∙ sym (*ℚ-neg (whole_ℚ (entry p i j)) x) ∙ ap (λ u. whole_ℚ (entry p i j) *ℚ u) (sym (price_is j))))
-        ∙ sum-+ℚ (λ j. rational_of (objective_of d (length p.rows + j)) *ℚ whole_ℚ (cost_of p j)) (λ j. whole_ℚ (entry p i j) *ℚ rational_of (negated (objective_of d (length p.rows + j)))) (length p.costs)
+        ∙ sum-+ℚ (λ j. rational_of (objective_of d (length p.rows + j)) *ℚ whole_ℚ (cost_of p j)) (λ j. whole_ℚ (entry p i j) *ℚ rational_of (negation (objective_of d (length p.rows + j)))) (length p.costs)
 
     -- what the objective says of a row's least
     least_is : (i : ℕ) → whole_ℚ (least_of p i) ≡ rational_of d.gain +ℚ (sum_ℚ (λ v. rational_of (objective_of d v) *ℚ rational_of (unit p i v)) (length p.rows) +ℚ (slack_sum +ℚ row_sum i))
@@ -213,7 +213,7 @@ module _ (p : Program) (d : Dictionary) (reached : Reached p d) where
         let m : ℕ = length p.rows in
         let value : ℕ → Fraction = unit p i in
         let hv : (v : ℕ) → IsFraction (value v) = unit_proper p i in
-        let total : Fraction = whole (least_of p i) in
+        let total : Fraction = whole_number (least_of p i) in
         let holds : Holds d value total = (reached.solutions value total hv one_positive).0 ((first_holds p value total hv one_positive).1 (unit_holds p i)) in
         sym (rational_of-whole (least_of p i))
         ∙ (row_is value (length d.right) d.right d.objective total d.gain refl hv (are_coeffs d d.objective reached.dictionary.objective) one_positive reached.dictionary.gain).0 holds.objective
@@ -227,8 +227,8 @@ module _ (p : Program) (d : Dictionary) (reached : Reached p d) where
         let m : ℕ = length p.rows in
         let beyond : m ≤ m = omega arith in
         let no_rows : row_sum m ≡ zero_ℚ =
-        sum-zero (λ j. whole_ℚ (entry p m j) *ℚ rational_of (negated (objective_of d (m + j)))) (length p.costs)
-        (λ j h. ap (λ z. whole_ℚ z *ℚ rational_of (negated (objective_of d (m + j)))) (entry_beyond p m j beyond) ∙ zero-*ℚ (rational_of (negated (objective_of d (m + j))))) in
+        sum-zero (λ j. whole_ℚ (entry p m j) *ℚ rational_of (negation (objective_of d (m + j)))) (length p.costs)
+        (λ j h. ap (λ z. whole_ℚ z *ℚ rational_of (negation (objective_of d (m + j)))) (entry_beyond p m j beyond) ∙ zero-*ℚ (rational_of (negation (objective_of d (m + j))))) in
         ap (λ x. rational_of d.gain +ℚ x)
         (sym (ap (λ x. x +ℚ (slack_sum +ℚ row_sum m)) (pick_none p (λ v. rational_of (objective_of d v)) m beyond) ∙ zero-+ℚ (slack_sum +ℚ row_sum m) ∙ ap (λ x. slack_sum +ℚ x) no_rows ∙ +ℚ-zero slack_sum))
         ∙ sym (least_is m) ∙ ap whole_ℚ (least_beyond p m beyond)
@@ -242,27 +242,27 @@ module _ (p : Program) (d : Dictionary) (reached : Reached p d) where
         ∙ sym (+ℚ_assoc (rational_of d.gain) u (slack_sum +ℚ a)) ∙ plus_swap (rational_of d.gain) u slack_sum a ∙ ap (λ x. x +ℚ (u +ℚ a)) gain_and_slacks ∙ zero-+ℚ (u +ℚ a) in
         let rest : a +ℚ neg_ℚ (whole_ℚ (least_of p i)) ≡ neg_ℚ u =
         ap (λ x. a +ℚ neg_ℚ x) is ∙ ap (λ x. a +ℚ x) (neg-+ℚ u a) ∙ +ℚ_comm a (neg_ℚ u +ℚ neg_ℚ a) ∙ ap (λ x. (neg_ℚ u +ℚ neg_ℚ a) +ℚ x) (sym (neg-neg a)) ∙ minus_right (neg_ℚ u) (neg_ℚ a) in
-        let low : IsLow (negated (objective_of d i)) = negated_low (objective_of d i) (high_objective i) in
+        let low : IsLow (negation (objective_of d i)) = negated_low (objective_of d i) (high_objective i) in
         record { rest = subst IsNonNeg (rational_of-negated (objective_of d i) (high_objective i).proper ∙ sym rest) low.low }
 
     proper_point : (j : ℕ) → IsFraction (fraction_at (point_of p d) j)
-    proper_point = said-proper (λ j. negated (objective_of d (length p.rows + j))) (numbers_below (length p.costs)) (λ j. (low_price j).proper)
+    proper_point = said-proper (λ j. negation (objective_of d (length p.rows + j))) (numbers_below (length p.costs)) (λ j. (low_price j).proper)
 
     is_point : IsPoint p (point_of p d)
     is_point =
         let x : List Fraction = point_of p d in
         record {
-          same_length = said-length (λ j. negated (objective_of d (length p.rows + j))) (length p.costs);
-          non_negative = said-low (λ j. negated (objective_of d (length p.rows + j))) (length p.costs) low_price;
-          rows = all-from (λ row. AtMost (whole row.least) (dot row.coeffs x)) p.rows no_row
+          same_length = said-length (λ j. negation (objective_of d (length p.rows + j))) (length p.costs);
+          non_negative = said-low (λ j. negation (objective_of d (length p.rows + j))) (length p.costs) low_price;
+          rows = all-from (λ row. AtMost (whole_number row.least) (dot row.coeffs x)) p.rows no_row
               (λ i h. let row : Constraint = slice_index_or p.rows i no_row in
-              from_ℚ (whole row.least) (dot row.coeffs x) one_positive (proper-dot row.coeffs x proper_point)
-              (at_most-same _ _ _ _ (sym (rational_of-whole row.least)) (sym (said-dot row.coeffs (λ j. negated (objective_of d (length p.rows + j))) (length p.costs) (λ j. (low_price j).proper))) (row_met i h)));
+              from_ℚ (whole_number row.least) (dot row.coeffs x) one_positive (proper-dot row.coeffs x proper_point)
+              (at_most-same _ _ _ _ (sym (rational_of-whole row.least)) (sym (said-dot row.coeffs (λ j. negation (objective_of d (length p.rows + j))) (length p.costs) (λ j. (low_price j).proper))) (row_met i h)));
         }
 
     cost_is : rational_of (cost p (point_of p d)) ≡ rational_of d.gain
     cost_is =
-        said-dot p.costs (λ j. negated (objective_of d (length p.rows + j))) (length p.costs) (λ j. (low_price j).proper)
+        said-dot p.costs (λ j. negation (objective_of d (length p.rows + j))) (length p.costs) (λ j. (low_price j).proper)
         ∙ sum-same _ (λ j. neg_ℚ (rational_of (objective_of d (length p.rows + j)) *ℚ whole_ℚ (cost_of p j))) (length p.costs)
         (λ j h. let x : ℚ = rational_of (objective_of d (length p.rows + j)) in
         ap (λ u. whole_ℚ (cost_of p j) *ℚ u) (price_is j) ∙ *ℚ-neg (whole_ℚ (cost_of p j)) x ∙ ap neg_ℚ (*ℚ_comm (whole_ℚ (cost_of p j)) x))
@@ -279,7 +279,7 @@ module _ (p : Program) (d : Dictionary) (reached : Reached p d) where
         record {
           same_length = said-length (constant_of d) (length p.rows);
           non_negative = said-low (constant_of d) (length p.rows) low_constants;
-          columns = λ j h. from_ℚ (dot (column p j) y) (whole (slice_index_or p.costs j (pos 0))) (proper-dot (column p j) y proper) one_positive
+          columns = λ j h. from_ℚ (dot (column p j) y) (whole_number (slice_index_or p.costs j (pos 0))) (proper-dot (column p j) y proper) one_positive
               (at_most-same (column_sum (λ i. rational_of (constant_of d i)) j) (whole_ℚ (cost_of p j)) _ _ (sym (column_dot (constant_of d) j proper_constants)) (sym (rational_of-whole (cost_of p j)))
               (record { rest = subst IsNonNeg (slack j h) (low_constants (length p.rows + j)).low }));
           equal = Equals_from_rational_of (dot (leasts p) y) (cost p (point_of p d)) (proper-dot (leasts p) y proper) (proper-dot p.costs (point_of p d) proper_point)

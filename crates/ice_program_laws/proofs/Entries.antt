@@ -2,7 +2,7 @@
 use Rattle.std.proofs.Common.{◌≡◌, ◌≢◌, ◌↔◌, ℕ, zero, suc, ◌+◌, ◌<◌, refl, sym, ap, subst, ◌∙◌, arith, if◌then◌else◌, Some, None, List, [], ◌∷◌, length, slice_index_or, pos}
 use Rattle.std.specs.Option.{option_map, option_and_then}
 use Rattle.std.proofs.lemmas.Bool.{eq-eqb, ne_eqb}
-use Rattle.ice_defs.specs.Fraction.{Fraction, whole, IsFraction, Equals, plus, times, negated, fraction_at}
+use Rattle.ice_defs.specs.Fraction.{Fraction, whole_number, IsFraction, Equals, plus, times, negation, fraction_at}
 use Rattle.ice_defs.specs.Frac.{add, mul, div}
 use Rattle.ice_defs.specs.Dictionary.{all_of, pivot_entry, pivot_entries, other_entry, other_entries}
 use Rattle.ice_frac.proofs.Rational.{ℚ, ◌+ℚ◌, ◌*ℚ◌, neg_ℚ, one_positive, rational_of, rational_of-negated, rational_of-same, rational_of-whole, Equals_from_rational_of}
@@ -53,20 +53,20 @@ pivot_entries-at a k s (e ∷ es) (suc j) l =
     let h : suc s + j ≡ s + suc j = omega arith in
     pivot_entries-at a k (suc s) es j (omega arith) ∙ ap (λ i. pivot_entry a k i (fraction_at es j)) h
 
-pivot_entry-same : (a : Fraction) (k : ℕ) (e : Fraction) → pivot_entry a k k e ≡ div (whole (pos 1)) a
-pivot_entry-same a k e = ap (λ b. if b then div (whole (pos 1)) a else option_map negated (div e a)) (eq-eqb k k refl)
+pivot_entry-same : (a : Fraction) (k : ℕ) (e : Fraction) → pivot_entry a k k e ≡ div (whole_number (pos 1)) a
+pivot_entry-same a k e = ap (λ b. if b then div (whole_number (pos 1)) a else option_map negation (div e a)) (eq-eqb k k refl)
 
-pivot_entry-other : (a : Fraction) (k j : ℕ) (e : Fraction) → j ≢ k → pivot_entry a k j e ≡ option_map negated (div e a)
-pivot_entry-other a k j e ne = ap (λ b. if b then div (whole (pos 1)) a else option_map negated (div e a)) (ne_eqb j k ne)
+pivot_entry-other : (a : Fraction) (k j : ℕ) (e : Fraction) → j ≢ k → pivot_entry a k j e ≡ option_map negation (div e a)
+pivot_entry-other a k j e ne = ap (λ b. if b then div (whole_number (pos 1)) a else option_map negation (div e a)) (ne_eqb j k ne)
 
 -- the negated quotient
 record IsNegatedQuotient (e a r : Fraction) : Type 0 where
   pub proper : IsFraction r
   pub value : rational_of a *ℚ rational_of r ≡ neg_ℚ (rational_of e)
 
-negated_quotient : (e a r : Fraction) → IsFraction e → IsFraction a → a.num ≢ pos 0 → option_map negated (div e a) ≡ Some r → IsNegatedQuotient e a r
+negated_quotient : (e a r : Fraction) → IsFraction e → IsFraction a → a.num ≢ pos 0 → option_map negation (div e a) ≡ Some r → IsNegatedQuotient e a r
 negated_quotient e a r he ha n h =
-    let found = map_some negated (div e a) r h in
+    let found = map_some negation (div e a) r h in
     let q : IsQuotient e a found.0 = div_means e a found.0 he ha n found.1 in
     subst (λ x. IsNegatedQuotient e a x) found.2
     (record {
@@ -80,7 +80,7 @@ pub record TurnedRow (k n : ℕ) (b : Fraction) (es : List Fraction) (r0 : Fract
   pub turned : IsTurned k n (rational_of b) (rats es) (rational_of r0) (rats rs)
 
 pub turned_row : (k n : ℕ) (b : Fraction) (es : List Fraction) (r0 : Fraction) (rs : List Fraction) → k < n → IsFraction b → Are n es → (fraction_at es k).num ≢ pos 0
-    → option_map negated (div b (fraction_at es k)) ≡ Some r0 → all_of (pivot_entries (fraction_at es k) k 0 es) ≡ Some rs → TurnedRow k n b es r0 rs
+    → option_map negation (div b (fraction_at es k)) ≡ Some r0 → all_of (pivot_entries (fraction_at es k) k 0 es) ≡ Some rs → TurnedRow k n b es r0 rs
 turned_row k n b es r0 rs hk hb he nonzero h0 h =
     let a : Fraction = fraction_at es k in
     let ha : IsFraction a = he.proper k hk in
@@ -90,9 +90,9 @@ turned_row k n b es r0 rs hk hb he nonzero h0 h =
     let at : (j : ℕ) → j < n → pivot_entry a k j (fraction_at es j) ≡ Some (fraction_at rs j) =
     λ j l. let zero_plus : j ≡ 0 + j = omega arith in
     ap (λ i. pivot_entry a k i (fraction_at es j)) zero_plus ∙ sym (pivot_entries-at a k 0 es j (subst (λ m. j < m) (sym he.same_length) l))
-    ∙ all.at j (whole (pos 0)) (subst (λ m. j < m) (sym lengths) l) in
-    let here : IsQuotient (whole (pos 1)) a (fraction_at rs k) =
-    div_means (whole (pos 1)) a (fraction_at rs k) one_positive ha nonzero (sym (pivot_entry-same a k (fraction_at es k)) ∙ at k hk) in
+    ∙ all.at j (whole_number (pos 0)) (subst (λ m. j < m) (sym lengths) l) in
+    let here : IsQuotient (whole_number (pos 1)) a (fraction_at rs k) =
+    div_means (whole_number (pos 1)) a (fraction_at rs k) one_positive ha nonzero (sym (pivot_entry-same a k (fraction_at es k)) ∙ at k hk) in
     let other : (j : ℕ) → j < n → j ≢ k → IsNegatedQuotient (fraction_at es j) a (fraction_at rs j) =
     λ j l ne. negated_quotient (fraction_at es j) a (fraction_at rs j) (he.proper j l) ha nonzero (sym (pivot_entry-other a k j (fraction_at es j) ne) ∙ at j l) in
     record {
@@ -151,7 +151,7 @@ added_row k n r0 rs b es c0 cs hk hr0 hr hb he h0 h =
     let at : (j : ℕ) → j < n → other_entry f k j (fraction_at rs j) (fraction_at es j) ≡ Some (fraction_at cs j) =
     λ j l. let zero_plus : j ≡ 0 + j = omega arith in
     ap (λ i. other_entry f k i (fraction_at rs j) (fraction_at es j)) zero_plus ∙ sym (other_entries-at f k 0 rs es j same (subst (λ m. j < m) (sym he.same_length) l))
-    ∙ all.at j (whole (pos 0)) (subst (λ m. j < m) (sym lengths) l) in
+    ∙ all.at j (whole_number (pos 0)) (subst (λ m. j < m) (sym lengths) l) in
     let here : Means (fraction_at cs k) (rational_of f *ℚ rats rs k) =
     mul_means f (fraction_at rs k) (fraction_at cs k) _ _ (means_itself f hf) (means_itself (fraction_at rs k) (hr.proper k hk)) (sym (other_entry-same f k (fraction_at rs k) (fraction_at es k)) ∙ at k hk) in
     let other : (j : ℕ) → j < n → j ≢ k → Means (fraction_at cs j) (rats es j +ℚ rational_of f *ℚ rats rs j) =

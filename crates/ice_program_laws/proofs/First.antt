@@ -4,7 +4,7 @@ use Rattle.std.specs.List.{AllByRecursion}
 use Rattle.std.proofs.lemmas.List.{length-map}
 use Rattle.std.proofs.Math.ListN.{get_or-map}
 use Rattle.ice_defs.specs.Sum.{numbers_below}
-use Rattle.ice_defs.specs.Fraction.{Fraction, whole, IsFraction, Equals, plus, fraction_at}
+use Rattle.ice_defs.specs.Fraction.{Fraction, whole_number, IsFraction, Equals, plus, fraction_at}
 use Rattle.ice_defs.specs.Program.{Constraint, Program, column, leasts}
 use Rattle.ice_defs.specs.Dictionary.{Left, Dictionary, first_left, first_dictionary, no_left}
 use Rattle.ice_defs.proofs.Below.{length-numbers_below, get_or-numbers_below}
@@ -57,17 +57,17 @@ module _ (p : Program) where
       left_map (v ∷ vs) zero l = refl
       left_map (v ∷ vs) (suc j) l = left_map vs j (omega arith)
 
-  coeffs-at : (j i : ℕ) → fraction_at (first_left p j).coeffs i ≡ whole (neg_ℤ (entry i j))
-  coeffs-at j i = get_or-map (λ c. whole (neg_ℤ c)) (column p j) i (pos 0) ∙ ap (λ c. whole (neg_ℤ c)) (column-at j i)
+  coeffs-at : (j i : ℕ) → fraction_at (first_left p j).coeffs i ≡ whole_number (neg_ℤ (entry i j))
+  coeffs-at j i = get_or-map (λ c. whole_number (neg_ℤ c)) (column p j) i (pos 0) ∙ ap (λ c. whole_number (neg_ℤ c)) (column-at j i)
 
-  objective-at : (i : ℕ) → fraction_at (first_dictionary p).objective i ≡ whole (least_of i)
-  objective-at i = get_or-map whole (leasts p) i (pos 0) ∙ ap whole (leasts-at i)
+  objective-at : (i : ℕ) → fraction_at (first_dictionary p).objective i ≡ whole_number (least_of i)
+  objective-at i = get_or-map whole_number (leasts p) i (pos 0) ∙ ap whole_number (leasts-at i)
 
   first_row : (j : ℕ) → IsRow (first_dictionary p) (first_left p j)
   first_row j = record {
     constant = one_positive;
     coeffs = record {
-      same_length = length-map (column p j) (λ c. whole (neg_ℤ c)) ∙ length-map p.rows (λ (row : Constraint). slice_index_or row.coeffs j (pos 0)) ∙ sym right-length;
+      same_length = length-map (column p j) (λ c. whole_number (neg_ℤ c)) ∙ length-map p.rows (λ (row : Constraint). slice_index_or row.coeffs j (pos 0)) ∙ sym right-length;
       proper = λ i h. subst IsFraction (sym (coeffs-at j i)) one_positive;
     };
   }
@@ -76,7 +76,7 @@ module _ (p : Program) where
   first_is = record {
     gain = one_positive;
     objective = record {
-      same_length = length-map (leasts p) whole ∙ length-map p.rows (λ (row : Constraint). row.least) ∙ sym right-length;
+      same_length = length-map (leasts p) whole_number ∙ length-map p.rows (λ (row : Constraint). row.least) ∙ sym right-length;
       proper = λ i h. subst IsFraction (sym (objective-at i)) one_positive;
     };
     left = λ j h. subst (IsRow (first_dictionary p)) (sym (left-is j (subst (λ n. j < n) left-length h))) (first_row j);
@@ -105,7 +105,7 @@ module _ (p : Program) where
   pub first_low : AllByRecursion (λ c. pos 0 ≤ℤ c) p.costs → Low (first_dictionary p)
   first_low h j l =
       let m : j < length p.costs = subst (λ n. j < n) left-length l in
-      subst (λ (row : Left). IsNonNeg (rational_of row.constant)) (sym (left-is j m)) (nonneg_from_num (whole (slice_index_or p.costs j (pos 0))) one_positive (at_recursion (λ c. pos 0 ≤ℤ c) p.costs (pos 0) h j m))
+      subst (λ (row : Left). IsNonNeg (rational_of row.constant)) (sym (left-is j m)) (nonneg_from_num (whole_number (slice_index_or p.costs j (pos 0))) one_positive (at_recursion (λ c. pos 0 ≤ℤ c) p.costs (pos 0) h j m))
 
   -- ---- what it says, over rationals
 
@@ -130,8 +130,8 @@ module _ (p : Program) where
       (λ i h. ap (λ x. x *ℚ values_at value (first_dictionary p).right i) (ap rational_of (coeffs-at j i) ∙ whole_neg (entry i j))
       ∙ ap (λ v. neg_ℚ (whole_ℚ (entry i j)) *ℚ rational_of (value v)) (right-is i h)))
     where
-      whole_neg : (z : ℤ) → rational_of (whole (neg_ℤ z)) ≡ neg_ℚ (whole_ℚ z)
-      whole_neg z = rational_of-negated (whole z) one_positive ∙ ap neg_ℚ (rational_of-whole z)
+      whole_neg : (z : ℤ) → rational_of (whole_number (neg_ℤ z)) ≡ neg_ℚ (whole_ℚ z)
+      whole_neg z = rational_of-negated (whole_number z) one_positive ∙ ap neg_ℚ (rational_of-whole z)
 
   objective-is : (value : ℕ → Fraction)
       → row_value (length p.rows) (rational_of (first_dictionary p).gain) (rats (first_dictionary p).objective) (values_at value (first_dictionary p).right)

@@ -3,9 +3,9 @@ use Rattle.std.proofs.Common.{◌≡◌, ◌≢◌, ◌↔◌, ℕ, zero, suc, �
 use Rattle.std.specs.Option.{option_map, option_and_then}
 use Rattle.std.proofs.lemmas.Bool.{eq-eqb, ne_eqb}
 use Rattle.std.proofs.lemmas.List.{get_or-set_other, get_or-set_same, length-set}
-use Rattle.ice_defs.specs.Fraction.{Fraction, IsFraction, Equals, plus, negated, fraction_at}
+use Rattle.ice_defs.specs.Fraction.{Fraction, IsFraction, Equals, plus, negation, fraction_at}
 use Rattle.ice_defs.specs.Frac.{div}
-use Rattle.ice_defs.specs.Dictionary.{Left, Dictionary, Spot, all_of, pivot_entries, pivot_row, other_entries, other_constant, other_row, new_left, no_left, with_new, pivoted}
+use Rattle.ice_defs.specs.Dictionary.{Left, Dictionary, Spot, all_of, pivot_entries, pivot_row, other_entries, other_constant, other_row, new_left, no_left, with_new, pivot_dictionary}
 use Rattle.ice_frac.proofs.Rational.{ℚ, rational_of}
 use Rattle.ice_program_laws.specs.Laws.{PivotKeepsSolutions}
 use Rattle.ice_program_laws.specs.Solutions.{values_sum, left_at, IsMet, Holds, AreCoeffs, IsRow, IsDictionary, IsPivot}
@@ -23,7 +23,7 @@ new_row : (k : Spot) (n : ℕ) (row new : Left) → k.place < n → IsFraction r
 new_row k n row new hk hb he nonzero h =
     let a : Fraction = fraction_at row.coeffs k.place in
     let constant = then_some (λ constant. option_map (λ coeffs. record { variable = k.variable; constant = constant; coeffs = coeffs }) (all_of (pivot_entries a k.place 0 row.coeffs)))
-    (option_map negated (div row.constant a)) new h in
+    (option_map negation (div row.constant a)) new h in
     let coeffs = map_some (λ (coeffs : List Fraction). let made : Left = record { variable = k.variable; constant = constant.0; coeffs = coeffs } in made) (all_of (pivot_entries a k.place 0 row.coeffs)) new constant.2 in
     subst (λ x. NewRow k n row x) coeffs.2
     (record { variable = refl; turned = turned_row k.place n row.constant row.coeffs constant.0 coeffs.0 hk hb he nonzero constant.1 coeffs.1 })
@@ -76,7 +76,7 @@ pub record Made (d after : Dictionary) (l : ℕ) (k : Spot) : Type 0 where
 pub are_coeffs : (d : Dictionary) (es : List Fraction) → AreCoeffs d es → Are (length d.right) es
 are_coeffs d es h = record { same_length = h.same_length; proper = h.proper }
 
-pub made : (d after : Dictionary) (l : ℕ) (k : Spot) → IsDictionary d → IsPivot d l k → pivoted d l k ≡ Some after → Made d after l k
+pub made : (d after : Dictionary) (l : ℕ) (k : Spot) → IsDictionary d → IsPivot d l k → pivot_dictionary d l k ≡ Some after → Made d after l k
 made d after l k hd hp h =
     let n : ℕ = length d.right in
     let row : Left = left_at d l in

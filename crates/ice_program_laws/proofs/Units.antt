@@ -4,7 +4,7 @@ use Rattle.std.proofs.lemmas.Bool.{eq-eqb, ne_eqb, cases_lt}
 use Rattle.std.proofs.lemmas.Bool.Decides.{nat_tests}
 use Rattle.std.proofs.Math.Nat.{mul-pos}
 use Rattle.std.proofs.Math.ListN.{get_or-eq_default}
-use Rattle.ice_defs.specs.Fraction.{Fraction, whole, IsFraction, less, negated}
+use Rattle.ice_defs.specs.Fraction.{Fraction, whole_number, IsFraction, minus, negation}
 use Rattle.ice_defs.specs.Program.{Constraint, Program}
 use Rattle.ice_frac.proofs.Rational.{ℚ, whole_ℚ, ◌+ℚ◌, ◌*ℚ◌, neg_ℚ, *ℚ-one, one_positive, rational_of, rational_of-whole, rational_of-plus, rational_of-negated}
 use Rattle.ice_program_laws.proofs.Field.{zero_ℚ, one_ℚ, *ℚ-zero, neg-zero}
@@ -14,28 +14,28 @@ use Rattle.ice_program_laws.proofs.First.{no_row, entry, least_of, cost_of, Firs
 module _ (p : Program) where
   -- a multiplier, or a column's slack
   pub unit : ℕ → ℕ → Fraction
-  unit i v = if nat_lt v (length p.rows) then (if eqb v i then whole (pos 1) else whole (pos 0)) else less (whole (cost_of p (v - length p.rows))) (whole (entry p i (v - length p.rows)))
+  unit i v = if nat_lt v (length p.rows) then (if eqb v i then whole_number (pos 1) else whole_number (pos 0)) else minus (whole_number (cost_of p (v - length p.rows))) (whole_number (entry p i (v - length p.rows)))
 
   pub unit_proper : (i v : ℕ) → IsFraction (unit i v)
   unfolding unit
   unit_proper i v = by (nat_lt v (length p.rows)) (eqb v i)
     where
-      by : (b c : Bool) → IsFraction (if b then (if c then whole (pos 1) else whole (pos 0)) else less (whole (cost_of p (v - length p.rows))) (whole (entry p i (v - length p.rows))))
+      by : (b c : Bool) → IsFraction (if b then (if c then whole_number (pos 1) else whole_number (pos 0)) else minus (whole_number (cost_of p (v - length p.rows))) (whole_number (entry p i (v - length p.rows))))
       by true true = one_positive
       by true false = one_positive
       by false c = mul-pos one_positive one_positive
 
-  unit_row : (i v : ℕ) → v < length p.rows → unit i v ≡ (if eqb v i then whole (pos 1) else whole (pos 0))
+  unit_row : (i v : ℕ) → v < length p.rows → unit i v ≡ (if eqb v i then whole_number (pos 1) else whole_number (pos 0))
   unfolding unit
   unit_row i v h =
       let e : nat_lt v (length p.rows) ≡ true = grind (arith, nat_tests) in
-      ap (λ b. if b then (if eqb v i then whole (pos 1) else whole (pos 0)) else less (whole (cost_of p (v - length p.rows))) (whole (entry p i (v - length p.rows)))) e
+      ap (λ b. if b then (if eqb v i then whole_number (pos 1) else whole_number (pos 0)) else minus (whole_number (cost_of p (v - length p.rows))) (whole_number (entry p i (v - length p.rows)))) e
 
   unit_one : (i : ℕ) → i < length p.rows → rational_of (unit i i) ≡ one_ℚ
-  unit_one i h = ap rational_of (unit_row i i h ∙ ap (λ b. if b then whole (pos 1) else whole (pos 0)) (eq-eqb i i refl)) ∙ rational_of-whole (pos 1)
+  unit_one i h = ap rational_of (unit_row i i h ∙ ap (λ b. if b then whole_number (pos 1) else whole_number (pos 0)) (eq-eqb i i refl)) ∙ rational_of-whole (pos 1)
 
   unit_zero : (i v : ℕ) → v < length p.rows → v ≢ i → rational_of (unit i v) ≡ zero_ℚ
-  unit_zero i v h ne = ap rational_of (unit_row i v h ∙ ap (λ b. if b then whole (pos 1) else whole (pos 0)) (ne_eqb v i ne)) ∙ rational_of-whole (pos 0)
+  unit_zero i v h ne = ap rational_of (unit_row i v h ∙ ap (λ b. if b then whole_number (pos 1) else whole_number (pos 0)) (ne_eqb v i ne)) ∙ rational_of-whole (pos 0)
 
   pub unit_slack : (i j : ℕ) → rational_of (unit i (length p.rows + j)) ≡ whole_ℚ (cost_of p j) +ℚ neg_ℚ (whole_ℚ (entry p i j))
   unfolding unit
@@ -43,11 +43,11 @@ module _ (p : Program) where
       let m : ℕ = length p.rows in
       let e : nat_lt (m + j) m ≡ false = grind (arith, nat_tests) in
       let f : (m + j) - m ≡ j = omega arith in
-      ap (λ b. rational_of (if b then (if eqb (m + j) i then whole (pos 1) else whole (pos 0)) else less (whole (cost_of p ((m + j) - m))) (whole (entry p i ((m + j) - m))))) e
-      ∙ ap (λ x. rational_of (less (whole (cost_of p x)) (whole (entry p i x)))) f
-      ∙ rational_of-plus (whole (cost_of p j)) (negated (whole (entry p i j))) one_positive one_positive
-      ∙ ap (λ x. x +ℚ rational_of (negated (whole (entry p i j)))) (rational_of-whole (cost_of p j))
-      ∙ ap (λ x. whole_ℚ (cost_of p j) +ℚ x) (rational_of-negated (whole (entry p i j)) one_positive ∙ ap neg_ℚ (rational_of-whole (entry p i j)))
+      ap (λ b. rational_of (if b then (if eqb (m + j) i then whole_number (pos 1) else whole_number (pos 0)) else minus (whole_number (cost_of p ((m + j) - m))) (whole_number (entry p i ((m + j) - m))))) e
+      ∙ ap (λ x. rational_of (minus (whole_number (cost_of p x)) (whole_number (entry p i x)))) f
+      ∙ rational_of-plus (whole_number (cost_of p j)) (negation (whole_number (entry p i j))) one_positive one_positive
+      ∙ ap (λ x. x +ℚ rational_of (negation (whole_number (entry p i j)))) (rational_of-whole (cost_of p j))
+      ∙ ap (λ x. whole_ℚ (cost_of p j) +ℚ x) (rational_of-negated (whole_number (entry p i j)) one_positive ∙ ap neg_ℚ (rational_of-whole (entry p i j)))
 
   -- a sum over the multipliers
   pub pick : (c : ℕ → ℚ) (i : ℕ) → i < length p.rows → sum_ℚ (λ v. c v *ℚ rational_of (unit i v)) (length p.rows) ≡ c i
@@ -66,7 +66,7 @@ module _ (p : Program) where
   pub least_beyond : (i : ℕ) → length p.rows ≤ i → least_of p i ≡ pos 0
   least_beyond i h = ap (λ (row : Constraint). row.least) (row_beyond i h)
 
-  pub unit_holds : (i : ℕ) → FirstHolds p (unit i) (whole (least_of p i))
+  pub unit_holds : (i : ℕ) → FirstHolds p (unit i) (whole_number (least_of p i))
   unit_holds i = record {
     slacks = λ j h. unit_slack i j ∙ ap (λ x. whole_ℚ (cost_of p j) +ℚ x) (sym (slack j (cases_lt i (length p.rows))));
     total_is = rational_of-whole (least_of p i) ∙ sym (total (cases_lt i (length p.rows)));

@@ -3,7 +3,7 @@ use Rattle.std.proofs.Common.{◌≡◌, ◌↔◌, ℕ, zero, suc, ◌+◌, ◌
 use Rattle.std.proofs.lemmas.Int.{ints}
 use Rattle.ice_defs.specs.Fraction.{Fraction, IsFraction, fraction_at}
 use Rattle.ice_defs.specs.Program.{Program}
-use Rattle.ice_defs.specs.Dictionary.{Dictionary, Spot, Choice, is_least, is_unbounded, is_wide, pivots, entering, leaving_from, choice, pivoted, first_dictionary}
+use Rattle.ice_defs.specs.Dictionary.{Dictionary, Spot, Choice, is_least, is_unbounded, is_wide, pivots, entering_spot, leaving_from, choice, pivot_dictionary, first_dictionary}
 use Rattle.ice_defs.specs.Trace.{TraceEnd, least_end, infeasible_end, wide_end, pivots_end, and_pivot, at_choice, end_from, trace_end}
 use Rattle.ice_program_laws.specs.Solutions.{left_at, right_at, Holds, IsDictionary, IsPivot}
 use Rattle.ice_program_laws.proofs.Choosing.{Enters, entering_is, Leaves, leaving_is, NoneNegative, HasProper, row_at, coeff_at, negative_is, Turn, no_entering, no_leaving, too_wide, pivoting, turn_of}
@@ -28,7 +28,7 @@ pub record Spotted (d : Dictionary) (k : Spot) : Type 0 where
   pub variable : k.variable ≡ right_at d k.place
   pub positive : pos 0 <ℤ (fraction_at d.objective k.place).num
 
-pub spotted : (d : Dictionary) (k : Spot) → entering d ≡ Some k → Spotted d k
+pub spotted : (d : Dictionary) (k : Spot) → entering_spot d ≡ Some k → Spotted d k
 spotted d k h =
     let e : Enters 0 d.right d.objective k = entering_is 0 d.right d.objective k h in
     let same : e.offset ≡ k.place = omega (arith, e.place) in
@@ -41,7 +41,7 @@ spotted d k h =
 pub none_leaves : (d : Dictionary) (k : Spot) → IsDictionary d → Spotted d k → leaving_from k.place 0 d.left ≡ Some None → NoneNegative k.place d.left
 none_leaves d k hd s h = leaving_is k.place 0 d.left None (proper_at d k.place hd s.place) h
 
-turned : (p : Program) (d after : Dictionary) (l : ℕ) (k : Spot) → Reached p d → Turn d (pivots l k) → pivoted d l k ≡ Some after → Reached p after
+turned : (p : Program) (d after : Dictionary) (l : ℕ) (k : Spot) → Reached p d → Turn d (pivots l k) → pivot_dictionary d l k ≡ Some after → Reached p after
 turned p d after l k reached (pivoting r place entered left) h =
     let hd : IsDictionary d = reached.dictionary in
     let s : Spotted d k = spotted d k entered in
@@ -69,11 +69,11 @@ turned p d after l k reached (pivoting r place entered left) h =
 
 pub record LeastAt (p : Program) (d : Dictionary) : Type 0 where
   pub reached : Reached p d
-  pub none : entering d ≡ None
+  pub none : entering_spot d ≡ None
 
 pub record InfeasibleAt (p : Program) (d : Dictionary) (k : Spot) : Type 0 where
   pub reached : Reached p d
-  pub entered : entering d ≡ Some k
+  pub entered : entering_spot d ≡ Some k
   pub none : leaving_from k.place 0 d.left ≡ Some None
 
 abbrev pub EndsAt : Program → TraceEnd → Type 0
@@ -82,7 +82,7 @@ EndsAt p (infeasible_end count d k) = InfeasibleAt p d k
 EndsAt p wide_end = Unit {0}
 EndsAt p pivots_end = Unit {0}
 
-at_turn : (p : Program) (count : ℕ) (d : Dictionary) (next : Option Dictionary → TraceEnd) (c : Choice) → Reached p d → Turn d c → ((l : ℕ) (k : Spot) → Turn d (pivots l k) → EndsAt p (next (pivoted d l k))) → EndsAt p (at_choice count d next c)
+at_turn : (p : Program) (count : ℕ) (d : Dictionary) (next : Option Dictionary → TraceEnd) (c : Choice) → Reached p d → Turn d c → ((l : ℕ) (k : Spot) → Turn d (pivots l k) → EndsAt p (next (pivot_dictionary d l k))) → EndsAt p (at_choice count d next c)
 at_turn p count d next is_least r (no_entering e) on = record { reached = r; none = e }
 at_turn p count d next (is_unbounded k) r (no_leaving e f) on = record { reached = r; entered = e; none = f }
 at_turn p count d next is_wide r too_wide on = tt
@@ -97,7 +97,7 @@ unfolding end_from
 ends_from p zero count d r = at_turn p count d (λ after. pivots_end) (choice d) r (turn_of d) (λ l k t. tt)
 ends_from p (suc left) count d r =
     at_turn p count d (and_pivot (end_from left (suc count))) (choice d) r (turn_of d)
-    (λ l k t. after_pivot p (end_from left (suc count)) (pivoted d l k) (λ after e. ends_from p left (suc count) after (turned p d after l k r t e)))
+    (λ l k t. after_pivot p (end_from left (suc count)) (pivot_dictionary d l k) (λ after e. ends_from p left (suc count) after (turned p d after l k r t e)))
 
 pub ends : (p : Program) → Reached p (first_dictionary p) → EndsAt p (trace_end p)
 ends p r = ends_from p 2000 0 (first_dictionary p) r

@@ -2,7 +2,7 @@
 use Rattle.std.proofs.Common.{◌≡◌, ℕ, ◌<◌, refl, sym, ap, subst, ◌∙◌, arith, List, [], length, slice_index_or, ℤ, pos}
 use Rattle.std.proofs.lemmas.Int.{ints}
 use Rattle.std.proofs.lemmas.List.{get_or-map}
-use Rattle.ice_defs.specs.Fraction.{Fraction, whole, IsFraction, AtMost, Below, fraction_at}
+use Rattle.ice_defs.specs.Fraction.{Fraction, whole_number, IsFraction, AtMost, Below, fraction_at}
 use Rattle.ice_defs.specs.Program.{Constraint, Program, dot, AreNonNegative, IsPoint, cost, column, leasts}
 use Rattle.ice_frac.proofs.Rational.{ℚ, whole_ℚ, ◌*ℚ◌, *ℚ_assoc, *ℚ_comm, IsNonNeg, one_positive, rational_of, rational_of-whole}
 use Rattle.ice_frac.proofs.Fractions.{AtMost-left}
@@ -42,7 +42,7 @@ no_row = record { coeffs = []; least = pos 0 }
 
 -- numbers of the rows under which no column exceeds its bound, and a feasible point
 weak_at : (p : Program) (x y : List Fraction) (bounds : List ℤ) → IsPoint p x → length y ≡ length p.rows → AreNonNegative y
-    → ((j : ℕ) → j < length p.costs → AtMost (dot (column p j) y) (whole (slice_index_or bounds j (pos 0)))) → AtMost (dot (leasts p) y) (dot bounds x)
+    → ((j : ℕ) → j < length p.costs → AtMost (dot (column p j) y) (whole_number (slice_index_or bounds j (pos 0)))) → AtMost (dot (leasts p) y) (dot bounds x)
 weak_at p x y bounds point same low columns =
     let m : ℕ = length p.rows in
     let n : ℕ = length p.costs in
@@ -56,14 +56,14 @@ weak_at p x y bounds point same low columns =
     let c : ℕ → ℚ = λ j. whole_ℚ (slice_index_or bounds j (pos 0)) in
     let rows : (i : ℕ) → i < m → AtMostℚ (l i) (sum_ℚ (λ j. a i j *ℚ qx j) n) =
     λ i h. at_most-same _ _ _ _ (rational_of-whole (row i).least) (dot_is (row i).coeffs x px ∙ ap (sum_ℚ (λ j. a i j *ℚ qx j)) point.same_length)
-    (to_ℚ (whole (row i).least) (dot (row i).coeffs x) one_positive (proper-dot (row i).coeffs x px)
-    (at_recursion (λ row. AtMost (whole row.least) (dot row.coeffs x)) p.rows no_row point.rows i h)) in
+    (to_ℚ (whole_number (row i).least) (dot (row i).coeffs x) one_positive (proper-dot (row i).coeffs x px)
+    (at_recursion (λ row. AtMost (whole_number row.least) (dot row.coeffs x)) p.rows no_row point.rows i h)) in
     let cols : (j : ℕ) → j < n → AtMostℚ (sum_ℚ (λ i. a i j *ℚ qy i) m) (c j) =
     λ j h. at_most-same _ _ _ _
     (dot_is (column p j) y py ∙ ap (sum_ℚ (λ i. whole_ℚ (slice_index_or (column p j) i (pos 0)) *ℚ qy i)) same
     ∙ sum-same _ (λ i. a i j *ℚ qy i) m (λ i k. ap (λ v. whole_ℚ v *ℚ qy i) (get_or-map (λ (row : Constraint). slice_index_or row.coeffs j (pos 0)) p.rows i no_row (pos 0) k)))
     (rational_of-whole (slice_index_or bounds j (pos 0)))
-    (to_ℚ (dot (column p j) y) (whole (slice_index_or bounds j (pos 0))) (proper-dot (column p j) y py) one_positive (columns j h)) in
+    (to_ℚ (dot (column p j) y) (whole_number (slice_index_or bounds j (pos 0))) (proper-dot (column p j) y py) one_positive (columns j h)) in
     from_ℚ (dot (leasts p) y) (dot bounds x) (proper-dot (leasts p) y py) (proper-dot bounds x px)
     (at_most-same _ _ _ _
     (sym (dot_is (leasts p) y py ∙ ap (sum_ℚ (λ i. whole_ℚ (slice_index_or (leasts p) i (pos 0)) *ℚ qy i)) same
@@ -80,6 +80,6 @@ duals_give_least p x y point duals = record {
 
 pub mix_gives_infeasible : MixGivesInfeasible
 mix_gives_infeasible p y mix x point =
-    let low : AtMost (dot (leasts p) y) (whole (pos 0)) = weak_at p x y [] point mix.same_length mix.non_negative mix.columns in
-    let high : Below (whole (pos 0)) (dot (leasts p) y) = mix.positive in
+    let low : AtMost (dot (leasts p) y) (whole_number (pos 0)) = weak_at p x y [] point mix.same_length mix.non_negative mix.columns in
+    let high : Below (whole_number (pos 0)) (dot (leasts p) y) = mix.positive in
     omega (arith, ints, low, high)

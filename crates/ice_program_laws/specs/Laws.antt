@@ -1,10 +1,10 @@
 -- Laws of linear programs.
 use Rattle.std.specs.Prelude.{ℕ, ◌≡◌, ◌≢◌, ◌↔◌, List, length, Some, pos, negsuc, ◌≤ℤ◌}
 use Rattle.std.specs.List.{AllByRecursion}
-use Rattle.ice_defs.specs.Fraction.{Fraction, whole, IsFraction, negated, fraction_at}
+use Rattle.ice_defs.specs.Fraction.{Fraction, whole_number, IsFraction, negation, fraction_at}
 use Rattle.ice_defs.specs.Frac.{add, mul, div, reciprocal}
 use Rattle.ice_defs.specs.Program.{Program, IsPoint, IsLeast, AreDuals, IsMix, IsInfeasible}
-use Rattle.ice_defs.specs.Dictionary.{Left, Dictionary, Spot, other_row, pivoted}
+use Rattle.ice_defs.specs.Dictionary.{Left, Dictionary, Spot, other_row, pivot_dictionary}
 use Rattle.ice_defs.specs.Trace.{least_end, infeasible_end, trace_end, point_of, duals_of, mix_of}
 use Rattle.ice_frac.specs.Lowest.{IsLowest}
 use Rattle.ice_program_laws.specs.Solutions.{Holds, IsDictionary, IsPivot, AreLowest}
@@ -19,7 +19,7 @@ MixGivesInfeasible = (p : Program) (y : List Fraction) → IsMix p y → IsInfea
 
 -- a pivot that isn't too wide keeps the solutions
 abbrev pub PivotKeepsSolutions : Type 0
-PivotKeepsSolutions = (d after : Dictionary) (l : ℕ) (k : Spot) → IsDictionary d → IsPivot d l k → pivoted d l k ≡ Some after
+PivotKeepsSolutions = (d after : Dictionary) (l : ℕ) (k : Spot) → IsDictionary d → IsPivot d l k → pivot_dictionary d l k ≡ Some after
     → IsDictionary after × ((value : ℕ → Fraction) (total : Fraction) → ((v : ℕ) → IsFraction (value v)) → IsFraction total
     → Holds d value total ↔ Holds after value total)
 
@@ -45,12 +45,12 @@ InfeasibleEndGivesMix = (p : Program) (count : ℕ) (d : Dictionary) (k : Spot) 
 -- what is never too wide for fractions in lowest terms: a product by
 -- 0, by 1 or by -1, a sum with 0, a quotient of 0 and one of 1
 pub record NeverWide (a : Fraction) : Type 0 where
-  pub by_zero : mul (whole (pos 0)) a ≡ Some (whole (pos 0))
-  pub by_one : mul (whole (pos 1)) a ≡ Some a
-  pub by_minus_one : mul (whole (negsuc 0)) a ≡ Some (negated a)
-  pub sum_with_zero : add a (whole (pos 0)) ≡ Some a
-  pub zero_over : a.num ≢ pos 0 → div (whole (pos 0)) a ≡ Some (whole (pos 0))
-  pub one_over : a.num ≢ pos 0 → div (whole (pos 1)) a ≡ Some (reciprocal a)
+  pub by_zero : mul (whole_number (pos 0)) a ≡ Some (whole_number (pos 0))
+  pub by_one : mul (whole_number (pos 1)) a ≡ Some a
+  pub by_minus_one : mul (whole_number (negsuc 0)) a ≡ Some (negation a)
+  pub sum_with_zero : add a (whole_number (pos 0)) ≡ Some a
+  pub zero_over : a.num ≢ pos 0 → div (whole_number (pos 0)) a ≡ Some (whole_number (pos 0))
+  pub one_over : a.num ≢ pos 0 → div (whole_number (pos 1)) a ≡ Some (reciprocal a)
 
 abbrev pub SomeAreNeverWide : Type 0
 SomeAreNeverWide = (a : Fraction) → IsLowest a → NeverWide a

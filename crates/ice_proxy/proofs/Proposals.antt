@@ -13,26 +13,26 @@ use Rattle.ice_defs.specs.Judging.{IsNarrowed}
 use Rattle.ice_defs.specs.Lawful.{AreBounds}
 use Rattle.ice_defs.proofs.Multiples.{one_time}
 use Rattle.ice_defs.proofs.Values.{all_values}
-use Rattle.ice_proxy.specs.Proposals.{halved, proposed_lo, proposed_hi, proposal}
+use Rattle.ice_proxy.specs.Proposals.{width_after_halvings, proposed_lo, proposed_hi, proposal}
 use Rattle.ice_proxy.specs.Laws.{ProposalIsAround, FirstProposalIsOld, LateProposalIsTruth}
 
 -- ---- a halved width
 
-pub halved_low : (a : ℕ) (w : ℤ) → pos 0 ≤ℤ halved a w
+pub halved_low : (a : ℕ) (w : ℤ) → pos 0 ≤ℤ width_after_halvings a w
 halved_low a w = omega (arith, ints)
 
-pub halved_high : (a : ℕ) (w : ℤ) → pos 0 ≤ℤ w → halved a w ≤ℤ w
+pub halved_high : (a : ℕ) (w : ℤ) → pos 0 ≤ℤ w → width_after_halvings a w ≤ℤ w
 halved_high a (pos n) h = let le : n / 2 ^ a ≤ n = div-le_self n (2 ^ a) in omega (arith, ints)
 halved_high a (negsuc n) h = absurd (omega (arith, ints, h))
 
-pub halved_none : (a : ℕ) (w : ℤ) → pos 0 ≤ℤ w → w ≤ℤ pos 2000000000 → 31 ≤ a → halved a w ≡ pos 0
+pub halved_none : (a : ℕ) (w : ℤ) → pos 0 ≤ℤ w → w ≤ℤ pos 2000000000 → 31 ≤ a → width_after_halvings a w ≡ pos 0
 halved_none a (pos n) low high late =
     let whole : 2 ^ 31 ≤ 2 ^ a = pow_mono late in
     let less : n < 2 ^ a = omega (arith, ints, high, whole) in
     ap pos (div-eq_of_lt less)
 halved_none a (negsuc n) low high late = absurd (omega (arith, ints, low))
 
-pub halved_first : (w : ℤ) → pos 0 ≤ℤ w → halved 0 w ≡ w
+pub halved_first : (w : ℤ) → pos 0 ≤ℤ w → width_after_halvings 0 w ≡ w
 halved_first (pos n) low = ap pos (div-one n)
 halved_first (negsuc n) low = absurd (omega (arith, ints, low))
 
@@ -49,14 +49,14 @@ length-proposed_hi a (hi ∷ his) [] same = absurd (omega (arith, same))
 length-proposed_hi a (hi ∷ his) (t ∷ truth) same = omega (arith, length-proposed_hi a his truth (omega (arith, same)))
 
 pub weight_of-proposed_lo : (a : ℕ) (los truth : List ℤ) (n : ℕ) → length truth ≡ length los → n < length los
-    → weight_of (proposed_lo a los truth) n ≡ weight_of truth n -ℤ halved a (weight_of truth n -ℤ weight_of los n)
+    → weight_of (proposed_lo a los truth) n ≡ weight_of truth n -ℤ width_after_halvings a (weight_of truth n -ℤ weight_of los n)
 weight_of-proposed_lo a [] truth n same h = absurd (omega (arith, h))
 weight_of-proposed_lo a (lo ∷ los) [] n same h = absurd (omega (arith, same))
 weight_of-proposed_lo a (lo ∷ los) (t ∷ truth) zero same h = refl
 weight_of-proposed_lo a (lo ∷ los) (t ∷ truth) (suc n) same h = weight_of-proposed_lo a los truth n (omega (arith, same)) (omega (arith, h))
 
 pub weight_of-proposed_hi : (a : ℕ) (his truth : List ℤ) (n : ℕ) → length truth ≡ length his → n < length his
-    → weight_of (proposed_hi a his truth) n ≡ weight_of truth n +ℤ halved a (weight_of his n -ℤ weight_of truth n)
+    → weight_of (proposed_hi a his truth) n ≡ weight_of truth n +ℤ width_after_halvings a (weight_of his n -ℤ weight_of truth n)
 weight_of-proposed_hi a [] truth n same h = absurd (omega (arith, h))
 weight_of-proposed_hi a (hi ∷ his) [] n same h = absurd (omega (arith, same))
 weight_of-proposed_hi a (hi ∷ his) (t ∷ truth) zero same h = refl

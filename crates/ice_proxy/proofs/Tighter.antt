@@ -12,7 +12,7 @@ use Rattle.ice_defs.specs.Lawful.{AreBounds}
 use Rattle.std.proofs.Math.IntN.{*ℤ-zero}
 use Rattle.ice_defs.proofs.Products.{times-le, times_add}
 use Rattle.ice_defs.proofs.Multiples.{times_cancel, one_time, times-lt}
-use Rattle.ice_proxy.specs.Proposals.{halved, proposal}
+use Rattle.ice_proxy.specs.Proposals.{width_after_halvings, proposal}
 use Rattle.ice_proxy.specs.Laws.{IsTighter, TighterIsAccepted, LaterIsTighter, LaterIsAccepted, WidthsAreHalved, LargeImproveAsksNothing}
 use Rattle.ice_proxy.proofs.Proposals.{proposed_bounds, weight_of-proposed_lo, weight_of-proposed_hi}
 use Rattle.ice_proxy.proofs.Attempts.{loss_there}
@@ -80,19 +80,19 @@ tighter_is_accepted t p improve s old one other sat olds are were tight (narrowe
 
 -- ---- later attempts
 
-halved_later : (a d : ℕ) (w : ℤ) → pos 0 ≤ℤ w → halved (a + d) w ≤ℤ halved a w
+halved_later : (a d : ℕ) (w : ℤ) → pos 0 ≤ℤ w → width_after_halvings (a + d) w ≤ℤ width_after_halvings a w
 halved_later a d (pos n) low =
     let e : n / 2 ^ a / 2 ^ d ≡ n / 2 ^ (a + d) = shr-shr n a d in
     let le : n / 2 ^ a / 2 ^ d ≤ n / 2 ^ a = div-le_self (n / 2 ^ a) (2 ^ d) in
     omega (arith, ints, e, le)
 halved_later a d (negsuc n) low = absurd (omega (arith, ints, low))
 
-halved-le : (a b : ℕ) (w : ℤ) → a ≤ b → pos 0 ≤ℤ w → halved b w ≤ℤ halved a w
+halved-le : (a b : ℕ) (w : ℤ) → a ≤ b → pos 0 ≤ℤ w → width_after_halvings b w ≤ℤ width_after_halvings a w
 halved-le a b w le low =
     let e : a + (b - a) ≡ b = omega (arith, le) in
-    subst (λ (c : ℕ). halved c w ≤ℤ halved a w) e (halved_later a (b - a) w low)
+    subst (λ (c : ℕ). width_after_halvings c w ≤ℤ width_after_halvings a w) e (halved_later a (b - a) w low)
 
-halved-times : (a : ℕ) (w : ℤ) → pos 0 ≤ℤ w → (pos (2 ^ a) *ℤ halved a w) ≤ℤ w
+halved-times : (a : ℕ) (w : ℤ) → pos 0 ≤ℤ w → (pos (2 ^ a) *ℤ width_after_halvings a w) ≤ℤ w
 halved-times a (pos n) low = let le : 2 ^ a * (n / 2 ^ a) ≤ n = mul-div-le n (2 ^ a) in omega (arith, ints, le)
 halved-times a (negsuc n) low = absurd (omega (arith, ints, low))
 
@@ -106,10 +106,10 @@ module _ (nodes : ℕ) (old : Bounds) (truth : List ℤ) (are : AreBounds nodes 
   high_width : pos 0 ≤ℤ (weight_of old.hi n -ℤ weight_of truth n)
   high_width = omega (arith, ints, inside.high n there, one_time (weight_of old.hi n))
 
-  lo_is : (a : ℕ) → weight_of (proposal old truth a).lo n ≡ weight_of truth n -ℤ halved a (weight_of truth n -ℤ weight_of old.lo n)
+  lo_is : (a : ℕ) → weight_of (proposal old truth a).lo n ≡ weight_of truth n -ℤ width_after_halvings a (weight_of truth n -ℤ weight_of old.lo n)
   lo_is a = weight_of-proposed_lo a old.lo truth n inside.same_length (omega (arith, are.lo_count, h))
 
-  hi_is : (a : ℕ) → weight_of (proposal old truth a).hi n ≡ weight_of truth n +ℤ halved a (weight_of old.hi n -ℤ weight_of truth n)
+  hi_is : (a : ℕ) → weight_of (proposal old truth a).hi n ≡ weight_of truth n +ℤ width_after_halvings a (weight_of old.hi n -ℤ weight_of truth n)
   hi_is a = weight_of-proposed_hi a old.hi truth n (inside.same_length ∙ are.lo_count ∙ sym are.hi_count) (omega (arith, are.hi_count, h))
 
 pub later_is_tighter : LaterIsTighter
@@ -126,13 +126,13 @@ later_is_accepted p improve b truth one other sat are inside le accepted =
 
 pub widths_are_halved : WidthsAreHalved
 widths_are_halved nodes old truth a are inside n h =
-    let x : ℤ = halved a (weight_of truth n -ℤ weight_of old.lo n) in
-    let y : ℤ = halved a (weight_of old.hi n -ℤ weight_of truth n) in
+    let x : ℤ = width_after_halvings a (weight_of truth n -ℤ weight_of old.lo n) in
+    let y : ℤ = width_after_halvings a (weight_of old.hi n -ℤ weight_of truth n) in
     let both : weight_of (proposal old truth a).hi n -ℤ weight_of (proposal old truth a).lo n
-    ≡ halved a (weight_of truth n -ℤ weight_of old.lo n) +ℤ halved a (weight_of old.hi n -ℤ weight_of truth n) = omega (arith, ints, lo_is nodes old truth are inside n h a, hi_is nodes old truth are inside n h a) in
+    ≡ width_after_halvings a (weight_of truth n -ℤ weight_of old.lo n) +ℤ width_after_halvings a (weight_of old.hi n -ℤ weight_of truth n) = omega (arith, ints, lo_is nodes old truth are inside n h a, hi_is nodes old truth are inside n h a) in
     let parts : pos (2 ^ a) *ℤ (weight_of (proposal old truth a).hi n -ℤ weight_of (proposal old truth a).lo n)
-    ≡ (pos (2 ^ a) *ℤ halved a (weight_of truth n -ℤ weight_of old.lo n)) +ℤ (pos (2 ^ a) *ℤ halved a (weight_of old.hi n -ℤ weight_of truth n)) =
-    ap (λ (z : ℤ). pos (2 ^ a) *ℤ z) both ∙ times_add (pos (2 ^ a)) (halved a (weight_of truth n -ℤ weight_of old.lo n)) (halved a (weight_of old.hi n -ℤ weight_of truth n)) in
+    ≡ (pos (2 ^ a) *ℤ width_after_halvings a (weight_of truth n -ℤ weight_of old.lo n)) +ℤ (pos (2 ^ a) *ℤ width_after_halvings a (weight_of old.hi n -ℤ weight_of truth n)) =
+    ap (λ (z : ℤ). pos (2 ^ a) *ℤ z) both ∙ times_add (pos (2 ^ a)) (width_after_halvings a (weight_of truth n -ℤ weight_of old.lo n)) (width_after_halvings a (weight_of old.hi n -ℤ weight_of truth n)) in
     omega (arith, ints, parts, halved-times a (weight_of truth n -ℤ weight_of old.lo n) (low_width nodes old truth are inside n h), halved-times a (weight_of old.hi n -ℤ weight_of truth n) (high_width nodes old truth are inside n h))
 
 -- ---- a required improvement above the loss

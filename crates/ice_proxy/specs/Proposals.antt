@@ -7,18 +7,18 @@ use Rattle.ice_defs.specs.Judging.{IsJudged}
 use Rattle.ice_defs.specs.Round.{Standing, Submission, stated_bounds}
 
 -- a width that is not negative, halved so many times and rounded down
-abbrev pub halved : ℕ → ℤ → ℤ
-halved attempt width = pos (unsigned_abs width / 2 ^ attempt)
+abbrev pub width_after_halvings : ℕ → ℤ → ℤ
+width_after_halvings attempt width = pos (unsigned_abs width / 2 ^ attempt)
 
 abbrev pub proposed_lo : ℕ → List ℤ → List ℤ → List ℤ
 proposed_lo attempt [] truth = []
 proposed_lo attempt (lo ∷ los) [] = []
-proposed_lo attempt (lo ∷ los) (t ∷ truth) = (t -ℤ halved attempt (t -ℤ lo)) ∷ proposed_lo attempt los truth
+proposed_lo attempt (lo ∷ los) (t ∷ truth) = (t -ℤ width_after_halvings attempt (t -ℤ lo)) ∷ proposed_lo attempt los truth
 
 abbrev pub proposed_hi : ℕ → List ℤ → List ℤ → List ℤ
 proposed_hi attempt [] truth = []
 proposed_hi attempt (hi ∷ his) [] = []
-proposed_hi attempt (hi ∷ his) (t ∷ truth) = (t +ℤ halved attempt (hi -ℤ t)) ∷ proposed_hi attempt his truth
+proposed_hi attempt (hi ∷ his) (t ∷ truth) = (t +ℤ width_after_halvings attempt (hi -ℤ t)) ∷ proposed_hi attempt his truth
 
 -- the bounds of an attempt, inside the old ones and around the truth
 abbrev pub proposal : Bounds → List ℤ → ℕ → Bounds

@@ -3,7 +3,7 @@ ghost use Rattle.std.specs.Prelude.{◌≡◌, ◌<◌, ◌≤◌, length, pos, 
 ghost use Rattle.ice_defs.specs.Set.{weight_of};
 ghost use Rattle.ice_defs.specs.Bounds.{IsInside};
 ghost use Rattle.ice_defs.specs.Lawful.{AreBounds};
-ghost use Rattle.ice_proxy.specs.Proposals.{halved, proposed_lo, proposed_hi, proposal};
+ghost use Rattle.ice_proxy.specs.Proposals.{width_after_halvings, proposed_lo, proposed_hi, proposal};
 ghost use Rattle.ice_proxy.specs.Laws.{IsAround};
 
 use arrayvec::ArrayVec;
@@ -14,7 +14,7 @@ fn halved(width: i64, attempt: u8) -> i64
     requires low { pos 0 ≤ℤ width }
     requires high { width ≤ℤ pos 2000000000 }
     requires attempt { attempt ≤ 31 }
-    ensures value { result ≡ halved attempt width }
+    ensures value { result ≡ width_after_halvings attempt width }
     ensures low { pos 0 ≤ℤ result }
     ensures high { result ≤ℤ width }
 {
@@ -29,7 +29,7 @@ fn lower(old: &Bounds, node: u16, truth: i64, attempt: u8) -> i64
     requires low { weight_of old.now.lo node ≤ℤ truth }
     requires high { truth ≤ℤ weight_of old.now.hi node }
     requires attempt { attempt ≤ 31 }
-    ensures { result ≡ truth -ℤ halved attempt (truth -ℤ weight_of old.now.lo node) }
+    ensures { result ≡ truth -ℤ width_after_halvings attempt (truth -ℤ weight_of old.now.lo node) }
 {
     truth - halved(truth - old.lo(node), attempt)
 }
@@ -41,7 +41,7 @@ fn upper(old: &Bounds, node: u16, truth: i64, attempt: u8) -> i64
     requires low { weight_of old.now.lo node ≤ℤ truth }
     requires high { truth ≤ℤ weight_of old.now.hi node }
     requires attempt { attempt ≤ 31 }
-    ensures { result ≡ truth +ℤ halved attempt (weight_of old.now.hi node -ℤ truth) }
+    ensures { result ≡ truth +ℤ width_after_halvings attempt (weight_of old.now.hi node -ℤ truth) }
 {
     truth + halved(old.hi(node) - truth, attempt)
 }

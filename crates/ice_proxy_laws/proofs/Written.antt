@@ -17,8 +17,8 @@ use Rattle.ice_journal.specs.Records as line
 use Rattle.ice_section.specs.Described.{section_records}
 use Rattle.ice_section.proofs.Describing.{described_are_taken}
 use Rattle.ice_journal_laws.specs.State.{Place, at_group, at_prices, at_accuracy_rows, at_balance_rows, at_round, at_verdict, State, begun, exchange_at, settings_at, trees_at, goods_at}
-use Rattle.ice_journal_laws.specs.Next.{next, to_line, go_to, settled}
-use Rattle.ice_journal_laws.specs.Assigning.{describing, section_of, described}
+use Rattle.ice_journal_laws.specs.Next.{next, to_line, go_to, next_settlement}
+use Rattle.ice_journal_laws.specs.Assigning.{section_state, section_of, exchange_state}
 use Rattle.ice_journal_laws.specs.Written.{row_record, judged_records}
 use Rattle.ice_journal_laws.specs.Carrying.{Carries}
 use Rattle.ice_journal_laws.specs.Showing.{group_records, regret_group_records}
@@ -131,7 +131,7 @@ going_submits s start truths g n settles some open_session is whole front =
 -- ---- settlement after settlement
 
 abbrev behind : Going → State → State
-behind g s = settled (record (with_going g s) { judged = g.judged })
+behind g s = next_settlement (record (with_going g s) { judged = g.judged })
 
 next_count : (bidders : List Standing) (judged : List Judged) → length (next_bounds bidders judged) ≡ length bidders
 next_count bidders judged = length-map bidders _
@@ -168,10 +168,10 @@ run_submits_proxies v ex truths going rest lawful shown proxies is =
     let section = section_carries described_are_taken v session_kind ex lawful in
     let (m, l) = section.leads 2 in
     subst (λ (rs : List Record). SubmitsProxies (begun v session_kind) truths rs) (sym (append_assoc (section_records ex) (goings_in v (length (exact_of ex)) 0 going) rest))
-    (submits_join (begun v session_kind) (to_line m (describing v session_kind 2 (section_of ex))) truths (section_records ex) (goings_in v (length (exact_of ex)) 0 going ++ rest)
+    (submits_join (begun v session_kind) (to_line m (section_state v session_kind 2 (section_of ex))) truths (section_records ex) (goings_in v (length (exact_of ex)) 0 going ++ rest)
     (quiet_submits (begun v session_kind) truths (section_records ex) (quiet_section ex))
-    (leads_ordered (begun v session_kind) (to_line m (describing v session_kind 2 (section_of ex))) (section_records ex) l)
-    (goings_submit going rest (described v session_kind 2 ex) (describing v session_kind 2 (section_of ex)) truths m (first_settle_takes v ex lawful) (some_trees ex lawful) tt (length-map ex.bidders _) shown proxies
+    (leads_ordered (begun v session_kind) (to_line m (section_state v session_kind 2 (section_of ex))) (section_records ex) l)
+    (goings_submit going rest (exchange_state v session_kind 2 ex) (section_state v session_kind 2 (section_of ex)) truths m (first_settle_takes v ex lawful) (some_trees ex lawful) tt (length-map ex.bidders _) shown proxies
     (subst (λ (k : ℕ). IsRest v ex truths k (bounds_after_rounds ex (opening_bounds ex) going) rest) (omega arith) is)))
 
 -- ---- a whole session

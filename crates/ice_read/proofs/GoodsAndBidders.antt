@@ -20,7 +20,7 @@ use Rattle.ice_read.specs.declared.cause.ReadCause.TheVariants.{Make}
 use Rattle.ice_read.specs.Values.{at_index, has_exactly, of_member, text_of}
 use Rattle.ice_read.specs.TreeFile.{tree_at}
 use Rattle.ice_read.specs.ExchangeFile.{unless_refused, good_value, add_good, goods_from, bidder_at, add_bidder, bidders_from, own_at}
-use Rattle.ice_read.specs.Reading.{good_added, bidder_added}
+use Rattle.ice_read.specs.Reading.{goods_with, bidders_with}
 use Rattle.ice_read.specs.Fault.{fault_at}
 use Rattle.ice_read.proofs.PlacesOfFaults.{refused}
 
@@ -46,13 +46,13 @@ chained (Ok x) f g = refl
 chained (Err fault) f g = refl
 
 module _ (ex : Exchange) (path : Path) (vs : List Value) (i : ℕ) where
-  pub next_good : (v : Value) (goods : List Good) → i < length vs → get_or vs i v ≡ v → good_added ex (at_index path i) (view v) ≡ Ok goods
+  pub next_good : (v : Value) (goods : List Good) → i < length vs → get_or vs i v ≡ v → goods_with ex (at_index path i) (view v) ≡ Ok goods
       → goods_from path i ex.goods (items_view (drop i vs)) ≡ goods_from path (i + 1) goods (items_view (drop (i + 1) vs))
   next_good v goods h e read =
       rw (drop-cons vs i v h, e, add-one i)
       (chained (good_value (at_index path i) (view v)) (add_good (at_index path i) ex.goods) (λ more. goods_from path (suc i) more (items_view (drop (suc i) vs))) ∙ ap (λ r. r >>= λ more. goods_from path (suc i) more (items_view (drop (suc i) vs))) read)
 
-  pub bad_good : (v : Value) (fault : FileFault) → i < length vs → get_or vs i v ≡ v → good_added ex (at_index path i) (view v) ≡ Err fault → goods_from path i ex.goods (items_view (drop i vs)) ≡ Err fault
+  pub bad_good : (v : Value) (fault : FileFault) → i < length vs → get_or vs i v ≡ v → goods_with ex (at_index path i) (view v) ≡ Err fault → goods_from path i ex.goods (items_view (drop i vs)) ≡ Err fault
   bad_good v fault h e read =
       rw (drop-cons vs i v h, e)
       (chained (good_value (at_index path i) (view v)) (add_good (at_index path i) ex.goods) (λ more. goods_from path (suc i) more (items_view (drop (suc i) vs))) ∙ ap (λ r. r >>= λ more. goods_from path (suc i) more (items_view (drop (suc i) vs))) read)
@@ -60,14 +60,14 @@ module _ (ex : Exchange) (path : Path) (vs : List Value) (i : ℕ) where
   pub no_more_good : length vs ≤ i → goods_from path i ex.goods (items_view (drop i vs)) ≡ Ok ex.goods
   no_more_good h = rw (drop_all i vs h)
 
-  pub next_bidder : (v : Value) (bidders : List Bidder) → i < length vs → get_or vs i v ≡ v → bidder_added ex (at_index path i) (view v) ≡ Ok bidders
+  pub next_bidder : (v : Value) (bidders : List Bidder) → i < length vs → get_or vs i v ≡ v → bidders_with ex (at_index path i) (view v) ≡ Ok bidders
       → bidders_from (good_names ex) path i ex.bidders (items_view (drop i vs)) ≡ bidders_from (good_names ex) path (i + 1) bidders (items_view (drop (i + 1) vs))
   next_bidder v bidders h e read =
       rw (drop-cons vs i v h, e, add-one i)
       (chained (bidder_at (good_names ex) (at_index path i) (view v)) (add_bidder (at_index path i) (length (good_names ex)) ex.bidders) (λ more. bidders_from (good_names ex) path (suc i) more (items_view (drop (suc i) vs)))
       ∙ ap (λ r. r >>= λ more. bidders_from (good_names ex) path (suc i) more (items_view (drop (suc i) vs))) read)
 
-  pub bad_bidder : (v : Value) (fault : FileFault) → i < length vs → get_or vs i v ≡ v → bidder_added ex (at_index path i) (view v) ≡ Err fault → bidders_from (good_names ex) path i ex.bidders (items_view (drop i vs)) ≡ Err fault
+  pub bad_bidder : (v : Value) (fault : FileFault) → i < length vs → get_or vs i v ≡ v → bidders_with ex (at_index path i) (view v) ≡ Err fault → bidders_from (good_names ex) path i ex.bidders (items_view (drop i vs)) ≡ Err fault
   bad_bidder v fault h e read =
       rw (drop-cons vs i v h, e)
       (chained (bidder_at (good_names ex) (at_index path i) (view v)) (add_bidder (at_index path i) (length (good_names ex)) ex.bidders) (λ more. bidders_from (good_names ex) path (suc i) more (items_view (drop (suc i) vs)))
@@ -83,7 +83,7 @@ module _ (ex : Exchange) (path : Path) (d : Data) (name own same : List ℕ) (tr
   pub bidder_is : bidder_at (good_names ex) path d ≡ Ok (record { name = name; own = same; tree = tree; bounds = bounds })
   bidder_is = rw (← exact, named, owned, grown, is)
 
-  pub bidder_chain : bidder_added ex path d ≡ add_bidder path (length (good_names ex)) ex.bidders (record { name = name; own = same; tree = tree; bounds = bounds })
+  pub bidder_chain : bidders_with ex path d ≡ add_bidder path (length (good_names ex)) ex.bidders (record { name = name; own = same; tree = tree; bounds = bounds })
   bidder_chain = ap (λ r. r >>= λ b. add_bidder path (length (good_names ex)) ex.bidders b) bidder_is
 
 pub bidder_made : (ex : Exchange) (path : Path) (b : Bidder) → bidder_refusal (length ex.goods) ex.bidders b ≡ None → add_bidder path (length (good_names ex)) ex.bidders b ≡ Ok (ex.bidders ++ b ∷ [])

@@ -16,7 +16,7 @@ use Rattle.serde_json.specs.declared.value.Value.{Value}
 use Rattle.ice_read.specs.declared.leaf.Side.TheVariants.{Buy, Sell}
 use Rattle.ice_read.specs.Values.{at_member, at_index}
 use Rattle.ice_read.specs.TreeFile.{Draft, Interval, Opened, children_at, closed_at, choose_at, is_buy, is_sell, is_choose, no_child, node_of, node_at}
-use Rattle.ice_read.specs.Reading.{taken, levels_below, leaf_below, opened_below, node_below, IsWaiting}
+use Rattle.ice_read.specs.Reading.{made_so_far, levels_below, leaf_below, opened_below, node_below, IsWaiting}
 use Rattle.ice_read.proofs.Pairs.{items_len-items_view}
 use Rattle.ice_read.proofs.NodesAdded.{IsHeld, AreAdded, IsOpened, opened-made, node_at-added, one_added, one_more, none_added, grown, opened_kind, no_child_yet}
 
@@ -30,8 +30,8 @@ node_at-any goods zero parent path draft value = refl
 node_at-any goods (suc levels) parent path draft value = refl
 
 module _ (goods : List (List ℕ)) (d : TreeDraft) (path : Path) (value : Data) where
-  any : node_below goods d path value ≡ node_of goods (levels_below d) (below goods (levels_below d)) (innermost d.opened) path (taken d) value
-  any = node_at-any goods (levels_below d) (innermost d.opened) path (taken d) value
+  any : node_below goods d path value ≡ node_of goods (levels_below d) (below goods (levels_below d)) (innermost d.opened) path (made_so_far d) value
+  any = node_at-any goods (levels_below d) (innermost d.opened) path (made_so_far d) value
 
   pub buys : true ≡ is_buy value → node_below goods d path value ≡ leaf_below goods d Buy path value
   buys buy = any ∙ rw (← buy)
@@ -42,7 +42,7 @@ module _ (goods : List (List ℕ)) (d : TreeDraft) (path : Path) (value : Data) 
   pub has_no_form : false ≡ is_buy value → false ≡ is_sell value → false ≡ is_choose value → node_below goods d path value ≡ refuse 2 path
   has_no_form buy sell choose = any ∙ rw (← buy, ← sell, ← choose)
 
-  chooses : false ≡ is_buy value → false ≡ is_sell value → true ≡ is_choose value → node_below goods d path value ≡ choose_at goods (levels_below d) (innermost d.opened) path (taken d) (below goods (levels_below d)) value
+  chooses : false ≡ is_buy value → false ≡ is_sell value → true ≡ is_choose value → node_below goods d path value ≡ choose_at goods (levels_below d) (innermost d.opened) path (made_so_far d) (below goods (levels_below d)) value
   chooses buy sell choose = any ∙ rw (← buy, ← sell, ← choose)
 
   pub not_opened : false ≡ is_buy value → false ≡ is_sell value → true ≡ is_choose value → (fault : FileFault) → opened_below goods d path value ≡ Err fault → node_below goods d path value ≡ Err fault
@@ -96,10 +96,10 @@ pub record IsGoing (old made now : TreeDraft) (count : ℕ) : Type 0 where
 held : (d : TreeDraft) → IsWaiting d → IsHeld d.tree (innermost d.opened)
 held d w = record { under = w.under; childless = w.childless }
 
-pub begun : (goods : List (List ℕ)) (old made : TreeDraft) (interval : Interval) (items : Items) (path : Path) (value : Data) → IsWaiting old → opened_below goods old path value ≡ Ok (record { interval = interval; items = items; made = taken made })
+pub begun : (goods : List (List ℕ)) (old made : TreeDraft) (interval : Interval) (items : Items) (path : Path) (value : Data) → IsWaiting old → opened_below goods old path value ≡ Ok (record { interval = interval; items = items; made = made_so_far made })
     → made.opened ≡ length old.tree ∷ old.opened → length made.opened ≤ 16 → IsGoing old made made 0
 begun goods old made interval items path value waiting e opened deep =
-    let o : IsOpened (innermost old.opened) (taken old) (levels_below old) (record { interval = interval; items = items; made = taken made }) = opened-made goods (levels_below old) (innermost old.opened) path (taken old) value _ e in
+    let o : IsOpened (innermost old.opened) (made_so_far old) (levels_below old) (record { interval = interval; items = items; made = made_so_far made }) = opened-made goods (levels_below old) (innermost old.opened) path (made_so_far old) value _ e in
     let h = held old waiting in
     let kind = Choose interval.least interval.most in
     let one = one_added old.tree kind (innermost old.opened) h o.made.room in
@@ -124,13 +124,13 @@ waiting_child old made now count g = record {
 }
 
 -- one child more
-pub with_child : (goods : List (List ℕ)) (old made now after : TreeDraft) (count : ℕ) (path : Path) (value : Data) → IsGoing old made now count → after.opened ≡ now.opened → node_below goods now path value ≡ Ok (taken after)
+pub with_child : (goods : List (List ℕ)) (old made now after : TreeDraft) (count : ℕ) (path : Path) (value : Data) → IsGoing old made now count → after.opened ≡ now.opened → node_below goods now path value ≡ Ok (made_so_far after)
     → IsGoing old made after (count + 1)
 with_child goods old made now after count path value g same read =
     let waiting = waiting_child old made now count g in
     let under : IsHeld now.tree (length old.tree) = record { under = λ l. omega (arith, g.there, g.added.longer); childless = g.added.childless } in
-    let is : node_at goods (levels_below now) (length old.tree) path (taken now) value ≡ Ok (taken after) = ap (λ opened. node_at goods (levels_below now) (innermost opened) path (taken now) value) (sym g.opened) ∙ read in
-    let one = node_at-added goods (levels_below now) (length old.tree) path (taken now) (taken after) value under is in
+    let is : node_at goods (levels_below now) (length old.tree) path (made_so_far now) value ≡ Ok (made_so_far after) = ap (λ opened. node_at goods (levels_below now) (innermost opened) path (made_so_far now) value) (sym g.opened) ∙ read in
+    let one = node_at-added goods (levels_below now) (length old.tree) path (made_so_far now) (made_so_far after) value under is in
     record {
       opened = same ∙ g.opened;
       levels = g.levels;
@@ -146,25 +146,25 @@ pub close_due : (old made now : TreeDraft) (interval : Interval) (count : ℕ) �
 close_due old made now interval count g kind =
     closing now (length old.tree) old.opened interval count g.opened (g.added.kinds (length old.tree) g.there ∙ kind) (omega (arith, g.added.own g.there, g.none_yet))
 
-pub kind_opened : (goods : List (List ℕ)) (old made : TreeDraft) (interval : Interval) (items : Items) (path : Path) (value : Data) → IsWaiting old → opened_below goods old path value ≡ Ok (record { interval = interval; items = items; made = taken made })
+pub kind_opened : (goods : List (List ℕ)) (old made : TreeDraft) (interval : Interval) (items : Items) (path : Path) (value : Data) → IsWaiting old → opened_below goods old path value ≡ Ok (record { interval = interval; items = items; made = made_so_far made })
     → kind_of made.tree (length old.tree) ≡ Choose interval.least interval.most
 kind_opened goods old made interval items path value waiting e =
-    let o : IsOpened (innermost old.opened) (taken old) (levels_below old) (record { interval = interval; items = items; made = taken made }) = opened-made goods (levels_below old) (innermost old.opened) path (taken old) value _ e in
+    let o : IsOpened (innermost old.opened) (made_so_far old) (levels_below old) (record { interval = interval; items = items; made = made_so_far made }) = opened-made goods (levels_below old) (innermost old.opened) path (made_so_far old) value _ e in
     let h = held old waiting in
     let kind = Choose interval.least interval.most in
     let is : made.tree ≡ grown old.tree kind (innermost old.opened) h = ap (λ (m : Draft). m.tree) o.made.is in
     rw is (opened_kind old.tree kind (innermost old.opened) h)
 
 module _ (goods : List (List ℕ)) (old made now : TreeDraft) (interval : Interval) (vs : List Value) (path : Path) (value : Data) (buy : false ≡ is_buy value) (sell : false ≡ is_sell value) (choose : true ≡ is_choose value)
-    (start : opened_below goods old path value ≡ Ok (record { interval = interval; items = items_view vs; made = taken made })) where
+    (start : opened_below goods old path value ≡ Ok (record { interval = interval; items = items_view vs; made = made_so_far made })) where
   abbrev children : Read Draft
-  children = children_at (node_at goods (levels_below made) (length old.tree)) (at_member path (codes "of")) 0 (items_view vs) (taken made)
+  children = children_at (node_at goods (levels_below made) (length old.tree)) (at_member path (codes "of")) 0 (items_view vs) (made_so_far made)
 
   chain : levels_below old ≡ suc (levels_below made) → node_below goods old path value ≡ (children >>= λ full. closed_at path interval (items_len (items_view vs)) full)
   chain levels = opened goods old path value buy sell choose _ (levels_below made) start levels
 
   -- a child is refused
-  pub stopped : (count : ℕ) → IsGoing old made now count → (fault : FileFault) → children_at (node_at goods (levels_below made) (length old.tree)) (at_member path (codes "of")) 0 (items_view vs) (taken made) ≡ Err fault
+  pub stopped : (count : ℕ) → IsGoing old made now count → (fault : FileFault) → children_at (node_at goods (levels_below made) (length old.tree)) (at_member path (codes "of")) 0 (items_view vs) (made_so_far made) ≡ Err fault
       → node_below goods old path value ≡ Err fault
   stopped count g fault e = chain g.levels ∙ rw e
 
@@ -172,20 +172,20 @@ module _ (goods : List (List ℕ)) (old made now : TreeDraft) (interval : Interv
   due waiting g = close_due old made now interval (length vs) g (kind_opened goods old made interval (items_view vs) path value waiting start) ∙ ap (close_refusal interval.least interval.most) (sym (items_len-items_view vs))
 
   -- the node is closed
-  pub finished : IsWaiting old → IsGoing old made now (length vs) → children_at (node_at goods (levels_below made) (length old.tree)) (at_member path (codes "of")) 0 (items_view vs) (taken made) ≡ Ok (taken now) → draft_close_refusal now ≡ None
-      → node_below goods old path value ≡ Ok (taken now)
-  finished waiting g e none = chain g.levels ∙ rw e (closed path interval (items_len (items_view vs)) (taken now) (sym (due waiting g) ∙ none))
+  pub finished : IsWaiting old → IsGoing old made now (length vs) → children_at (node_at goods (levels_below made) (length old.tree)) (at_member path (codes "of")) 0 (items_view vs) (made_so_far made) ≡ Ok (made_so_far now) → draft_close_refusal now ≡ None
+      → node_below goods old path value ≡ Ok (made_so_far now)
+  finished waiting g e none = chain g.levels ∙ rw e (closed path interval (items_len (items_view vs)) (made_so_far now) (sym (due waiting g) ∙ none))
 
   -- its close is refused
-  pub not_finished : IsWaiting old → IsGoing old made now (length vs) → children_at (node_at goods (levels_below made) (length old.tree)) (at_member path (codes "of")) 0 (items_view vs) (taken made) ≡ Ok (taken now) → (number : ℕ)
+  pub not_finished : IsWaiting old → IsGoing old made now (length vs) → children_at (node_at goods (levels_below made) (length old.tree)) (at_member path (codes "of")) 0 (items_view vs) (made_so_far made) ≡ Ok (made_so_far now) → (number : ℕ)
       → draft_close_refusal now ≡ Some number → node_below goods old path value ≡ refuse number path
-  not_finished waiting g e number some = chain g.levels ∙ rw e (not_closed path interval (items_len (items_view vs)) number (taken now) (sym (due waiting g) ∙ some))
+  not_finished waiting g e number some = chain g.levels ∙ rw e (not_closed path interval (items_len (items_view vs)) number (made_so_far now) (sym (due waiting g) ∙ some))
 
 -- how a child of the node is read
 pub child_read : (goods : List (List ℕ)) (old made now : TreeDraft) (count : ℕ) → IsGoing old made now count → made.opened ≡ length old.tree ∷ old.opened → (path : Path) (value : Data)
-    → node_at goods (levels_below made) (length old.tree) path (taken now) value ≡ node_below goods now path value
+    → node_at goods (levels_below made) (length old.tree) path (made_so_far now) value ≡ node_below goods now path value
 child_read goods old made now count g opened path value =
-    ap (λ o. node_at goods (16 - length o) (length old.tree) path (taken now) value) opened ∙ ap (λ o. node_at goods (16 - length o) (innermost o) path (taken now) value) (sym g.opened)
+    ap (λ o. node_at goods (16 - length o) (length old.tree) path (made_so_far now) value) opened ∙ ap (λ o. node_at goods (16 - length o) (innermost o) path (made_so_far now) value) (sym g.opened)
 
 pub same_levels : (old made now : TreeDraft) (count : ℕ) → IsGoing old made now count → made.opened ≡ length old.tree ∷ old.opened → levels_below now ≡ levels_below made
 same_levels old made now count g opened = ap (λ o. 16 - length o) (g.opened ∙ sym opened)

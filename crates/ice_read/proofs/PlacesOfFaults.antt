@@ -6,15 +6,15 @@ use Rattle.ice_defs.specs.FileFault.{Path, Read, place_of, refuse}
 use Rattle.ice_read.specs.declared.fault.ReadFault.{ReadFault}
 use Rattle.ice_read.specs.declared.cause.ReadCause.{ReadCause}
 use Rattle.ice_read.specs.Cause.{cause_number}
-use Rattle.ice_read.specs.Places.{dotted, shown}
+use Rattle.ice_read.specs.Places.{dotted_text, place_text}
 use Rattle.ice_read.specs.Fault.{fault_at, IsFault, IsReading}
 use Rattle.ice_read.specs.declared.cause.ReadCause.TheVariants.{Shape}
 
-joined : (part : List ℕ) (parts : Path) → join_with_byte 46 (part ∷ parts) ≡ part ++ dotted parts
+joined : (part : List ℕ) (parts : Path) → join_with_byte 46 (part ∷ parts) ≡ part ++ dotted_text parts
 joined part [] = sym (append-nil part)
 joined part (next ∷ parts) = ap (λ rest. part ++ 46 ∷ rest) (joined next parts)
 
-place_of-shown : (path : Path) → place_of path ≡ shown (dotted path)
+place_of-shown : (path : Path) → place_of path ≡ place_text (dotted_text path)
 place_of-shown [] = refl
 place_of-shown (part ∷ parts) = joined part parts
 
@@ -22,15 +22,15 @@ place_of-shown (part ∷ parts) = joined part parts
 pub refused : {X : Type 0} (number : ℕ) (cause : ReadCause) (fault : ReadFault) → fault ≡ record { place = []; cause = cause } → unwrap_or (cause_number cause) 0 ≡ number
     → (path : Path) → refuse {X = X} number path ≡ Err (fault_at path fault)
 refused number cause fault is numbered path =
-    rw (is, numbered, append-nil (dotted path)) (ap (λ place. Err (record { number = number; place = place })) (place_of-shown path))
+    rw (is, numbered, append-nil (dotted_text path)) (ap (λ place. Err (record { number = number; place = place })) (place_of-shown path))
 
-dotted-append : (path : Path) (part rest : List ℕ) → dotted (path ++ part ∷ []) ++ rest ≡ dotted path ++ ((46 ∷ part) ++ rest)
+dotted-append : (path : Path) (part rest : List ℕ) → dotted_text (path ++ part ∷ []) ++ rest ≡ dotted_text path ++ ((46 ∷ part) ++ rest)
 dotted-append [] part rest = rw (append-nil part)
-dotted-append (first ∷ path) part rest = ap (λ xs. 46 ∷ xs) (append_assoc first (dotted (path ++ part ∷ [])) rest ∙ ap (λ xs. first ++ xs) (dotted-append path part rest) ∙ sym (append_assoc first (dotted path) _))
+dotted-append (first ∷ path) part rest = ap (λ xs. 46 ∷ xs) (append_assoc first (dotted_text (path ++ part ∷ [])) rest ∙ ap (λ xs. first ++ xs) (dotted-append path part rest) ∙ sym (append_assoc first (dotted_text path) _))
 
 -- a fault below one part of the value's path is the fault of the value with the longer place
 pub fault_below : (part : List ℕ) (inner outer : ReadFault) → outer ≡ record { place = (46 ∷ part) ++ inner.place; cause = inner.cause } → (path : Path) → fault_at (path ++ part ∷ []) inner ≡ fault_at path outer
-fault_below part inner outer is path = rw is (ap (λ place. record { number = unwrap_or (cause_number inner.cause) 0; place = shown place }) (dotted-append path part inner.place))
+fault_below part inner outer is path = rw is (ap (λ place. record { number = unwrap_or (cause_number inner.cause) 0; place = place_text place }) (dotted-append path part inner.place))
 
 -- what is read of a part has the fault with the longer place
 pub deeper : {X : Type 0} (read : Path → Read X) (part : List ℕ) (inner outer : ReadFault) → IsFault inner read → outer ≡ record { place = (46 ∷ part) ++ inner.place; cause = inner.cause }

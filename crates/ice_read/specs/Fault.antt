@@ -4,11 +4,11 @@ use Rattle.ice_defs.specs.FileFault.{FileFault, Path, Read}
 use Rattle.ice_read.specs.declared.fault.ReadFault.{ReadFault}
 use Rattle.ice_read.specs.declared.cause.ReadCause.TheVariants.{NoMemory}
 use Rattle.ice_read.specs.Cause.{cause_number}
-use Rattle.ice_read.specs.Places.{dotted, shown}
+use Rattle.ice_read.specs.Places.{dotted_text, place_text}
 
 -- the fault of a value that stands at this path
 abbrev pub fault_at : Path → ReadFault → FileFault
-fault_at path fault = record { number = unwrap_or (cause_number fault.cause) 0; place = shown (dotted path ++ fault.place) }
+fault_at path fault = record { number = unwrap_or (cause_number fault.cause) 0; place = place_text (dotted_text path ++ fault.place) }
 
 abbrev pub IsFault : {X : Type 0} → ReadFault → (Path → Read X) → Type 0
 IsFault fault read = (path : Path) → read path ≡ Err (fault_at path fault)

@@ -22,8 +22,8 @@ side_kind Buy = kind.Buy
 side_kind Sell = kind.Sell
 
 -- what a maker of a tree has taken
-abbrev pub taken : TreeDraft → Draft
-taken d = record { tree = d.tree; bounds = d.bounds }
+abbrev pub made_so_far : TreeDraft → Draft
+made_so_far d = record { tree = d.tree; bounds = d.bounds }
 
 -- the levels that are left below the open nodes
 abbrev pub levels_below : TreeDraft → ℕ
@@ -31,13 +31,13 @@ levels_below d = 16 - length d.opened
 
 -- what is read below the innermost open node
 abbrev pub leaf_below : List (List ℕ) → TreeDraft → Side → Path → Data → Read Draft
-leaf_below goods d side path = leaf_at goods (levels_below d) (innermost d.opened) path (taken d) (side_word side) (side_kind side)
+leaf_below goods d side path = leaf_at goods (levels_below d) (innermost d.opened) path (made_so_far d) (side_word side) (side_kind side)
 
 abbrev pub opened_below : List (List ℕ) → TreeDraft → Path → Data → Read Opened
-opened_below goods d path = opened_at goods (levels_below d) (innermost d.opened) path (taken d)
+opened_below goods d path = opened_at goods (levels_below d) (innermost d.opened) path (made_so_far d)
 
 abbrev pub node_below : List (List ℕ) → TreeDraft → Path → Data → Read Draft
-node_below goods d path = node_at goods (levels_below d) (innermost d.opened) path (taken d)
+node_below goods d path = node_at goods (levels_below d) (innermost d.opened) path (made_so_far d)
 
 -- a tree that another node may come to, and in which no
 -- node is told to be under one that isn't there
@@ -48,8 +48,8 @@ pub record IsWaiting (d : TreeDraft) : Type 0 where
   pub childless : (n : ℕ) → length d.tree ≤ n → children_of d.tree n ≡ []
 
 -- what an exchange that is being made has with one good more, or one bidder more
-abbrev pub good_added : Exchange → Path → Data → Read (List Good)
-good_added ex path d = good_value path d >>= λ good. add_good path ex.goods good
+abbrev pub goods_with : Exchange → Path → Data → Read (List Good)
+goods_with ex path d = good_value path d >>= λ good. add_good path ex.goods good
 
-abbrev pub bidder_added : Exchange → Path → Data → Read (List Bidder)
-bidder_added ex path d = bidder_at (good_names ex) path d >>= λ b. add_bidder path (length (good_names ex)) ex.bidders b
+abbrev pub bidders_with : Exchange → Path → Data → Read (List Bidder)
+bidders_with ex path d = bidder_at (good_names ex) path d >>= λ b. add_bidder path (length (good_names ex)) ex.bidders b

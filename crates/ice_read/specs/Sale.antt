@@ -10,7 +10,7 @@ use Rattle.ice_read.specs.declared.fault.ReadFault.{ReadFault}
 use Rattle.ice_read.specs.declared.cause.ReadCause.TheVariants.{Make}
 use Rattle.ice_read.specs.Values.{value_of, array_of, member_or_null, of_member}
 use Rattle.ice_read.specs.ExchangeFile.{goods_at, bidder_at}
-use Rattle.ice_read.specs.Places.{dotted}
+use Rattle.ice_read.specs.Places.{dotted_text}
 
 -- a fault for a sale tells this of its place, of the good that it names and of the amount
 abbrev pub TellsOfSale : (List ℕ → ℕ → ℤ → Type 0) → ReadFault → Type 0
@@ -32,7 +32,7 @@ pub record IsSaleAmong (goods : List Good) (d : Data) (place : List ℕ) (good :
   pub element : Data
   pub stands : get_item index items ≡ Some element
   pub sale : IsSaleOf goods element [] good amount
-  pub here : place ≡ dotted (decimal index ∷ [])
+  pub here : place ≡ dotted_text (decimal index ∷ [])
 
 -- an element of the array in this member is
 pub record IsSaleUnder (goods : List Good) (name : List ℕ) (d : Data) (place : List ℕ) (good : ℕ) (amount : ℤ) : Type 0 where

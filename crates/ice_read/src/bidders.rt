@@ -6,7 +6,7 @@ ghost use Rattle.ice_defs.specs.Lawful.{good_names, IsLimitedTree, AreBounds};
 ghost use Rattle.ice_read.specs.Values.{of_member};
 ghost use Rattle.ice_read.specs.ExchangeFile.{own_at, bidders_at};
 ghost use Rattle.ice_read.specs.TreeFile.{tree_at};
-ghost use Rattle.ice_read.specs.Reading.{bidder_added};
+ghost use Rattle.ice_read.specs.Reading.{bidders_with};
 ghost use Rattle.ice_read.specs.Owned.{AreNames, AreAmounts};
 ghost use Rattle.ice_read.specs.Fault.{IsFault};
 ghost use Rattle.ice_read.specs.Sale.{TellsOfSale, IsSaleOf, IsSaleAmong};
@@ -69,9 +69,9 @@ fn take_bidder(exchange: &mut ExchangeMaker, value: &Value) -> Result<(), ReadFa
     requires { AreNames (good_names exchange.old) }
     // What comes of it
     ensures taken { OnOk result ((path : Path)
-        → bidder_added exchange.old path (view value.now) ≡ Ok exchange.new.bidders) }
+        → bidders_with exchange.old path (view value.now) ≡ Ok exchange.new.bidders) }
     ensures refused { IfErr result (λ fault. IsFault fault
-        (λ path. bidder_added exchange.old path (view value.now))) }
+        (λ path. bidders_with exchange.old path (view value.now))) }
     // On success
     ensures same { OnOk result (exchange.new
         ≡ record exchange.old { bidders = exchange.new.bidders }) }

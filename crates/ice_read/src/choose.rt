@@ -6,7 +6,7 @@ ghost use Rattle.ice_defs.specs.Making.{is_complete};
 ghost use Rattle.ice_read.specs.Values.{of_member, whole_of, at_index};
 ghost use Rattle.ice_read.specs.TreeFile as file;
 ghost use Rattle.ice_read.specs.TreeFile.{interval_at};
-ghost use Rattle.ice_read.specs.Reading.{taken, opened_below};
+ghost use Rattle.ice_read.specs.Reading.{made_so_far, opened_below};
 ghost use Rattle.ice_read.specs.Fault.{IsFault};
 
 use crate::cause::ReadCause;
@@ -79,7 +79,7 @@ pub(crate) fn open_choose<'a>(
         × ((goods : List (List ℕ)) (path : Path)
         → opened_below goods maker.old.draft path (view value.now)
         ≡ Ok
-        (record { interval = interval; items = items_view items.now.items; made = taken maker.new.draft }))) }
+        (record { interval = interval; items = items_view items.now.items; made = made_so_far maker.new.draft }))) }
     ensures refused { IfErr result (λ fault. (goods : List (List ℕ))
         → IsFault fault (λ path. opened_below goods maker.old.draft path (view value.now))) }
     ensures same { OnOk result (maker.new

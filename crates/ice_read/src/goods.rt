@@ -9,7 +9,7 @@ ghost use Rattle.ice_read.specs.ExchangeFile.{good_value, goods_at};
 ghost use Rattle.ice_defs.specs.Making.{good_refusal};
 ghost use Rattle.ice_trade.specs.Fault.{RefusedBy};
 ghost use Rattle.ice_trade.specs.Parts.{with_good};
-ghost use Rattle.ice_read.specs.Reading.{good_added};
+ghost use Rattle.ice_read.specs.Reading.{goods_with};
 ghost use Rattle.ice_read.specs.Fault.{IsFault, IsReading};
 
 use crate::cause::ReadCause;
@@ -74,9 +74,9 @@ fn add_good(exchange: &mut ExchangeMaker, name: &str, exact: bool) -> Result<u8,
 fn take_good(exchange: &mut ExchangeMaker, value: &Value) -> Result<(), ReadFault>
     requires { exchange.old.bidders ≡ [] }
     ensures taken { OnOk result ((path : Path)
-        → good_added exchange.old path (view value.now) ≡ Ok exchange.new.goods) }
+        → goods_with exchange.old path (view value.now) ≡ Ok exchange.new.goods) }
     ensures refused { IfErr result (λ fault. IsFault fault
-        (λ path. good_added exchange.old path (view value.now))) }
+        (λ path. goods_with exchange.old path (view value.now))) }
     ensures same { OnOk result (exchange.new ≡ record exchange.old { goods = exchange.new.goods }) }
     ensures one { OnOk result (length exchange.new.goods ≡ length exchange.old.goods + 1) }
     ensures few { OnOk result (length exchange.new.goods ≤ 32) }

@@ -7,7 +7,7 @@ ghost use Rattle.ice_defs.specs.Making.{is_complete};
 ghost use Rattle.ice_tree.specs.Making.{IsLeaf};
 ghost use Rattle.ice_read.specs.Values.{of_member};
 ghost use Rattle.ice_read.specs.TreeFile.{value_at};
-ghost use Rattle.ice_read.specs.Reading.{side_word, side_kind, taken, leaf_below};
+ghost use Rattle.ice_read.specs.Reading.{side_word, side_kind, made_so_far, leaf_below};
 ghost use Rattle.ice_read.specs.Fault.{IsFault, IsReading};
 
 use crate::cause::ReadCause;
@@ -70,7 +70,7 @@ pub(crate) fn take_leaf(
     requires deep { length maker.old.draft.opened ≤ 16 }
     ensures taken { OnOk result ((path : Path)
         → leaf_below (good_names exchange.now) maker.old.draft side path (view value.now)
-        ≡ Ok (taken maker.new.draft)) }
+        ≡ Ok (made_so_far maker.new.draft)) }
     ensures refused { IfErr result (λ fault. IsFault fault
         (λ path. leaf_below (good_names exchange.now) maker.old.draft side path (view value.now))) }
     ensures same { OnOk result (maker.new

@@ -1,6 +1,6 @@
 //! Where in a file a fault is.
 ghost use Rattle.std.specs.Prelude.{◌≡◌, ◌+◌, ◌<◌, ◌≤◌, [], ◌∷◌, ◌++◌, length, decimal};
-ghost use Rattle.ice_read.specs.Places.{shown};
+ghost use Rattle.ice_read.specs.Places.{place_text};
 
 use arrayvec::ArrayString;
 use itoa::Buffer;
@@ -45,7 +45,7 @@ impl Place {
 
     /// The place as text, of at most 256 bytes.
     pub fn text(&self) -> &str
-        ensures text { result.now ≡ shown self.now }
+        ensures text { result.now ≡ place_text self.now }
         ensures short { length result.now ≤ 256 }
     {
         match self.text.as_str().strip_prefix('.') {

@@ -4,7 +4,7 @@ ghost use Rattle.serde_json.specs.View.{view};
 ghost use Rattle.ice_defs.specs.FileFault.{Path};
 ghost use Rattle.ice_defs.specs.Lawful.{good_names, IsLimitedTree, AreBounds};
 ghost use Rattle.ice_read.specs.TreeFile.{is_buy, is_sell, is_choose, tree_at};
-ghost use Rattle.ice_read.specs.Reading.{taken, levels_below, node_below, IsWaiting};
+ghost use Rattle.ice_read.specs.Reading.{made_so_far, levels_below, node_below, IsWaiting};
 ghost use Rattle.ice_read.specs.Fault.{IsFault};
 
 use crate::cause::ReadCause;
@@ -44,7 +44,7 @@ fn take_node(
     requires waiting { IsWaiting maker.old.draft }
     ensures taken { OnOk result ((path : Path)
         → node_below (good_names exchange.now) maker.old.draft path (view value.now)
-        ≡ Ok (taken maker.new.draft)) }
+        ≡ Ok (made_so_far maker.new.draft)) }
     ensures refused { IfErr result (λ fault. IsFault fault
         (λ path. node_below (good_names exchange.now) maker.old.draft path (view value.now))) }
     ensures same { OnOk result (maker.new

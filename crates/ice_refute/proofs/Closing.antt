@@ -3,16 +3,16 @@ use Rattle.std.proofs.Common.{◌+◌, ◌≡◌, Bool, List, [], ◌∷◌, len
 use Rattle.ice_defs.specs.declared.Mark.TheVariants.{Never}
 use Rattle.ice_defs.specs.Tree.{Tree}
 use Rattle.ice_defs.specs.Set.{Weights}
-use Rattle.ice_defs.specs.Steps.{Step, Side, with_mark, placed}
+use Rattle.ice_defs.specs.Steps.{Step, Side, with_mark, steps_with_sides}
 use Rattle.ice_defs.specs.Log.{Reads, branches, is_dead_leaf, closes, is_dead}
 use Rattle.ice_refute.specs.Laws.{open_after, LogCloses}
 
 -- the steps that a side takes leave the other sides
 record IsTaken (side : Side) (sides : List Side) (log left : List Step) : Type 0 where
   closed : open_after (side ∷ sides) log ≡ open_after sides left
-  placed_all : length (placed (side ∷ sides) log) + length left ≡ length (placed sides left) + length log
+  placed_all : length (steps_with_sides (side ∷ sides) log) + length left ≡ length (steps_with_sides sides left) + length log
 
-placed-empty : (log : List Step) → length (placed [] log) ≡ 0
+placed-empty : (log : List Step) → length (steps_with_sides [] log) ≡ 0
 placed-empty [] = refl
 placed-empty (step ∷ log) = refl
 

@@ -12,7 +12,7 @@ use Rattle.ice_defs.specs.Trade.{fixing_of}
 use Rattle.ice_defs.specs.Steps.{Side, with_mark}
 use Rattle.ice_defs.proofs.Sums.{count_below-same, count_below-le}
 use Rattle.ice_bound.proofs.Fixings.{length-with_mark, nodes-with_mark}
-use Rattle.ice_refute.specs.Waiting.{also_waits, waiting, open_sides, nodes_of, is_free, free_nodes, free_count, IsPlace, AreKept}
+use Rattle.ice_refute.specs.Waiting.{also_waits, waiting_sides, open_sides, nodes_of, is_free, free_nodes, free_count, IsPlace, AreKept}
 
 -- ---- free nodes
 
@@ -156,25 +156,25 @@ reverse_push branches place = reverse-append branches (place ∷ [])
 
 -- a branch: the second side waits
 pub waiting_more : (marks : Side) (branches : List (ℕ × ℕ)) (b n : ℕ) → b < length marks → n < length (fixing_of marks b) → mark_of (fixing_of marks b) n ≡ Free
-    → waiting (with_mark marks b n Must) (reverse (branches ++ (b, n) ∷ [])) ≡ with_mark marks b n Never ∷ waiting marks (reverse branches)
+    → waiting_sides (with_mark marks b n Must) (reverse (branches ++ (b, n) ∷ [])) ≡ with_mark marks b n Never ∷ waiting_sides marks (reverse branches)
 waiting_more marks branches b n l h free =
-    ap (waiting (with_mark marks b n Must)) (reverse_push branches (b, n))
-    ∙ ap (λ y. also_waits y (with_mark (with_mark marks b n Must) b n Never) (waiting (with_mark (with_mark marks b n Must) b n Free) (reverse branches))) (mark_of-with_mark marks b n Must l h)
-    ∙ ap (λ y. y ∷ waiting (with_mark (with_mark marks b n Must) b n Free) (reverse branches)) (with_mark-with_mark marks b n Must Never l)
-    ∙ ap (λ y. with_mark marks b n Never ∷ waiting y (reverse branches)) (with_mark-back marks b n Must l free)
+    ap (waiting_sides (with_mark marks b n Must)) (reverse_push branches (b, n))
+    ∙ ap (λ y. also_waits y (with_mark (with_mark marks b n Must) b n Never) (waiting_sides (with_mark (with_mark marks b n Must) b n Free) (reverse branches))) (mark_of-with_mark marks b n Must l h)
+    ∙ ap (λ y. y ∷ waiting_sides (with_mark (with_mark marks b n Must) b n Free) (reverse branches)) (with_mark-with_mark marks b n Must Never l)
+    ∙ ap (λ y. with_mark marks b n Never ∷ waiting_sides y (reverse branches)) (with_mark-back marks b n Must l free)
 
 -- the last branch is at its first side: its second one is next
 pub waiting_turned : (marks : Side) (branches : List (ℕ × ℕ)) (place : ℕ × ℕ) → IsPlace marks place → mark_of (fixing_of marks place.0) place.1 ≡ Must
-    → waiting marks (reverse (branches ++ place ∷ [])) ≡ with_mark marks place.0 place.1 Never ∷ waiting (with_mark marks place.0 place.1 Never) (reverse (branches ++ place ∷ []))
+    → waiting_sides marks (reverse (branches ++ place ∷ [])) ≡ with_mark marks place.0 place.1 Never ∷ waiting_sides (with_mark marks place.0 place.1 Never) (reverse (branches ++ place ∷ []))
 waiting_turned marks branches place there must =
     let never = with_mark marks place.0 place.1 Never in
-    let outer = waiting (with_mark marks place.0 place.1 Free) (reverse branches) in
-    ap (waiting marks) (reverse_push branches place)
+    let outer = waiting_sides (with_mark marks place.0 place.1 Free) (reverse branches) in
+    ap (waiting_sides marks) (reverse_push branches place)
     ∙ ap (λ y. also_waits y never outer) must
-    ∙ sym (ap (λ r. never ∷ waiting never r) (reverse_push branches place)
-    ∙ ap (λ y. never ∷ also_waits y (with_mark never place.0 place.1 Never) (waiting (with_mark never place.0 place.1 Free) (reverse branches)))
+    ∙ sym (ap (λ r. never ∷ waiting_sides never r) (reverse_push branches place)
+    ∙ ap (λ y. never ∷ also_waits y (with_mark never place.0 place.1 Never) (waiting_sides (with_mark never place.0 place.1 Free) (reverse branches)))
     (mark_of-with_mark marks place.0 place.1 Never there.0 there.1)
-    ∙ ap (λ y. never ∷ waiting y (reverse branches)) (with_mark-with_mark marks place.0 place.1 Never Free there.0))
+    ∙ ap (λ y. never ∷ waiting_sides y (reverse branches)) (with_mark-with_mark marks place.0 place.1 Never Free there.0))
 
 -- the last branch has no side left
 also_waits-other : (mark : Mark) (second : Side) (sides : List Side) → mark ≢ Must → also_waits mark second sides ≡ sides
@@ -183,8 +183,8 @@ also_waits-other Never second sides ne = refl
 also_waits-other Free second sides ne = refl
 
 pub waiting_less : (marks : Side) (branches : List (ℕ × ℕ)) (place : ℕ × ℕ) → mark_of (fixing_of marks place.0) place.1 ≢ Must
-    → waiting marks (reverse (branches ++ place ∷ [])) ≡ waiting (with_mark marks place.0 place.1 Free) (reverse branches)
-waiting_less marks branches place ne = ap (waiting marks) (reverse_push branches place) ∙ also_waits-other (mark_of (fixing_of marks place.0) place.1) _ _ ne
+    → waiting_sides marks (reverse (branches ++ place ∷ [])) ≡ waiting_sides (with_mark marks place.0 place.1 Free) (reverse branches)
+waiting_less marks branches place ne = ap (waiting_sides marks) (reverse_push branches place) ∙ also_waits-other (mark_of (fixing_of marks place.0) place.1) _ _ ne
 
 -- at most one side waits for each branch
 length-also_waits : (mark : Mark) (second : Side) (sides : List Side) → length (also_waits mark second sides) ≤ suc (length sides)
@@ -192,10 +192,10 @@ length-also_waits Must second sides = omega arith
 length-also_waits Never second sides = omega arith
 length-also_waits Free second sides = omega arith
 
-length-waiting : (marks : Side) (branches : List (ℕ × ℕ)) → length (waiting marks branches) ≤ length branches
+length-waiting : (marks : Side) (branches : List (ℕ × ℕ)) → length (waiting_sides marks branches) ≤ length branches
 length-waiting marks [] = omega arith
 length-waiting marks (place ∷ outer) =
-    let rest = waiting (with_mark marks place.0 place.1 Free) outer in
+    let rest = waiting_sides (with_mark marks place.0 place.1 Free) outer in
     omega (arith, length-also_waits (mark_of (fixing_of marks place.0) place.1) (with_mark marks place.0 place.1 Never) rest, length-waiting (with_mark marks place.0 place.1 Free) outer)
 
 -- so few sides are open

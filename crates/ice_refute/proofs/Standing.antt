@@ -13,7 +13,7 @@ use Rattle.ice_refute.specs.declared.fault.LogFault.TheVariants as faults
 use Rattle.ice_refute.specs.Code.{step_of, steps_of, CountsGoods}
 use Rattle.ice_refute.specs.Passing.{PassesAt, HasFault}
 use Rattle.ice_refute.specs.Faults.{with_number, IsLogFault}
-use Rattle.ice_refute.specs.Waiting.{open_sides, waiting}
+use Rattle.ice_refute.specs.Waiting.{open_sides, waiting_sides}
 use Rattle.ice_refute.proofs.Reading.{Stands, stands_more, stands_fault, stands_long, stands_short, stands_closed}
 
 -- the steps from the next one on
@@ -46,7 +46,7 @@ module _ (ts : List Tree) (exact : List Bool) (ws : List Weights) (target : ℤ)
   pub short_at : (is_open : Bool) (marks : Side) (branches : List (ℕ × ℕ)) (k : ℕ) → length log ≤ k → is_open ≡ true → StandsAt is_open marks branches k
       → IsLogFault ts exact ws target start log faults.Short
   short_at is_open marks branches k h e is =
-      stands_short ts exact ws target start log marks (waiting marks (reverse branches))
+      stands_short ts exact ws target start log marks (waiting_sides marks (reverse branches))
       (subst (λ r. Stands ts exact ws target start log (open_sides true marks branches) r) (no_steps log k h)
       (subst (λ b. Stands ts exact ws target start log (open_sides b marks branches) (drop k log)) e is.stands))
 
@@ -62,7 +62,7 @@ module _ (ts : List Tree) (exact : List Bool) (ws : List Weights) (target : ℤ)
       → StandsAt is_open marks branches k → StandsAt still_open marks' branches' (k + 1)
   more_at is_open marks branches k step still_open marks' branches' o e passes sides is = record {
     stands = subst (λ s. Stands ts exact ws target start log s (drop (k + 1) log)) (sym sides)
-        (stands_more ts exact ws target start log marks (waiting marks (reverse branches)) step (drop (k + 1) log) passes
+        (stands_more ts exact ws target start log marks (waiting_sides marks (reverse branches)) step (drop (k + 1) log) passes
         (subst (λ r. Stands ts exact ws target start log (open_sides true marks branches) r) e
         (subst (λ b. Stands ts exact ws target start log (open_sides b marks branches) (drop k log)) o is.stands)));
   }
@@ -71,6 +71,6 @@ module _ (ts : List Tree) (exact : List Bool) (ws : List Weights) (target : ℤ)
       → drop k log ≡ step ∷ drop (k + 1) log → HasFault ts exact ws target marks step fault → StandsAt is_open marks branches k
       → IsLogFault ts exact ws target start log (with_number k fault)
   fault_at is_open marks branches k step fault o h e has is =
-      stands_fault ts exact ws target start log marks (waiting marks (reverse branches)) step (drop (k + 1) log) fault k h e has
+      stands_fault ts exact ws target start log marks (waiting_sides marks (reverse branches)) step (drop (k + 1) log) fault k h e has
       (subst (λ r. Stands ts exact ws target start log (open_sides true marks branches) r) e
       (subst (λ b. Stands ts exact ws target start log (open_sides b marks branches) (drop k log)) o is.stands))

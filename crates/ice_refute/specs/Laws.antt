@@ -4,7 +4,7 @@ use Rattle.std.specs.List.{AllByRecursion}
 use Rattle.ice_defs.specs.Tree.{Tree}
 use Rattle.ice_defs.specs.Set.{Weights}
 use Rattle.ice_defs.specs.Trade.{Assignment, IsFeasible, MeetsAll, total_value}
-use Rattle.ice_defs.specs.Steps.{Step, Side, branch_count, sides_after, placed}
+use Rattle.ice_defs.specs.Steps.{Step, Side, branch_count, sides_after, steps_with_sides}
 use Rattle.ice_defs.specs.Log.{Passes}
 use Rattle.ice_defs.specs.Conditions.{AreFixingsOf}
 use Rattle.ice_refute.specs.Code.{CountsGoods}
@@ -31,4 +31,4 @@ open_after sides (step ∷ rest) = open_after (sides_after sides step) rest
 -- a passing log closes all sides, and each of its steps stands in one
 abbrev pub LogCloses : Type 0
 LogCloses = (ts : List Tree) (exact : List Bool) (ws : List Weights) (target : ℤ) (start : Side) (log : List Step)
-    → Passes ts exact ws target start log → (open_after (start ∷ []) log ≡ []) × (length (placed (start ∷ []) log) ≡ length log)
+    → Passes ts exact ws target start log → (open_after (start ∷ []) log ≡ []) × (length (steps_with_sides (start ∷ []) log) ≡ length log)

@@ -16,15 +16,15 @@ also_waits Never second sides = sides
 also_waits Free second sides = sides
 
 -- the sides that wait, by the branches, the innermost first
-abbrev pub waiting : Side → List (ℕ × ℕ) → List Side
-waiting marks [] = []
-waiting marks (place ∷ outer) =
+abbrev pub waiting_sides : Side → List (ℕ × ℕ) → List Side
+waiting_sides marks [] = []
+waiting_sides marks (place ∷ outer) =
     also_waits (mark_of (fixing_of marks place.0) place.1) (with_mark marks place.0 place.1 Never)
-    (waiting (with_mark marks place.0 place.1 Free) outer)
+    (waiting_sides (with_mark marks place.0 place.1 Free) outer)
 
 -- the open sides, the next one first, by the branches, the outermost first
 abbrev pub open_sides : Bool → Side → List (ℕ × ℕ) → List Side
-open_sides is_open marks branches = if is_open then marks ∷ waiting marks (reverse branches) else []
+open_sides is_open marks branches = if is_open then marks ∷ waiting_sides marks (reverse branches) else []
 
 -- the numbers of nodes
 abbrev pub nodes_of : {X : Type 0} → List (List X) → List ℕ

@@ -6,7 +6,7 @@ ghost use Rattle.ice_defs.specs.Fixing.{mark_of};
 ghost use Rattle.ice_defs.specs.Trade.{fixing_of};
 ghost use Rattle.ice_defs.specs.Steps.{branch, sides_after};
 ghost use Rattle.ice_refute.specs.Code.{step_of};
-ghost use Rattle.ice_refute.specs.Waiting.{waiting, open_sides, nodes_of, AreKept};
+ghost use Rattle.ice_refute.specs.Waiting.{waiting_sides, open_sides, nodes_of, AreKept};
 ghost use Rattle.ice_refute.specs.Moving.{CanBranch};
 
 use crate::step::Step;
@@ -46,7 +46,7 @@ fn leave(marks: &mut Fixings, branches: &mut Vec<(u8, u16)>) -> bool
     requires kept { AreKept marks.old branches.old.items }
     requires room { 2000 ≤ vec_capacity branches.old }
     ensures sides { open_sides result marks.new branches.new.items
-        ≡ waiting marks.old (reverse branches.old.items) }
+        ≡ waiting_sides marks.old (reverse branches.old.items) }
     ensures kept { AreKept marks.new branches.new.items }
     ensures nodes { nodes_of marks.new ≡ nodes_of marks.old }
     ensures room { 2000 ≤ vec_capacity branches.new }

@@ -12,7 +12,7 @@ use Rattle.ice_journal.specs.Plain.{all_zero}
 use Rattle.ice_section.specs.Section.{may_end}
 use Rattle.ice_journal_laws.specs.Fields.{is_pool, is_round_stop, is_end, set_in, prices_in, step_in}
 use Rattle.ice_journal_laws.specs.State.{Place, at_section, at_group, at_log, at_regret, at_prices, at_balance_rows, at_spent_sets, at_spent_log, at_pool, at_end, done, State, goods_at}
-use Rattle.ice_journal_laws.specs.Next.{next, next_at, go_to, to_line, bidder_count, if_true, after_section, section_ended, open_after, after_all}
+use Rattle.ice_journal_laws.specs.Next.{next, next_at, go_to, to_line, bidder_count, if_true, after_section, past_section, open_after, after_all}
 use Rattle.ice_journal_laws.specs.Tests.{IsStop}
 use Rattle.ice_check_records.specs.Due.{is_prices_place}
 use Rattle.ice_replay.specs.Settlements.{prices_from}
@@ -127,7 +127,7 @@ no_step version_2 goods m r first = by r first
     by other e = refl
 
 module _ (s : State) where
-  spent_opens : (value bound : ℤ) (kind : Kind) (b : Bool) → IsBehind (cond b (after_section (section_ended s) kind (line.spent value bound)) None)
+  spent_opens : (value bound : ℤ) (kind : Kind) (b : Bool) → IsBehind (cond b (after_section (past_section s) kind (line.spent value bound)) None)
   spent_opens value bound kind false = tt
   spent_opens value bound assign_kind true = tt
   spent_opens value bound regret_kind true = refl
@@ -146,7 +146,7 @@ module _ (s : State) where
   spent_stops (at_spent_log sides) value bound = of_none _ (ap (option_map _) (no_step s.version (goods_at s) (all_zero (goods_at s)) (line.spent value bound) refl))
   spent_stops other value bound = tt
 
-  limit_opens : (stage : Stage) (limit : LimitKind) (violation : ℤ) (den : ℕ) (kind : Kind) (b : Bool) → IsBehind (cond b (after_section (section_ended s) kind (line.limit stage limit violation den)) None)
+  limit_opens : (stage : Stage) (limit : LimitKind) (violation : ℤ) (den : ℕ) (kind : Kind) (b : Bool) → IsBehind (cond b (after_section (past_section s) kind (line.limit stage limit violation den)) None)
   limit_opens stage limit violation den kind false = tt
   limit_opens stage limit violation den assign_kind true = tt
   limit_opens stage limit violation den regret_kind true = tt
@@ -166,7 +166,7 @@ module _ (s : State) where
   limit_stops at_prices stage limit violation den = refl
   limit_stops other stage limit violation den = tt
 
-  open_opens : (kind : Kind) (b : Bool) → IsBehind (cond b (after_section (section_ended s) kind (line.end open_end)) None)
+  open_opens : (kind : Kind) (b : Bool) → IsBehind (cond b (after_section (past_section s) kind (line.end open_end)) None)
   open_opens kind false = tt
   open_opens assign_kind true = tt
   open_opens regret_kind true = tt
@@ -187,7 +187,7 @@ module _ (s : State) where
   open_stops (at_end word) = of_test (is_end word (line.end open_end)) (go_to done s) refl
   open_stops other = tt
 
-  refused_opens : (file number : ℕ) (name : List ℕ) (kind : Kind) (b : Bool) → IsBehind (cond b (after_section (section_ended s) kind (line.refused file number name)) None)
+  refused_opens : (file number : ℕ) (name : List ℕ) (kind : Kind) (b : Bool) → IsBehind (cond b (after_section (past_section s) kind (line.refused file number name)) None)
   refused_opens file number name kind false = tt
   refused_opens file number name assign_kind true = tt
   refused_opens file number name regret_kind true = tt
@@ -207,7 +207,7 @@ module _ (s : State) where
   refused_stops (at_balance_rows den rows) file number name = of_test (is_round_stop (s.number + 2) (line.refused file number name)) (go_to done s) refl
   refused_stops other file number name = tt
 
-  unread_opens : (file : ℕ) (kind : Kind) (b : Bool) → IsBehind (cond b (after_section (section_ended s) kind (line.unread file)) None)
+  unread_opens : (file : ℕ) (kind : Kind) (b : Bool) → IsBehind (cond b (after_section (past_section s) kind (line.unread file)) None)
   unread_opens file kind false = tt
   unread_opens file assign_kind true = tt
   unread_opens file regret_kind true = tt

@@ -10,7 +10,7 @@ use Rattle.ice_defs.specs.Set.{Weights}
 use Rattle.ice_defs.specs.Trade.{Assignment}
 use Rattle.ice_defs.specs.Prices.{Prices, price_of, cost_of, ArePrices}
 use Rattle.ice_defs.specs.Pricing.{IsViolation}
-use Rattle.ice_defs.specs.Rows.{Row, weighted_sum, IsRow, worth_above, units_above, wanted}
+use Rattle.ice_defs.specs.Rows.{Row, weighted_sum, IsRow, worth_above, units_above, demand}
 use Rattle.ice_defs.proofs.Products.{times-le}
 use Rattle.ice_row_laws.specs.Laws.{AreSatisfied, TestsGiveAccurate}
 use Rattle.ice_defs.proofs.Multiples.{times_less, times_swap, times_turn, times_keep, times_cancel}
@@ -21,7 +21,7 @@ use Rattle.ice_row_laws.proofs.Priced.{violation-ge, rows-le}
 module _ (ts : List Tree) (ws : List Weights) (sets : Assignment) (goods : ℕ) where
   -- at prices from 0 to t the rows' units cost at most t times what they want
   pub wanted-le : (q : Prices) (t : ℤ) (rows : List Row) → length q.nums ≡ goods → ((g : ℕ) → g < goods → pos 0 ≤ℤ price_of q g) → ((g : ℕ) → g < goods → price_of q g ≤ℤ t)
-      → cost_of q (λ g. weighted_sum (units_above ts ws sets g) rows) ≤ℤ (t *ℤ wanted ts ws sets goods rows)
+      → cost_of q (λ g. weighted_sum (units_above ts ws sets g) rows) ≤ℤ (t *ℤ demand ts ws sets goods rows)
   wanted-le q t rows size low high =
       let asked : ℕ → ℤ = λ g. weighted_sum (units_above ts ws sets g) rows in
       let most = cost_of-le q t asked (λ g h. low g (omega (arith, size, h))) (λ g h. high g (omega (arith, size, h))) in
@@ -31,10 +31,10 @@ module _ (ts : List Tree) (ws : List Weights) (sets : Assignment) (goods : ℕ) 
   -- most the violation at any prices within the cap
   worth-le : (cap : ℤ) (q : Prices) (y : ℤ) (rows : List Row) (den : ℕ) → AreSatisfied ts sets → ArePrices goods cap q → IsViolation ts ws sets q y
       → AllByRecursion (IsRow ts ws sets) rows → total_weight rows ≤ den
-      → (pos q.den *ℤ (weighted_sum (worth_above ts ws sets) rows -ℤ (pos 100 *ℤ (cap *ℤ wanted ts ws sets goods rows)))) ≤ℤ (y *ℤ pos den)
+      → (pos q.den *ℤ (weighted_sum (worth_above ts ws sets) rows -ℤ (pos 100 *ℤ (cap *ℤ demand ts ws sets goods rows)))) ≤ℤ (y *ℤ pos den)
   worth-le cap q y rows den satisfied within is are weights =
       let worths = weighted_sum (worth_above ts ws sets) rows in
-      let all = wanted ts ws sets goods rows in
+      let all = demand ts ws sets goods rows in
       let top = cap *ℤ pos q.den in
       let turned : top *ℤ all ≡ pos q.den *ℤ (cap *ℤ all) =
       *ℤ_comm top all ∙ ap (λ z. all *ℤ z) (*ℤ_comm cap (pos q.den)) ∙ times_swap q.den all cap ∙ ap (λ z. pos q.den *ℤ z) (*ℤ_comm all cap) in
@@ -63,7 +63,7 @@ tests_give_accurate ts ws sets goods cap p x accuracy satisfied within is passes
     x,
     is,
     λ q y prices violation.
-        compared p.den q.den accuracy.den x y (weighted_sum (worth_above ts ws sets) accuracy.rows -ℤ (pos 100 *ℤ (cap *ℤ wanted ts ws sets goods accuracy.rows)))
+        compared p.den q.den accuracy.den x y (weighted_sum (worth_above ts ws sets) accuracy.rows -ℤ (pos 100 *ℤ (cap *ℤ demand ts ws sets goods accuracy.rows)))
         passes.proper passes.equal (worth-le ts ws sets goods cap q y accuracy.rows accuracy.den satisfied prices violation passes.rows passes.weights),
   );
 }

@@ -8,7 +8,7 @@ use Rattle.ice_defs.specs.Set.{Weights}
 use Rattle.ice_defs.specs.Trade.{Assignment}
 use Rattle.ice_defs.specs.Prices.{Prices, price_of}
 use Rattle.ice_defs.specs.Pricing.{top_of, IsViolation}
-use Rattle.ice_defs.specs.Rows.{Certificate, weighted_sum, worth_above, wanted, PassesBalance}
+use Rattle.ice_defs.specs.Rows.{Certificate, weighted_sum, worth_above, demand, PassesBalance}
 use Rattle.ice_defs.proofs.Products.{times_add, times-le}
 use Rattle.ice_row_laws.specs.Laws.{TestsGiveBalanced}
 use Rattle.ice_defs.proofs.Multiples.{times_less, times_swap, times_turn, times_keep, times_cancel}
@@ -35,7 +35,7 @@ module _ (ts : List Tree) (ws : List Weights) (sets : Assignment) (goods : ℕ) 
       let n = q.den in
       let weight = total_weight c.rows in
       let worths = weighted_sum (worth_above ts ws sets) c.rows in
-      let all = wanted ts ws sets goods c.rows in
+      let all = demand ts ws sets goods c.rows in
       let sold = top_of q *ℤ pos c.den in
       let most = rows-le ts ws sets q y is c.rows passes.rows in
       let costs = wanted-le ts ws sets goods q (top_of q) c.rows size low (λ g h. top-high q g (omega (arith, size, h))) in

@@ -6,7 +6,7 @@ use Rattle.std.proofs.lemmas.List.Sums.{sum_by_push}
 use Rattle.ice_defs.specs.Tree.{Tree}
 use Rattle.ice_defs.specs.Set.{Weights}
 use Rattle.ice_defs.specs.Trade.{Assignment}
-use Rattle.ice_defs.specs.Rows.{Row, weighted_sum, worth_above, units_above, wanted}
+use Rattle.ice_defs.specs.Rows.{Row, weighted_sum, worth_above, units_above, demand}
 use Rattle.ice_defs.proofs.Sums.{sum_below-same}
 use Rattle.ice_row_laws.specs.Sums.{RowSums, units_in, wanted_in, AreSums, ZeroIsSums, RowIsAdded, SumsDecideAccuracy, SumsDecideBalance}
 use Rattle.ice_row_laws.proofs.Weighted.{weighted_sum-less, weighted_sum-push}
@@ -24,14 +24,14 @@ row_is_added ts ws sets goods rows row before after are more = record {
 -- ---- the tests
 
 module _ (ts : List Tree) (ws : List Weights) (sets : Assignment) (goods : ℕ) (rows : List Row) (s : RowSums) (are : AreSums ts ws sets goods rows s) where
-  wanted-same : wanted_in goods s ≡ wanted ts ws sets goods rows
+  wanted-same : wanted_in goods s ≡ demand ts ws sets goods rows
   wanted-same =
       sum_below-same (λ g. int_max (units_in s g) (pos 0)) (λ g. int_max (weighted_sum (units_above ts ws sets g) rows) (pos 0)) goods
       (λ g h. ap (λ z. int_max z (pos 0)) (are.units g h))
 
   accuracy-same : (n : ℕ) (cap : ℤ)
       → pos n *ℤ (s.worth -ℤ (pos 100 *ℤ (cap *ℤ wanted_in goods s)))
-      ≡ pos n *ℤ (weighted_sum (worth_above ts ws sets) rows -ℤ (pos 100 *ℤ (cap *ℤ wanted ts ws sets goods rows)))
+      ≡ pos n *ℤ (weighted_sum (worth_above ts ws sets) rows -ℤ (pos 100 *ℤ (cap *ℤ demand ts ws sets goods rows)))
   accuracy-same n cap =
       ap (λ z. pos n *ℤ (z -ℤ (pos 100 *ℤ (cap *ℤ wanted_in goods s)))) are.worth
       ∙ ap (λ z. pos n *ℤ (weighted_sum (worth_above ts ws sets) rows -ℤ (pos 100 *ℤ (cap *ℤ z)))) wanted-same

@@ -6,7 +6,7 @@ use Rattle.ice_defs.specs.declared.Mark.TheVariants.{Must, Never}
 use Rattle.ice_defs.specs.Tree.{Tree}
 use Rattle.ice_defs.specs.Set.{Weights}
 use Rattle.ice_defs.specs.Trade.{Assignment}
-use Rattle.ice_defs.specs.Steps.{Step, branch, leaf, Side, with_mark, sides_after, placed}
+use Rattle.ice_defs.specs.Steps.{Step, branch, leaf, Side, with_mark, sides_after, steps_with_sides}
 use Rattle.ice_defs.specs.Log.{IsFreeNode, Reads, branches, closes, Passes}
 use Rattle.ice_defs.specs.Sweep.{IsEarned, EarnsStep, LeavesEarnedAt, LeavesEarned}
 use Rattle.ice_refute.specs.Code.{CountsGoods}
@@ -45,7 +45,7 @@ module _ (ts : List Tree) (exact : List Bool) (ws : List Weights) (start : Side)
         (by_parts stops parts ReadsPart (later ts exact ws start first parts is) read_leaf read_split (length parts - 0) 0 is.root (omega arith) []))
 
   abbrev AllEarned : List Side → List Step → Type 0
-  AllEarned sides log = AllByRecursion (λ p. EarnsStep ts exact ws start first p.0 p.1) (placed sides log)
+  AllEarned sides log = AllByRecursion (λ p. EarnsStep ts exact ws start first p.0 p.1) (steps_with_sides sides log)
 
   abbrev EarnsPart : ℕ → List Step → Type 0
   EarnsPart k log = (more : List Side) (rest : List Step) → AllEarned more rest → AllEarned (side_at start parts k ∷ more) (log ++ rest)
@@ -86,7 +86,7 @@ module _ (ts : List Tree) (exact : List Bool) (ws : List Weights) (start : Side)
   -- ---- an earned branch that is left
 
   abbrev LeavesAny : List Side → List Step → Type 0
-  LeavesAny sides log = Any (λ p. LeavesEarnedAt ts exact ws start first p.0 p.1) (placed sides log)
+  LeavesAny sides log = Any (λ p. LeavesEarnedAt ts exact ws start first p.0 p.1) (steps_with_sides sides log)
 
   any_later : (side : Side) (more : List Side) (step : Step) (rest : List Step) → LeavesAny (sides_after (side ∷ more) step) rest → LeavesAny (side ∷ more) (step ∷ rest)
   any_later side more step rest (k, x, l, e, p) = (suc k, x, omega (arith, l), e, p)

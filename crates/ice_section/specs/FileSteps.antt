@@ -6,7 +6,7 @@ use Rattle.ice_defs.specs.Prices.{Prices}
 use Rattle.ice_journal.specs.Records.{Record, version_1, exchange_kind, prices_kind, prices_end}
 use Rattle.ice_journal.specs.Records as line
 use Rattle.ice_section.specs.Section.{Section, no_section}
-use Rattle.ice_section.specs.LineFile.{exchange_from, ended, exchange_of_records, prices_from, prices_ended, prices_of_records}
+use Rattle.ice_section.specs.LineFile.{exchange_from, exchange_at_end, exchange_of_records, prices_from, prices_at_end, prices_of_records}
 
 -- ---- exchange files
 
@@ -25,7 +25,7 @@ pub data ExchangeSoFar : Type 0 where
 abbrev pub exchange_after : ℕ → ExchangeSoFar → List Record → Result Exchange FileFault
 exchange_after lines before_head rest = exchange_of_records rest
 exchange_after lines (in_section s) rest = exchange_from (suc lines) s rest
-exchange_after lines (after_end s) rest = ended lines s rest
+exchange_after lines (after_end s) rest = exchange_at_end lines s rest
 exchange_after lines (at_fault fault) rest = Err fault
 
 -- no line was read before the head
@@ -57,11 +57,11 @@ nothing_more p (r ∷ rest) = Err (at_line 50 4)
 abbrev pub prices_after : ℕ → PricesSoFar → List Record → Result Prices FileFault
 prices_after goods no_head rest = prices_of_records goods rest
 prices_after goods no_prices rest = prices_from goods rest
-prices_after goods (no_end p) rest = prices_ended p rest
+prices_after goods (no_end p) rest = prices_at_end p rest
 prices_after goods (with_end p) rest = nothing_more p rest
 prices_after goods (in_fault fault) rest = Err fault
 
 -- after a record of prices for these goods, or of something else
 abbrev pub ended_where : Option Prices → List Record → Result Prices FileFault
 ended_where None rest = Err (at_line 50 2)
-ended_where (Some p) rest = prices_ended p rest
+ended_where (Some p) rest = prices_at_end p rest

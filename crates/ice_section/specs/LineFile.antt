@@ -19,9 +19,9 @@ is_exchange_end (line.end exchange_end) = true
 is_exchange_end other = false
 
 -- the record that ends the file is there; nothing may stand after it
-abbrev pub ended : ℕ → Section → List Record → Result Exchange FileFault
-ended place s [] = if may_end s then Ok (exchange_in s) else Err (at_line 50 place)
-ended place s (r ∷ rest) = if may_end s then Err (at_line 50 (suc place)) else Err (at_line 50 place)
+abbrev pub exchange_at_end : ℕ → Section → List Record → Result Exchange FileFault
+exchange_at_end place s [] = if may_end s then Ok (exchange_in s) else Err (at_line 50 place)
+exchange_at_end place s (r ∷ rest) = if may_end s then Err (at_line 50 (suc place)) else Err (at_line 50 place)
 
 abbrev pub and_on : ℕ → Result Section SectionFault → (Section → Result Exchange FileFault) → Result Exchange FileFault
 and_on place (Err fault) next = Err (at_line (fault_number fault) place)
@@ -30,7 +30,7 @@ and_on place (Ok s) next = next s
 -- the records from this line on
 abbrev pub exchange_from : ℕ → Section → List Record → Result Exchange FileFault
 exchange_from place s [] = Err (at_line 50 place)
-exchange_from place s (r ∷ rest) = if is_exchange_end r then ended place s rest
+exchange_from place s (r ∷ rest) = if is_exchange_end r then exchange_at_end place s rest
     else and_on place (take_record s r) (λ next. exchange_from (suc place) next rest)
 
 abbrev pub exchange_of_records : List Record → Result Exchange FileFault
@@ -38,13 +38,13 @@ exchange_of_records (line.head version_1 exchange_kind ∷ rest) = exchange_from
 exchange_of_records other = Err (at_line 50 1)
 
 -- prices for so many goods
-abbrev pub prices_ended : Prices → List Record → Result Prices FileFault
-prices_ended p (line.end prices_end ∷ []) = Ok p
-prices_ended p (line.end prices_end ∷ r ∷ rest) = Err (at_line 50 4)
-prices_ended p other = Err (at_line 50 3)
+abbrev pub prices_at_end : Prices → List Record → Result Prices FileFault
+prices_at_end p (line.end prices_end ∷ []) = Ok p
+prices_at_end p (line.end prices_end ∷ r ∷ rest) = Err (at_line 50 4)
+prices_at_end p other = Err (at_line 50 3)
 
 abbrev pub prices_from : ℕ → List Record → Result Prices FileFault
-prices_from goods (line.prices p ∷ rest) = if length p.nums == goods then prices_ended p rest else Err (at_line 50 2)
+prices_from goods (line.prices p ∷ rest) = if length p.nums == goods then prices_at_end p rest else Err (at_line 50 2)
 prices_from goods other = Err (at_line 50 2)
 
 abbrev pub prices_of_records : ℕ → List Record → Result Prices FileFault

@@ -40,11 +40,11 @@ use Rattle.ice_session_laws.specs.Laws.{sought_records}
 use Rattle.ice_session_laws.specs.Stops.{IsLimited}
 use Rattle.ice_session_laws.specs.Written.{begun_records, run_records}
 use Rattle.ice_session_laws.proofs.Ends.{spends, is_limited, spent_may_be_written, limit_may_be_written}
-use Rattle.ice_gen.specs.Generated.{generated, truths}
+use Rattle.ice_gen.specs.Generated.{generated_exchange, truths}
 use Rattle.ice_trial.specs.declared.summary.Summary.{Summary}
 use Rattle.ice_trial.specs.declared.trial.TruthRound.{TruthRound}
 use Rattle.ice_trial.specs.Summaries.{AreFinal, bounds_at, IsSummary}
-use Rattle.ice_trial.specs.Rounds.{accepted, goings_of, IsTruthRound}
+use Rattle.ice_trial.specs.Rounds.{acceptances, goings_of, IsTruthRound}
 use Rattle.ice_trial.specs.Ends.{IsTrial}
 use Rattle.ice_command_parts.specs.Call.{IsPrefix}
 use Rattle.ice_session_commands.specs.Rounds.{rounds_in, submissions_of}
@@ -93,9 +93,9 @@ small_regret false number r e h = let low = or_no (int_le r (pos 0)) (subst (λ 
 not_negative : (ex : Exchange) (bounds : List Bounds) (value regret : ℤ) → AreFinal ex bounds value regret → pos 0 ≤ℤ regret
 not_negative ex bounds value regret (best, (final, feasible, has, is)) = regret_is_not_negative (market_of ex) bounds final regret feasible is
 
-pub closed_answers : (text : List ℕ) (number : ℕ) (s : Summary) → IsSummary (generated number) (truths number) s → text ≡ summary_text number s → GenAnswers text number Done
+pub closed_answers : (text : List ℕ) (number : ℕ) (s : Summary) → IsSummary (generated_exchange number) (truths number) s → text ≡ summary_text number s → GenAnswers text number Done
 closed_answers text number s is written =
-    let low = not_negative (generated number) (bounds_at (generated number) (truths number) s.settled) s.total s.regret is.closing in
+    let low = not_negative (generated_exchange number) (bounds_at (generated_exchange number) (truths number) s.settled) s.total s.regret is.closing in
     let high = small_regret (int_le s.opened_regret (pos 0) || (0 == 6)) s.settled s.regret is.settled is.closes in
     record { summary = s; written = written; is = is; settled = is.settled ∙ sign_decides s.opened_regret; no_regret = omega (arith, ints, low, high) }
 
@@ -112,30 +112,30 @@ pub first_writable : (ex same : Exchange) (truths : List Bounds) (first : Option
 first_writable ex same truths None e h = tt
 first_writable ex same truths (Some r) e h = subst (λ (x : Exchange). IsWritableOpening (length (exact_of x)) r.opening) (sym e) h.writable
 
-judged_bids : (bids : List Submission) → map (λ (j : Judged). j.submission) (accepted bids) ≡ bids
+judged_bids : (bids : List Submission) → map (λ (j : Judged). j.submission) (acceptances bids) ≡ bids
 judged_bids [] = refl
 judged_bids (b ∷ bids) = ap (λ (bs : List Submission). b ∷ bs) (judged_bids bids)
 
-pub accepted_bytes : (bids : List Submission) → bytes_of (flat_map judged_records (accepted bids)) ≡ flat_map accepted_text bids
-accepted_bytes bids = bytes_flat judged_records (accepted bids) ∙ flat_map-map (λ (j : Judged). bytes_of (judged_records j)) (λ (bid : Submission). record { submission = bid; verdict = Accepted }) bids
+pub accepted_bytes : (bids : List Submission) → bytes_of (flat_map judged_records (acceptances bids)) ≡ flat_map accepted_text bids
+accepted_bytes bids = bytes_flat judged_records (acceptances bids) ∙ flat_map-map (λ (j : Judged). bytes_of (judged_records j)) (λ (bid : Submission). record { submission = bid; verdict = Accepted }) bids
 
 -- a settlement that opened a round, with its bids
 opened_are : (ex : Exchange) (o : Opening) (judged : List Judged) → o.number ≡ 0 → opening_records ex o ++ flat_map judged_records judged ≡ goings_in version_2 (length (exact_of ex)) 0 (going_of o judged ∷ [])
 opened_are ex o judged first =
     ap (λ (n : ℕ). opening_records ex (record o { number = n }) ++ flat_map judged_records judged) first ∙ sym (append-nil (going_in version_2 (length (exact_of ex)) 0 (going_of o judged)))
 
-module _ (number : ℕ) (first : Option TruthRound) (s : SessionAt) (trial : IsTrial (generated number) (truths number) first s) where
+module _ (number : ℕ) (first : Option TruthRound) (s : SessionAt) (trial : IsTrial (generated_exchange number) (truths number) first s) where
   begun_are : trial_records s.exchange first ≡ run_records s.exchange (goings_of first)
   begun_are = by first trial.round
     where
-      by : (r : Option TruthRound) → IfSome r (IsTruthRound (generated number) (truths number)) → trial_records s.exchange r ≡ run_records s.exchange (goings_of r)
+      by : (r : Option TruthRound) → IfSome r (IsTruthRound (generated_exchange number) (truths number)) → trial_records s.exchange r ≡ run_records s.exchange (goings_of r)
       by None h = refl
-      by (Some r) h = ap (λ (rs : List Record). begun_records s.exchange ++ rs) (opened_are s.exchange r.opening (accepted r.bids.items) h.number)
+      by (Some r) h = ap (λ (rs : List Record). begun_records s.exchange ++ rs) (opened_are s.exchange r.opening (acceptances r.bids.items) h.number)
 
   rounds_are : (rounds : List (List Submission)) → rounds ≡ map submissions_of (goings_of first) ++ [] ∷ [] → AreTruthRounds number rounds
   rounds_are rounds e = by first trial.round e
     where
-      by : (r : Option TruthRound) → IfSome r (IsTruthRound (generated number) (truths number)) → rounds ≡ map submissions_of (goings_of r) ++ [] ∷ [] → AreTruthRounds number rounds
+      by : (r : Option TruthRound) → IfSome r (IsTruthRound (generated_exchange number) (truths number)) → rounds ≡ map submissions_of (goings_of r) ++ [] ∷ [] → AreTruthRounds number rounds
       by None h same = inl same
       by (Some r) h same = inr (same ∙ ap (λ (bs : List Submission). bs ∷ [] ∷ []) (judged_bids r.bids.items ∙ h.bids))
 
@@ -174,7 +174,7 @@ module _ (number : ℕ) (first : Option TruthRound) (s : SessionAt) (trial : IsT
         subst (IsSpent session_kind) (grouped ∙ ap (λ (rs : List Record). rs ++ behind) (sym begun_are)) ended.spent,
       )
 
-module _ (number : ℕ) (s : SessionAt) (trial : IsTrial (generated number) (truths number) None s) where
+module _ (number : ℕ) (s : SessionAt) (trial : IsTrial (generated_exchange number) (truths number) None s) where
   pub limited_answers : (text : List ℕ) (h : Halt) (limit : PriceLimit) → IsHaltOf s h → IsLimitAt s h.best h.regret h.provisional h.marginals.items limit
       → text ≡ bytes_of (begun_records h.exchange ++ (halt_records h ++ limit_records limit)) → GenAnswers text number Limit
   limited_answers text h limit halt is written =

@@ -10,7 +10,7 @@ use Rattle.ice_journal_laws.specs.Written.{judged_records}
 use Rattle.ice_write_session.specs.Records.{opening_records}
 use Rattle.ice_session_laws.specs.Written.{begun_records}
 use Rattle.ice_trial.specs.declared.trial.TruthRound.{TruthRound}
-use Rattle.ice_trial.specs.Rounds.{accepted}
+use Rattle.ice_trial.specs.Rounds.{acceptances}
 
 -- a bid with its acceptance
 abbrev pub accepted_text : Submission → List ℕ
@@ -20,7 +20,7 @@ module _ (ex : Exchange) where
   -- the settlement that opened the round, with its bids, if there was one
   abbrev pub first_records : Option TruthRound → List Record
   first_records None = []
-  first_records (Some r) = opening_records ex r.opening ++ flat_map judged_records (accepted r.bids.items)
+  first_records (Some r) = opening_records ex r.opening ++ flat_map judged_records (acceptances r.bids.items)
 
   -- the head, the exchange, and that
   abbrev pub trial_records : Option TruthRound → List Record

@@ -14,7 +14,7 @@ use Rattle.ice_journal_laws.specs.Stops.{IsSpent}
 use Rattle.ice_journal_laws.specs.SoFar.{IsSoFar}
 use Rattle.ice_session_laws.specs.Stops.{IsLimited}
 use Rattle.ice_session_laws.specs.Written.{begun_records}
-use Rattle.ice_gen.specs.Generated.{generated, truths}
+use Rattle.ice_gen.specs.Generated.{generated_exchange, truths}
 use Rattle.ice_trial.specs.Truths.{truth_bids}
 use Rattle.ice_trial.specs.declared.summary.Summary.{Summary}
 use Rattle.ice_trial.specs.Summaries.{IsSummary}
@@ -48,7 +48,7 @@ summary_text number s = flat_map line_text (summary_fields number s)
 pub record GenEnds (text : List ℕ) (number : ℕ) : Type 0 where
   pub summary : Summary
   pub written : text ≡ summary_text number summary
-  pub is : IsSummary (generated number) (truths number) summary
+  pub is : IsSummary (generated_exchange number) (truths number) summary
   -- it settled twice where there was a regret at the opening
   pub settled : summary.settled ≡ (if int_lt (pos 0) summary.opened_regret then 1 else 0)
   pub no_regret : summary.regret ≡ pos 0
@@ -57,13 +57,13 @@ pub record GenEnds (text : List ℕ) (number : ℕ) : Type 0 where
 
 -- its round, if settlement 0 opened one, has the true values of all bidders
 abbrev pub AreTruthRounds : ℕ → List (List Submission) → Type 0
-AreTruthRounds number rounds = (rounds ≡ [] ∷ []) ⊎ (rounds ≡ truth_bids (names_of (generated number)) (truths number) ∷ [] ∷ [])
+AreTruthRounds number rounds = (rounds ≡ [] ∷ []) ⊎ (rounds ≡ truth_bids (names_of (generated_exchange number)) (truths number) ∷ [] ∷ [])
 
 -- the journal of its session as far as it came, with the generated exchange
 pub record GenStops (text : List ℕ) (number : ℕ) (journal : List Record) : Type 0 where
   pub written : IsJournal text journal
   pub so_far : IsSoFar session_kind journal
-  pub exchange : IsPrefix (begun_records (generated number)) journal
+  pub exchange : IsPrefix (begun_records (generated_exchange number)) journal
   pub rounds : AreTruthRounds number (rounds_in journal)
 
 abbrev pub GenAnswers : List ℕ → ℕ → Status → Type 0

@@ -11,7 +11,7 @@ ghost use Rattle.ice_search.specs.Results.{proved_spent};
 ghost use Rattle.ice_write_session.specs.Records.{halt_records, spent_records, limit_records};
 ghost use Rattle.ice_write_session.specs.Writable.{IsWritable, IsWritableOpening, IsWritableHalt, IsWritableLimit};
 ghost use Rattle.ice_session_laws.specs.Written.{begun_records};
-ghost use Rattle.ice_trial.specs.Rounds.{accepted};
+ghost use Rattle.ice_trial.specs.Rounds.{acceptances};
 ghost use Rattle.ice_session_commands.specs.GenJournal.{first_records, trial_records};
 
 use crate::session_journal::{bound_of, put_begin, put_halted, put_limited};
@@ -27,7 +27,7 @@ use ice_write_session::{put_judged, put_opening};
 
 /// Puts bids that are all accepted.
 fn put_accepted<K: Sink>(bids: &[Bid], out: &mut K) -> Result<(), SinkFault>
-    ensures { IsPut (bytes_of (flat_map judged_records (accepted bids.now))) result
+    ensures { IsPut (bytes_of (flat_map judged_records (acceptances bids.now))) result
         (K.taken out.old) (K.taken out.new) }
 {
     for bid in bids {

@@ -10,8 +10,8 @@ use Rattle.ice_defs.specs.Name.{is_name}
 use Rattle.ice_defs.specs.Weighing.{lower_weights}
 use Rattle.ice_defs.specs.declared.Group.TheVariants.{Without}
 use Rattle.ice_defs.specs.Group.{empty_sets}
-use Rattle.ice_defs.specs.Fraction.{Fraction, whole, IsFraction, Equals, AtMost, less, sum_of, fraction_at}
-use Rattle.ice_defs.specs.Cut.{IsCut, cut_down, cut_sum}
+use Rattle.ice_defs.specs.Fraction.{Fraction, whole_number, IsFraction, Equals, AtMost, minus, sum_of, fraction_at}
+use Rattle.ice_defs.specs.Cut.{IsCut, discount_at_cut, cut_sum}
 use Rattle.ice_defs.specs.Exchange.{Exchange, trees_of, exact_of, names_of}
 use Rattle.ice_defs.specs.Lawful.{IsExchange}
 use Rattle.ice_defs.specs.Session.{Proved, Payment, Closed}
@@ -94,17 +94,17 @@ at_place P (v ∷ vs) zero l h = (0, v, omega arith, refl, h)
 at_place P (v ∷ vs) (suc i) l h = let (k, x, there, e, is) = at_place P vs i (omega (arith, l)) h in (suc k, x, omega (arith, there), e, is)
 
 threshold_line : (vs : List ℤ) (total : ℤ) (cut surplus : Fraction) (ds : List Fraction) → 0 < length vs → AllByRecursion (λ v. pos 0 ≤ℤ v) vs → pos 0 ≤ℤ total → IsCut vs total cut → AreCutDown cut ds vs
-    → Equals surplus (less (whole total) (sum_of ds)) → IsThresholdLine vs total (record { cut = cut; surplus = surplus })
+    → Equals surplus (minus (whole_number total) (sum_of ds)) → IsThresholdLine vs total (record { cut = cut; surplus = surplus })
 threshold_line vs total cut surplus ds some low rich is down rest =
     let passes : PassesCut vs total cut = least_passes vs total cut some low rich is in
     let proper : IsFraction (sum_of ds) = proper_sum ds (λ i l. (AreCutDown-at cut ds vs down i (omega (arith, l, AreCutDown-length cut ds vs down))).proper) in
     record {
       low = passes.payable.low;
-      high = at_place (λ v. AtMost cut (whole v)) vs passes.place passes.within passes.high;
+      high = at_place (λ v. AtMost cut (whole_number v)) vs passes.place passes.within passes.high;
       paid = passes.payable.paid;
       spent = passes.spent;
-      rest = Equals-trans surplus (less (whole total) (sum_of ds)) (less (whole total) (cut_sum cut vs)) (proper_less total (sum_of ds) proper) rest
-          (Equals-less (whole total) (sum_of ds) (whole total) (cut_sum cut vs) refl (AreCutDown-sum cut ds vs down));
+      rest = Equals-trans surplus (minus (whole_number total) (sum_of ds)) (minus (whole_number total) (cut_sum cut vs)) (proper_less total (sum_of ds) proper) rest
+          (Equals-less (whole_number total) (sum_of ds) (whole_number total) (cut_sum cut vs) refl (AreCutDown-sum cut ds vs down));
     }
 
 -- ---- the payments
@@ -112,8 +112,8 @@ threshold_line vs total cut surplus ds some low rich is down rest =
 payments_shown : (names : List (List ℕ)) (vs : List ℤ) (worth : ℕ → ℤ) (cut : Fraction) (b : ℕ) (qs : List Payment)
     → ((i : ℕ) → i < length qs → get_or (map (λ (q : Payment). q.name) qs) i [] ≡ get_or names (b + i) [])
     → ((i : ℕ) → i < length qs → get_or (map (λ (q : Payment). q.vickrey) qs) i (pos 0) ≡ get_or vs (b + i) (pos 0))
-    → ((i : ℕ) → i < length qs → Equals (fraction_at (map (λ (q : Payment). q.discount) qs) i) (cut_down cut (get_or vs (b + i) (pos 0))))
-    → ((i : ℕ) → i < length qs → Equals (fraction_at (map (λ (q : Payment). q.payment) qs) i) (less (whole (worth (b + i))) (fraction_at (map (λ (q : Payment). q.discount) qs) i)))
+    → ((i : ℕ) → i < length qs → Equals (fraction_at (map (λ (q : Payment). q.discount) qs) i) (discount_at_cut cut (get_or vs (b + i) (pos 0))))
+    → ((i : ℕ) → i < length qs → Equals (fraction_at (map (λ (q : Payment). q.payment) qs) i) (minus (whole_number (worth (b + i))) (fraction_at (map (λ (q : Payment). q.discount) qs) i)))
     → AreShownPayments names vs worth cut b qs
 payments_shown names vs worth cut b [] name vickrey discount payment = tt
 payments_shown names vs worth cut b (q ∷ qs) name vickrey discount payment =
@@ -122,14 +122,14 @@ payments_shown names vs worth cut b (q ∷ qs) name vickrey discount payment =
       subst (λ (k : ℕ). q.name ≡ get_or names k []) here (name 0 (omega arith)),
       record {
         vickrey_is = subst (λ (k : ℕ). q.vickrey ≡ get_or vs k (pos 0)) here (vickrey 0 (omega arith));
-        discount = subst (λ (k : ℕ). Equals q.discount (cut_down cut (get_or vs k (pos 0)))) here (discount 0 (omega arith));
-        payment = subst (λ (k : ℕ). Equals q.payment (less (whole (worth k)) q.discount)) here (payment 0 (omega arith));
+        discount = subst (λ (k : ℕ). Equals q.discount (discount_at_cut cut (get_or vs k (pos 0)))) here (discount 0 (omega arith));
+        payment = subst (λ (k : ℕ). Equals q.payment (minus (whole_number (worth k)) q.discount)) here (payment 0 (omega arith));
       },
       payments_shown names vs worth cut (suc b) qs
           (λ i l. subst (λ (k : ℕ). get_or (map (λ (x : Payment). x.name) qs) i [] ≡ get_or names k []) (next i) (name (suc i) (omega (arith, l))))
           (λ i l. subst (λ (k : ℕ). get_or (map (λ (x : Payment). x.vickrey) qs) i (pos 0) ≡ get_or vs k (pos 0)) (next i) (vickrey (suc i) (omega (arith, l))))
-          (λ i l. subst (λ (k : ℕ). Equals (fraction_at (map (λ (x : Payment). x.discount) qs) i) (cut_down cut (get_or vs k (pos 0)))) (next i) (discount (suc i) (omega (arith, l))))
-          (λ i l. subst (λ (k : ℕ). Equals (fraction_at (map (λ (x : Payment). x.payment) qs) i) (less (whole (worth k)) (fraction_at (map (λ (x : Payment). x.discount) qs) i))) (next i) (payment (suc i) (omega (arith, l)))),
+          (λ i l. subst (λ (k : ℕ). Equals (fraction_at (map (λ (x : Payment). x.discount) qs) i) (discount_at_cut cut (get_or vs k (pos 0)))) (next i) (discount (suc i) (omega (arith, l))))
+          (λ i l. subst (λ (k : ℕ). Equals (fraction_at (map (λ (x : Payment). x.payment) qs) i) (minus (whole_number (worth k)) (fraction_at (map (λ (x : Payment). x.discount) qs) i))) (next i) (payment (suc i) (omega (arith, l)))),
     )
 
 -- where there is a payment for each name, their discounts are those that were given
@@ -204,7 +204,7 @@ module _ (s : SessionAt) (lawful : IsExchange s.exchange) (are : AreBoundsOf (tr
       subst (λ (vs : List ℤ). IsThresholdLine vs c.best.value (record { cut = c.payments.cut; surplus = c.payments.surplus })) (sym vickreys_are)
       (threshold_line (map (λ m. m.discount) c.marginals.items) c.best.value c.payments.cut c.payments.surplus c.payments.discounts.items some
       (discounts_low s lawful are c.best.value 0 c.marginals.items is.marginals.each) (final_rich s c.best is.settlement.final) cut_is is.cut_down
-      (subst (λ (ds : List Fraction). Equals c.payments.surplus (less (whole c.best.value) (sum_of ds))) given_discounts is.closed.surplus.1))
+      (subst (λ (ds : List Fraction). Equals c.payments.surplus (minus (whole_number c.best.value) (sum_of ds))) given_discounts is.closed.surplus.1))
 
   bidders_same : length s.bounds ≡ length s.exchange.bidders
   bidders_same = are.same_length ∙ length-trees s.exchange
@@ -215,12 +215,12 @@ module _ (s : SessionAt) (lawful : IsExchange s.exchange) (are : AreBoundsOf (tr
       (payments_shown (names_of s.exchange) (map (λ m. m.discount) c.marginals.items) (worth_of s.bounds c.best.best) c.payments.cut 0 (closed_of s.exchange c).payments
       (λ i l. ap (λ (ns : List (List ℕ)). get_or ns i []) is.closed.names ∙ ap (λ (k : ℕ). get_or (names_of s.exchange) k []) (at i))
       (λ i l. ap (λ (vs : List ℤ). get_or vs i (pos 0)) payments_by ∙ ap (λ (k : ℕ). get_or (map (λ (m : Marginal). m.discount) c.marginals.items) k (pos 0)) (at i))
-      (λ i l. subst (λ (k : ℕ). Equals (fraction_at (right.discounts_of (closed_of s.exchange c)) i) (cut_down c.payments.cut (get_or (map (λ (m : Marginal). m.discount) c.marginals.items) k (pos 0)))) (at i)
-      (subst (λ (ds : List Fraction). Equals (fraction_at ds i) (cut_down c.payments.cut (get_or (map (λ (m : Marginal). m.discount) c.marginals.items) i (pos 0)))) (sym given_discounts)
+      (λ i l. subst (λ (k : ℕ). Equals (fraction_at (right.discounts_of (closed_of s.exchange c)) i) (discount_at_cut c.payments.cut (get_or (map (λ (m : Marginal). m.discount) c.marginals.items) k (pos 0)))) (at i)
+      (subst (λ (ds : List Fraction). Equals (fraction_at ds i) (discount_at_cut c.payments.cut (get_or (map (λ (m : Marginal). m.discount) c.marginals.items) i (pos 0)))) (sym given_discounts)
       (AreCutDown-at c.payments.cut c.payments.discounts.items (map (λ m. m.discount) c.marginals.items) is.cut_down i (omega (arith, l, payments_count, count_is))).equal))
       (λ i l. let there : i < length s.bounds = omega (arith, l, payments_count, bidders_same) in
-      subst (λ (k : ℕ). Equals (fraction_at (right.payments_of (closed_of s.exchange c)) i) (less (whole (worth_of s.bounds c.best.best k)) (fraction_at (right.discounts_of (closed_of s.exchange c)) i))) (at i)
-      (subst (λ (z : ℤ). Equals (fraction_at (right.payments_of (closed_of s.exchange c)) i) (less (whole z) (fraction_at (right.discounts_of (closed_of s.exchange c)) i))) (own_at s.bounds c.best.best i there)
+      subst (λ (k : ℕ). Equals (fraction_at (right.payments_of (closed_of s.exchange c)) i) (minus (whole_number (worth_of s.bounds c.best.best k)) (fraction_at (right.discounts_of (closed_of s.exchange c)) i))) (at i)
+      (subst (λ (z : ℤ). Equals (fraction_at (right.payments_of (closed_of s.exchange c)) i) (minus (whole_number z) (fraction_at (right.discounts_of (closed_of s.exchange c)) i))) (own_at s.bounds c.best.best i there)
       (is.closed.payments.each i (omega (arith, there, own_count s.bounds c.best.best))))))
     where
       at : (i : ℕ) → i ≡ 0 + i

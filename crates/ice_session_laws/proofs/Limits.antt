@@ -5,7 +5,7 @@ use Rattle.std.proofs.lemmas.Bool.{cases_lt}
 use Rattle.std.proofs.lemmas.Int.{ints}
 use Rattle.std.proofs.lemmas.List.{get_or-replicate, length-replicate}
 use Rattle.std.proofs.Math.IntN.{zero-*ℤ, pos-*ℤ-pos}
-use Rattle.ice_defs.specs.Fraction.{Fraction, IsFraction, AtMost, whole, fraction_at}
+use Rattle.ice_defs.specs.Fraction.{Fraction, IsFraction, AtMost, whole_number, fraction_at}
 use Rattle.ice_defs.specs.Prices.{Prices, cost_of, price_of}
 use Rattle.ice_defs.specs.Pricing.{IsChoice, excess_net}
 use Rattle.ice_defs.specs.PricingLimit.{den_limit}
@@ -74,8 +74,8 @@ module _ (t : ProvisionalTrade) (is : IsProvisional t) where
       let size = point-size t.trees t.weights t.sets t.goods t.cap pool x least.point in
       let positive : 0 < own.den = prices-pos t.goods x least.point.non_negative size in
       let last : Fraction = fraction_at x t.goods in
-      let proper : IsFraction last × AtMost (whole (pos 0)) last = all-at (λ f. IsFraction f × AtMost (whole (pos 0)) f) x t.goods (whole (pos 0)) least.point.non_negative (omega (arith, size)) in
-      let low : AtMost (whole (pos 0)) last = proper.1 in
+      let proper : IsFraction last × AtMost (whole_number (pos 0)) last = all-at (λ f. IsFraction f × AtMost (whole_number (pos 0)) f) x t.goods (whole_number (pos 0)) least.point.non_negative (omega (arith, size)) in
+      let low : AtMost (whole_number (pos 0)) last = proper.1 in
       let few_hundredths : last.num ≤ℤ pos (2 ^ 49 * last.den) = omega (arith, ints, most, pos-*ℤ-pos (2 ^ 49) last.den) in
       let lifted = scale_le den last.num (pos (2 ^ 49 * last.den)) few_hundredths in
       let some : pos 0 ≤ℤ last.num = omega (arith, ints, low, zero-*ℤ (pos last.den)) in

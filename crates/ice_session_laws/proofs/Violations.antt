@@ -14,7 +14,7 @@ use Rattle.ice_defs.specs.Bounds.{Bounds}
 use Rattle.ice_defs.specs.Weighing.{weighted_weights}
 use Rattle.ice_defs.specs.Prices.{Prices}
 use Rattle.ice_defs.specs.Pricing.{IsViolation}
-use Rattle.ice_defs.specs.Rows.{Row, Certificate, weighted_sum, IsRow, worth_above, units_above, wanted, PassesAccuracy}
+use Rattle.ice_defs.specs.Rows.{Row, Certificate, weighted_sum, IsRow, worth_above, units_above, demand, PassesAccuracy}
 use Rattle.ice_defs.specs.Exchange.{Bidder, Exchange, trees_of, exact_of}
 use Rattle.ice_defs.specs.Lawful.{IsBidder, IsExchange}
 use Rattle.ice_defs.proofs.Products.{times-le}
@@ -91,7 +91,7 @@ module _ (t : ProvisionalTrade) (is : IsProvisional t) where
 
   pub violation_high : (p : Prices) (v : ℤ) (c : Certificate) → p.den ≤ 2 ^ 32 → PassesAccuracy t.trees t.weights t.sets t.goods t.cap p v c → v ≤ℤ pos (2 ^ 81)
   violation_high p v c few passes =
-      let all = wanted t.trees t.weights t.sets t.goods c.rows in
+      let all = demand t.trees t.weights t.sets t.goods c.rows in
       let worths = weighted_sum (worth_above t.trees t.weights t.sets) c.rows in
       let free : pos 0 ≤ℤ (t.cap *ℤ all) = omega (arith, ints, times_keep t.cap (pos 0) all is.cap_low (wanted_low (λ g. weighted_sum (units_above t.trees t.weights t.sets g) c.rows) t.goods), *ℤ-zero t.cap) in
       let weights : total_weight c.rows * 2 ^ 49 ≤ c.den * 2 ^ 49 = mul-le-mul_right (2 ^ 49) passes.weights in

@@ -19,7 +19,7 @@ use Rattle.ice_defs.specs.Right.{IsRight}
 use Rattle.ice_journal.specs.Records.{Record, version_2}
 use Rattle.ice_journal.specs.Records as line
 use Rattle.ice_journal.specs.Nodes.{node_record}
-use Rattle.ice_journal.specs.Plain.{changed, all_zero, goods_in, plain_records, plain}
+use Rattle.ice_journal.specs.Plain.{after_changes, all_zero, goods_in, plain_records, plain}
 use Rattle.ice_section.specs.Section.{good_record}
 use Rattle.ice_section.specs.Described.{bidder_records}
 use Rattle.ice_journal_laws.specs.Theorems.{Says}
@@ -87,7 +87,7 @@ module _ (name : List ℕ) where
 
   plain_told : (goods : ℕ) (m : Multipliers) (records : List Record) → has_bidder name (plain_records goods m records) ≡ has_bidder name records
   plain_told goods m [] = refl
-  plain_told goods m (line.near changes ∷ rest) = plain_told goods (changed m changes) rest
+  plain_told goods m (line.near changes ∷ rest) = plain_told goods (after_changes m changes) rest
   plain_told goods m (line.step s ∷ rest) = plain_told goods m rest
   plain_told goods m (r ∷ rest) = ap (answer_or (end_at name r)) (plain_told goods (all_zero goods) rest)
 

@@ -2,7 +2,7 @@
 ghost use Rattle.std.specs.Prelude.{◌≡◌, ◌+◌, ◌-◌, ◌<◌, ◌≤◌, ◌^◌};
 ghost use Rattle.std.specs.Str.{bytes_eq};
 ghost use Rattle.ice_journal.specs.Lines.{record_of};
-ghost use Rattle.ice_statement_laws.specs.Gathering.{gathering, gathering_after, with_bidder, with_set};
+ghost use Rattle.ice_statement_laws.specs.Gathering.{new_gathering, gathering_after, with_bidder, with_set};
 ghost use Rattle.ice_statement_laws.specs.Gathering as spec;
 ghost use Rattle.ice_statement.specs.Shape.{slot_of};
 
@@ -57,7 +57,7 @@ impl<'a> Model for Gathering<'a> {
 impl<'a> Gathering<'a> {
     /// Before the first record.
     pub(crate) fn new(name: &'a [u8]) -> Self
-        ensures { result ≡ gathering name.now }
+        ensures { result ≡ new_gathering name.now }
     {
         Gathering {
             name,

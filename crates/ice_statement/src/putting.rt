@@ -5,9 +5,9 @@ ghost use Rattle.ice_journal.specs.Records.{Record};
 ghost use Rattle.ice_journal.specs.Journal.{IsJournal};
 ghost use Rattle.ice_journal.specs.Spelling.{line_of};
 ghost use Rattle.ice_journal.specs.Lines.{record_of};
-ghost use Rattle.ice_statement_laws.specs.Statement.{Own, published, named, kept, offered, ended, statement_of};
+ghost use Rattle.ice_statement_laws.specs.Statement.{Own, public_records, named, kept, offered, ended, statement_of};
 ghost use Rattle.ice_statement_laws.specs.Texts.{IsOwnOf, line_text, bytes_of_lines};
-ghost use Rattle.ice_statement_laws.specs.Gathering.{gathering, shown_if, lines_at, gathered, gathered_lines};
+ghost use Rattle.ice_statement_laws.specs.Gathering.{new_gathering, shown_if, lines_at, lines_gathered, gathered_lines};
 
 use crate::gathering::Gathering;
 use crate::lines::{write_kept, write_offered};
@@ -93,7 +93,7 @@ pub(crate) fn put_added<K: Sink>(
 /// name. It takes no memory.
 fn put_gathered<K: Sink>(bytes: &[u8], name: &[u8], out: &mut K) -> Result<(), SinkFault>
     ensures { (journal : List Record) → IsJournal bytes.now journal
-        → IsPut (bytes_of_lines (gathered (gathering name.now) journal)) result
+        → IsPut (bytes_of_lines (lines_gathered (new_gathering name.now) journal)) result
         (K.taken out.old) (K.taken out.new) }
 {
     let mut gathering = Gathering::new(name);
@@ -141,7 +141,7 @@ fn put_ended<K: Sink>(out: &mut K) -> Result<(), SinkFault>
 /// Puts the lines of the records and the last line.
 fn put_behind_name<K: Sink>(bytes: &[u8], name: &[u8], out: &mut K) -> Result<(), SinkFault>
     ensures { (journal : List Record) → IsJournal bytes.now journal
-        → IsPut (bytes_of_lines (gathered (gathering name.now) journal) ++ line_text ended) result
+        → IsPut (bytes_of_lines (lines_gathered (new_gathering name.now) journal) ++ line_text ended) result
         (K.taken out.old) (K.taken out.new) }
 {
     put_gathered(bytes, name, out)?;
@@ -162,7 +162,7 @@ fn put_lines<K: Sink>(bytes: &[u8], name: &[u8], out: &mut K) -> Result<(), Sink
 /// passes every test. It takes no memory.
 pub fn put_statement<K: Sink>(bytes: &[u8], name: &[u8], out: &mut K) -> Result<(), SinkFault>
     ensures { (journal : List Record) (own : Own) → IsJournal bytes.now journal → IsOwnOf journal name.now own
-        → IsPut (statement_of (published journal) own) result (K.taken out.old) (K.taken out.new) }
+        → IsPut (statement_of (public_records journal) own) result (K.taken out.old) (K.taken out.new) }
 {
     put_lines(bytes, name, out)
 }

@@ -9,7 +9,7 @@ use Rattle.ice_defs.specs.declared.NodeKind.{NodeKind}
 use Rattle.ice_defs.specs.declared.NodeKind.TheVariants.{Choose, Buy, Sell}
 use Rattle.ice_defs.specs.Bounds.{no_bounds}
 use Rattle.ice_defs.specs.Making.{node_refusal, good_refusal, bidder_refusal}
-use Rattle.ice_defs.specs.Fraction.{whole}
+use Rattle.ice_defs.specs.Fraction.{whole_number}
 use Rattle.ice_defs.specs.Exchange.{Good, Bidder, Exchange}
 use Rattle.ice_defs.specs.Lawful.{IsExchange}
 use Rattle.ice_journal.specs.Records.{Record}
@@ -22,7 +22,7 @@ use Rattle.ice_section.specs.Laws.{SectionIsLawful, SectionRecords, DescribedAre
 use Rattle.ice_journal_laws.specs.declared.rule.Rule.TheVariants as rule
 use Rattle.ice_journal_laws.specs.Tests.{is_refusal}
 use Rattle.ice_statement_laws.specs.Statement.{StatementLine, named, shown, kept, offered, ended}
-use Rattle.ice_statement_laws.specs.Audit.{at_regret, AuditState, bidder_at, begin_settlement, is_named, section_taken, to_line, Audited, passes, goes_on, IsAudit}
+use Rattle.ice_statement_laws.specs.Audit.{at_regret, AuditState, bidder_at, begin_settlement, is_named, with_section, to_line, Audited, passes, goes_on, IsAudit}
 use Rattle.ice_statement_laws.specs.Sections.{IsDraftNamed, Before, Complete, IsOwnSection}
 use Rattle.ice_statement_laws.specs.Own.{OwnSession, own_exchange, own_lines, IsRightOwn}
 use Rattle.ice_statement_laws.specs.Texts.{IsLine, AreLines, paid_in}
@@ -159,13 +159,13 @@ module _ (name : List ℕ) where
   inv_section n s [] p (passes e) = absurd cc
   inv_section n s (shown r ∷ rest) (inr c) (goes_on {after = after} none holds is t) =
       begins n s r rest after c
-      (sym (ap (λ (b : Bool). option_map (to_line (suc n)) (cond b (begin_settlement (record (in_section name n s) { bounds = (bidder_at (in_section name n s)).bounds }) 0 r) (cond (is_named (in_section name n s) r) (section_taken (in_section name n s) (take_record s r)) None))) (complete_ends s c)) ∙ is) t
+      (sym (ap (λ (b : Bool). option_map (to_line (suc n)) (cond b (begin_settlement (record (in_section name n s) { bounds = (bidder_at (in_section name n s)).bounds }) 0 r) (cond (is_named (in_section name n s) r) (with_section (in_section name n s) (take_record s r)) None))) (complete_ends s c)) ∙ is) t
   inv_section n s (shown r ∷ rest) (inl b) (goes_on {after = after} none holds is t) =
       by (is_named (in_section name n s) r) (take_record s r) refl refl
-      (sym (ap (λ (b : Bool). option_map (to_line (suc n)) (cond b (begin_settlement (record (in_section name n s) { bounds = (bidder_at (in_section name n s)).bounds }) 0 r) (cond (is_named (in_section name n s) r) (section_taken (in_section name n s) (take_record s r)) None))) (before_goes s b)) ∙ is)
+      (sym (ap (λ (b : Bool). option_map (to_line (suc n)) (cond b (begin_settlement (record (in_section name n s) { bounds = (bidder_at (in_section name n s)).bounds }) 0 r) (cond (is_named (in_section name n s) r) (with_section (in_section name n s) (take_record s r)) None))) (before_goes s b)) ∙ is)
       (λ next p d. inv_section (suc n) next rest p d)
     where
-      by : (t : Bool) (o : Result Section SectionFault) → is_named (in_section name n s) r ≡ t → take_record s r ≡ o → option_map (to_line (suc n)) (cond t (section_taken (in_section name n s) o) None) ≡ Some after
+      by : (t : Bool) (o : Result Section SectionFault) → is_named (in_section name n s) r ≡ t → take_record s r ≡ o → option_map (to_line (suc n)) (cond t (with_section (in_section name n s) o) None) ≡ Some after
           → ((next : Section) → IsOwnSection name next → Audited (in_section name (suc n) next) rest None → Sectioned next rest) → Sectioned s (shown r ∷ rest)
       by false o e f g h = absurd (none-some after g)
       by true (Ok next) e f g h =
@@ -208,7 +208,7 @@ module _ (lawful : SectionIsLawful) (described : SectionRecords) (taken_all : De
         let settings = (exchange_in x.end).settings in
         let goods = x.end.goods in
         let bidder = x.whole.bidder in
-        let settled = inv_settled settings goods bidder (length x.rest) 0 (suc x.line_number) bidder.bounds (pos 0) [] [] (record { den = 1; nums = [] }) (whole (pos 0)) x.rest (omega arith)
+        let settled = inv_settled settings goods bidder (length x.rest) 0 (suc x.line_number) bidder.bounds (pos 0) [] [] (record { den = 1; nums = [] }) (whole_number (pos 0)) x.rest (omega arith)
         (subst (λ (m : List ℕ). Audited (behind_section m x.line_number (section_of (record { settings = settings; goods = goods; bidders = bidder ∷ [] }))) x.rest None) (sym x.whole.called)
         (subst (λ (t : Section). Audited (behind_section name x.line_number t) x.rest None) section_is x.later)) in
         let y : OwnSession = record { settings = settings; goods = goods; bidder = bidder; going = settled.going; closed = settled.closed } in (

@@ -22,7 +22,7 @@ use Rattle.ice_section.specs.Described.{node_records, bidder_records, section_re
 use Rattle.ice_section.specs.Taking.{unless_fault, take_records}
 use Rattle.ice_journal_laws.specs.Tests.{is_refusal}
 use Rattle.ice_statement_laws.specs.Statement.{StatementLine, shown}
-use Rattle.ice_statement_laws.specs.Audit.{at_section, AuditState, audit_begun, bidder_at, begin_settlement, is_named, section_taken, to_line, audit_next, Audited, goes_on}
+use Rattle.ice_statement_laws.specs.Audit.{at_section, AuditState, audit_begun, bidder_at, begin_settlement, is_named, with_section, to_line, audit_next, Audited, goes_on}
 use Rattle.ice_statement_laws.proofs.Walking.{quiet}
 
 -- ---- nodes behind a complete bidder are refused
@@ -211,9 +211,9 @@ module _ (name : List ℕ) where
   in_section n s = record audit_begun { line = n; name = name; section = s; spot = at_section }
 
   next_is : (n : ℕ) (s after : Section) (r : Record) → IsBefore s → IsNamed name r → take_record s r ≡ Ok after → audit_next (in_section n s) (shown r) ≡ Some (in_section (suc n) after)
-  next_is n s after r none named is = ap (λ (b : Bool). option_map (to_line (suc n)) (cond b (begin_settlement (record (in_section n s) { bounds = (bidder_at (in_section n s)).bounds }) 0 r) (cond (is_named (in_section n s) r) (section_taken (in_section n s) (take_record s r)) None))) early
-      ∙ ap (λ (b : Bool). option_map (to_line (suc n)) (cond b (section_taken (in_section n s) (take_record s r)) None)) (named_is r named)
-      ∙ ap (λ (o : Result Section SectionFault). option_map (to_line (suc n)) (section_taken (in_section n s) o)) is
+  next_is n s after r none named is = ap (λ (b : Bool). option_map (to_line (suc n)) (cond b (begin_settlement (record (in_section n s) { bounds = (bidder_at (in_section n s)).bounds }) 0 r) (cond (is_named (in_section n s) r) (with_section (in_section n s) (take_record s r)) None))) early
+      ∙ ap (λ (b : Bool). option_map (to_line (suc n)) (cond b (with_section (in_section n s) (take_record s r)) None)) (named_is r named)
+      ∙ ap (λ (o : Result Section SectionFault). option_map (to_line (suc n)) (with_section (in_section n s) o)) is
     where
       early : may_end s ≡ false
       early = ap (λ (bs : List Bidder). nat_lt 0 (length bs) && is_none s.draft) none

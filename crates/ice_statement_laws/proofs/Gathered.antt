@@ -26,11 +26,11 @@ use Rattle.ice_defs.specs.Session.{Proved, Settlement, Going, Payment, Closed, S
 use Rattle.ice_journal.specs.Records.{Record, version_2, closed_end}
 use Rattle.ice_journal.specs.Records as line
 use Rattle.ice_journal.specs.Nodes.{node_record}
-use Rattle.ice_journal.specs.Plain.{changed, all_zero, goods_in, plain_records, plain}
+use Rattle.ice_journal.specs.Plain.{after_changes, all_zero, goods_in, plain_records, plain}
 use Rattle.ice_section.specs.Section.{good_record}
 use Rattle.ice_section.specs.Described.{node_records, bidder_records, section_records}
 use Rattle.ice_journal_laws.specs.Written.{proved_records, regret_records, row_record, judged_records, opening_records, going_records, without_records, payment_record, closed_records, settlement_records, session_records}
-use Rattle.ice_statement_laws.specs.Statement.{published, Own, IsOwn, statement_lines, StatementLine, named, shown, kept, offered, ended}
+use Rattle.ice_statement_laws.specs.Statement.{public_records, Own, IsOwn, statement_lines, StatementLine, named, shown, kept, offered, ended}
 use Rattle.ice_statement_laws.specs.Own.{step_lines, lines_from, own_exchange, own_lines}
 use Rattle.ice_statement_laws.specs.Parts.{step_of, part_of}
 use Rattle.ice_statement_laws.proofs.Parting.{at_map, at_all}
@@ -38,7 +38,7 @@ use Rattle.ice_statement_laws.proofs.Shown.{plain_shown}
 use Rattle.ice_statement_laws.proofs.Stating.{lines_are_own}
 use Rattle.ice_statement_laws.specs.Texts.{bytes_of_lines}
 use Rattle.ice_statement_laws.specs.Laws.{BytesTellJournals, StatementIsOne}
-use Rattle.ice_statement_laws.specs.Gathering.{Slot, to_kept, to_offered, nowhere, Gathering, gathering, with_bidder, gathering_after, shown_if, lines_at, gathered, gathering_after_all, gathered_lines, GatheredIsStatement, LinesAreOne}
+use Rattle.ice_statement_laws.specs.Gathering.{Slot, to_kept, to_offered, nowhere, Gathering, new_gathering, with_bidder, gathering_after, shown_if, lines_at, lines_gathered, gathering_after_all, gathered_lines, GatheredIsStatement, LinesAreOne}
 
 at_map_get : {X Y : Type 0} (f : X → Y) (xs : List X) (i : ℕ) (x : X) → slice_get xs i ≡ Some x → slice_get (map f xs) i ≡ Some (f x)
 at_map_get f [] i x e = absurd (none-some x e)
@@ -47,9 +47,9 @@ at_map_get f (y ∷ xs) (suc i) x e = at_map_get f xs i x e
 
 -- ---- lists of records
 
-gathered_more : (g : Gathering) (xs ys : List Record) → gathered g (xs ++ ys) ≡ gathered g xs ++ gathered (gathering_after_all g xs) ys
+gathered_more : (g : Gathering) (xs ys : List Record) → lines_gathered g (xs ++ ys) ≡ lines_gathered g xs ++ lines_gathered (gathering_after_all g xs) ys
 gathered_more g [] ys = refl
-gathered_more g (r ∷ xs) ys = ap (λ (ls : List StatementLine). lines_at g r ++ ls) (gathered_more (gathering_after g r) xs ys) ∙ sym (append_assoc (lines_at g r) (gathered (gathering_after g r) xs) (gathered (gathering_after_all (gathering_after g r) xs) ys))
+gathered_more g (r ∷ xs) ys = ap (λ (ls : List StatementLine). lines_at g r ++ ls) (gathered_more (gathering_after g r) xs ys) ∙ sym (append_assoc (lines_at g r) (lines_gathered (gathering_after g r) xs) (lines_gathered (gathering_after_all (gathering_after g r) xs) ys))
 
 after_more : (g : Gathering) (xs ys : List Record) → gathering_after_all g (xs ++ ys) ≡ gathering_after_all (gathering_after_all g xs) ys
 after_more g [] ys = refl
@@ -57,12 +57,12 @@ after_more g (r ∷ xs) ys = after_more (gathering_after g r) xs ys
 
 -- these records add these lines, and lead here
 record Adds (g : Gathering) (rs : List Record) (ls : List StatementLine) (h : Gathering) : Type 0 where
-  adds : gathered g rs ≡ ls
+  adds : lines_gathered g rs ≡ ls
   leads : gathering_after_all g rs ≡ h
 
 joined : (g h k : Gathering) (xs ys : List Record) (ls ms : List StatementLine) → Adds g xs ls h → Adds h ys ms k → Adds g (xs ++ ys) (ls ++ ms) k
 joined g h k xs ys ls ms a b = record {
-  adds = gathered_more g xs ys ∙ ap (λ (zs : List StatementLine). zs ++ gathered (gathering_after_all g xs) ys) a.adds ∙ ap (λ (x : Gathering). ls ++ gathered x ys) a.leads ∙ ap (λ (zs : List StatementLine). ls ++ zs) b.adds;
+  adds = gathered_more g xs ys ∙ ap (λ (zs : List StatementLine). zs ++ lines_gathered (gathering_after_all g xs) ys) a.adds ∙ ap (λ (x : Gathering). ls ++ lines_gathered x ys) a.leads ∙ ap (λ (zs : List StatementLine). ls ++ zs) b.adds;
   leads = after_more g xs ys ∙ ap (λ (x : Gathering). gathering_after_all x ys) a.leads ∙ b.leads;
 }
 
@@ -72,7 +72,7 @@ idle g [] all = record { adds = refl; leads = refl }
 idle g (r ∷ rs) all =
     let more = idle g rs all.1 in
     record {
-      adds = ap (λ (ls : List StatementLine). ls ++ gathered (gathering_after g r) rs) all.0.0 ∙ ap (λ (x : Gathering). gathered x rs) all.0.1 ∙ more.adds;
+      adds = ap (λ (ls : List StatementLine). ls ++ lines_gathered (gathering_after g r) rs) all.0.0 ∙ ap (λ (x : Gathering). lines_gathered x rs) all.0.1 ∙ more.adds;
       leads = ap (λ (x : Gathering). gathering_after_all x rs) all.0.1 ∙ more.leads;
     }
 
@@ -97,8 +97,8 @@ module _ (kind : ℕ → NodeKind) (children : ℕ → ℕ) (lo hi : ℕ → ℤ
       let one = node_adds g (kind n) (children n) (lo n) (hi n) in
       let more = nodes_shown g ns own in
       record {
-        adds = ap (λ (ls : List StatementLine). ls ++ gathered (gathering_after g (node n)) (map node ns)) (one.0 ∙ ap (λ (b : Bool). shown_if b (node n)) own)
-            ∙ ap (λ (x : Gathering). shown (node n) ∷ gathered x (map node ns)) one.1 ∙ ap (λ (ls : List StatementLine). shown (node n) ∷ ls) more.adds;
+        adds = ap (λ (ls : List StatementLine). ls ++ lines_gathered (gathering_after g (node n)) (map node ns)) (one.0 ∙ ap (λ (b : Bool). shown_if b (node n)) own)
+            ∙ ap (λ (x : Gathering). shown (node n) ∷ lines_gathered x (map node ns)) one.1 ∙ ap (λ (ls : List StatementLine). shown (node n) ∷ ls) more.adds;
         leads = ap (λ (x : Gathering). gathering_after_all x (map node ns)) one.1 ∙ more.leads;
       }
 
@@ -111,7 +111,7 @@ bidder_shown : (g : Gathering) (b : Bidder) → bytes_eq g.name b.name ≡ true 
 bidder_shown g b own =
     let more = nodes_shown (kind_of b.tree) (λ n. length (children_of b.tree n)) (weight_of b.bounds.lo) (weight_of b.bounds.hi) (with_bidder g b.name) (numbers_below (length b.tree)) own in
     record {
-      adds = ap (λ (t : Bool). shown_if t (line.bidder b.name b.own) ++ gathered (with_bidder g b.name) (node_records b)) own ∙ ap (λ (ls : List StatementLine). shown (line.bidder b.name b.own) ∷ ls) more.adds;
+      adds = ap (λ (t : Bool). shown_if t (line.bidder b.name b.own) ++ lines_gathered (with_bidder g b.name) (node_records b)) own ∙ ap (λ (ls : List StatementLine). shown (line.bidder b.name b.own) ∷ ls) more.adds;
       leads = more.leads;
     }
 
@@ -119,7 +119,7 @@ bidder_hidden : (g : Gathering) (b : Bidder) → bytes_eq g.name b.name ≡ fals
 bidder_hidden g b other =
     let more = nodes_hidden (kind_of b.tree) (λ n. length (children_of b.tree n)) (weight_of b.bounds.lo) (weight_of b.bounds.hi) (with_bidder g b.name) (numbers_below (length b.tree)) other in
     record {
-      adds = ap (λ (t : Bool). shown_if t (line.bidder b.name b.own) ++ gathered (with_bidder g b.name) (node_records b)) other ∙ more.adds;
+      adds = ap (λ (t : Bool). shown_if t (line.bidder b.name b.own) ++ lines_gathered (with_bidder g b.name) (node_records b)) other ∙ more.adds;
       leads = more.leads;
     }
 
@@ -180,8 +180,8 @@ goods_shown g (x ∷ goods) =
     let one = good_adds g x in
     let more = goods_shown g goods in
     record {
-      adds = ap (λ (ls : List StatementLine). ls ++ gathered (gathering_after g (good_record x)) (map good_record goods)) one.0
-          ∙ ap (λ (y : Gathering). shown (good_record x) ∷ gathered y (map good_record goods)) one.1 ∙ ap (λ (ls : List StatementLine). shown (good_record x) ∷ ls) more.adds;
+      adds = ap (λ (ls : List StatementLine). ls ++ lines_gathered (gathering_after g (good_record x)) (map good_record goods)) one.0
+          ∙ ap (λ (y : Gathering). shown (good_record x) ∷ lines_gathered y (map good_record goods)) one.1 ∙ ap (λ (ls : List StatementLine). shown (good_record x) ∷ ls) more.adds;
       leads = ap (λ (y : Gathering). gathering_after_all y (map good_record goods)) one.1 ∙ more.leads;
     }
 
@@ -297,7 +297,7 @@ judged_adds g (j ∷ judged) = by (bytes_eq g.name j.submission.name) refl (judg
       own,
       subst (λ (rs : List Record). Adds g rs (map shown (flat_map judged_records (j ∷ of_name g.name judged))) (record g { is_own = own })) (sym (flat_map-cons judged_records j judged)) (record {
         adds =
-            ap (λ (t : Bool). shown_if t (line.submit j.submission) ++ (shown_if t (line.verdict j.verdict) ++ gathered (record g { is_own = bytes_eq g.name j.submission.name }) (flat_map judged_records judged))) e
+            ap (λ (t : Bool). shown_if t (line.submit j.submission) ++ (shown_if t (line.verdict j.verdict) ++ lines_gathered (record g { is_own = bytes_eq g.name j.submission.name }) (flat_map judged_records judged))) e
             ∙ ap (λ (ls : List StatementLine). shown (line.submit j.submission) ∷ shown (line.verdict j.verdict) ∷ ls) more.adds ∙ ap (map shown) (sym (flat_map-cons judged_records j (of_name g.name judged)));
         leads = more.leads;
       }),
@@ -306,7 +306,7 @@ judged_adds g (j ∷ judged) = by (bytes_eq g.name j.submission.name) refl (judg
       own,
       subst (λ (rs : List Record). Adds g rs (map shown (flat_map judged_records (of_name g.name judged))) (record g { is_own = own })) (sym (flat_map-cons judged_records j judged)) (record {
         adds =
-            ap (λ (t : Bool). shown_if t (line.submit j.submission) ++ (shown_if t (line.verdict j.verdict) ++ gathered (record g { is_own = bytes_eq g.name j.submission.name }) (flat_map judged_records judged))) e ∙ more.adds;
+            ap (λ (t : Bool). shown_if t (line.submit j.submission) ++ (shown_if t (line.verdict j.verdict) ++ lines_gathered (record g { is_own = bytes_eq g.name j.submission.name }) (flat_map judged_records judged))) e ∙ more.adds;
         leads = more.leads;
       }),
     )
@@ -361,7 +361,7 @@ payments_hidden : (g : Gathering) (payments : List Payment) → AllByRecursion (
 payments_hidden g [] all = record { adds = refl; leads = refl }
 payments_hidden g (p ∷ payments) all =
     let more = payments_hidden g payments all.1 in
-    record { adds = ap (λ (t : Bool). shown_if t (payment_record p) ++ gathered g (map payment_record payments)) all.0 ∙ more.adds; leads = more.leads }
+    record { adds = ap (λ (t : Bool). shown_if t (payment_record p) ++ lines_gathered g (map payment_record payments)) all.0 ∙ more.adds; leads = more.leads }
 
 payments_shown : (g : Gathering) (payments : List Payment) (i : ℕ) (p : Payment) → p.name ≡ g.name → slice_get payments i ≡ Some p → IsDistinct bytes_eq (map (λ (q : Payment). q.name) payments)
     → Adds g (map payment_record payments) (shown (payment_record p) ∷ []) g
@@ -372,7 +372,7 @@ payments_shown g (q ∷ payments) zero p e is distinct =
     let name_is : q.name ≡ g.name = ap (λ (x : Payment). x.name) same ∙ e in
     let more = payments_hidden g payments (subst (λ (n : List ℕ). AllByRecursion (λ (other : List ℕ). bytes_eq n other ≡ false) (map (λ (x : Payment). x.name) payments)) name_is distinct.0) in
     record {
-      adds = ap (λ (t : Bool). shown_if t (payment_record q) ++ gathered g (map payment_record payments)) (bytes_eq-same g.name q.name (sym name_is)) ∙ ap (λ (ls : List StatementLine). shown (payment_record q) ∷ ls) more.adds
+      adds = ap (λ (t : Bool). shown_if t (payment_record q) ++ lines_gathered g (map payment_record payments)) (bytes_eq-same g.name q.name (sym name_is)) ∙ ap (λ (ls : List StatementLine). shown (payment_record q) ∷ ls) more.adds
           ∙ ap (λ (x : Payment). shown (payment_record x) ∷ []) same;
       leads = more.leads;
     }
@@ -380,7 +380,7 @@ payments_shown g (q ∷ payments) (suc i) p e is distinct =
     let apart : bytes_eq q.name p.name ≡ false = at_all (λ (other : List ℕ). bytes_eq q.name other ≡ false) (map (λ (x : Payment). x.name) payments) i p.name (at_map_get (λ (x : Payment). x.name) payments i p is) distinct.0 in
     let other : bytes_eq g.name q.name ≡ false = false_at_others g.name q.name (λ h. true≢false (sym (bytes_eq-same q.name p.name (sym h ∙ sym e)) ∙ apart)) in
     let more = payments_shown g payments i p e is distinct.1 in
-    record { adds = ap (λ (t : Bool). shown_if t (payment_record q) ++ gathered g (map payment_record payments)) other ∙ more.adds; leads = more.leads }
+    record { adds = ap (λ (t : Bool). shown_if t (payment_record q) ++ lines_gathered g (map payment_record payments)) other ∙ more.adds; leads = more.leads }
 
 closed_adds : (g : Gathering) (number : ℕ) (c : Closed) (p : Payment) → g.number < length c.settlement.final.sets → p.name ≡ g.name → slice_get c.payments g.number ≡ Some p → IsDistinct bytes_eq (map (λ (q : Payment). q.name) c.payments)
     → (h : Gathering) × Adds g (closed_records number c)
@@ -424,7 +424,7 @@ module _ (ex : Exchange) where
 
   settlements_add : (g : Gathering) (number : ℕ) (bounds : List Bounds) (going : List Going) (c : Closed) (p : Payment) → g.number < length ex.bidders → IsRightFrom ex number bounds going c
       → p.name ≡ g.name → slice_get c.payments g.number ≡ Some p → IsDistinct bytes_eq (names_of ex)
-      → gathered g (settlement_records number going c) ++ ended ∷ []
+      → lines_gathered g (settlement_records number going c) ++ ended ∷ []
       ≡ lines_from number (map (step_of g.number g.name) going) (record { regret = c.settlement.regret; kept = get_or c.settlement.final.sets g.number []; cut = c.cut; surplus = c.surplus; payment = p })
   settlements_add g number bounds [] c p l (ends, closed) e is distinct =
       let (h, adds) = closed_adds g number c p (omega (arith, l, count_sets (exact_of ex) c.settlement.final.sets closed.settled.final.feasible)) e is (subst (λ (names : List (List ℕ)). IsDistinct bytes_eq names) (sym closed.names) distinct) in
@@ -434,22 +434,22 @@ module _ (ex : Exchange) where
       let rest = settlements_add h (suc number) (bounds_after_round ex bounds x) later c p (subst (λ (n : ℕ). n < length ex.bidders) (sym stays.number) l) more (e ∙ sym stays.name) (subst (λ (n : ℕ). slice_get c.payments n ≡ Some p) (sym stays.number) is) distinct in
       ap (λ (ls : List StatementLine). ls ++ ended ∷ [])
       (gathered_more g (going_records number x) (settlement_records (suc number) later c)
-      ∙ ap (λ (ls : List StatementLine). ls ++ gathered (gathering_after_all g (going_records number x)) (settlement_records (suc number) later c)) adds.adds
-      ∙ ap (λ (y : Gathering). (shown (line.settle number) ∷ step_lines (step_of g.number g.name x)) ++ gathered y (settlement_records (suc number) later c)) adds.leads)
-      ∙ append_assoc (shown (line.settle number) ∷ step_lines (step_of g.number g.name x)) (gathered h (settlement_records (suc number) later c)) (ended ∷ [])
+      ∙ ap (λ (ls : List StatementLine). ls ++ lines_gathered (gathering_after_all g (going_records number x)) (settlement_records (suc number) later c)) adds.adds
+      ∙ ap (λ (y : Gathering). (shown (line.settle number) ∷ step_lines (step_of g.number g.name x)) ++ lines_gathered y (settlement_records (suc number) later c)) adds.leads)
+      ∙ append_assoc (shown (line.settle number) ∷ step_lines (step_of g.number g.name x)) (lines_gathered h (settlement_records (suc number) later c)) (ended ∷ [])
       ∙ ap (λ (ls : List StatementLine). (shown (line.settle number) ∷ step_lines (step_of g.number g.name x)) ++ ls) rest
       ∙ ap (λ (n : ℕ). (shown (line.settle number) ∷ step_lines (step_of g.number g.name x)) ++ lines_from (suc number) (map (step_of n h.name) later) (record { regret = c.settlement.regret; kept = get_or c.settlement.final.sets n []; cut = c.cut; surplus = c.surplus; payment = p })) stays.number
       ∙ ap (λ (name : List ℕ). (shown (line.settle number) ∷ step_lines (step_of g.number g.name x)) ++ lines_from (suc number) (map (step_of g.number name) later) (record { regret = c.settlement.regret; kept = get_or c.settlement.final.sets g.number []; cut = c.cut; surplus = c.surplus; payment = p })) stays.name
 
 -- ---- the whole journal
 
-plain_gathered : (goods : ℕ) (m : Multipliers) (g : Gathering) (records : List Record) → gathered g (plain_records goods m records) ≡ gathered g records
+plain_gathered : (goods : ℕ) (m : Multipliers) (g : Gathering) (records : List Record) → lines_gathered g (plain_records goods m records) ≡ lines_gathered g records
 plain_gathered goods m g [] = refl
-plain_gathered goods m g (line.near changes ∷ rest) = plain_gathered goods (changed m changes) g rest
+plain_gathered goods m g (line.near changes ∷ rest) = plain_gathered goods (after_changes m changes) g rest
 plain_gathered goods m g (line.step s ∷ rest) = plain_gathered goods m g rest
 plain_gathered goods m g (r ∷ rest) = ap (λ (ls : List StatementLine). lines_at g r ++ ls) (plain_gathered goods (all_zero goods) (gathering_after g r) rest)
 
-gathered_plain : (g : Gathering) (journal : List Record) → gathered g (plain journal) ≡ gathered g journal
+gathered_plain : (g : Gathering) (journal : List Record) → lines_gathered g (plain journal) ≡ lines_gathered g journal
 gathered_plain g (line.head version_2 kind ∷ rest) = plain_gathered (goods_in rest) (all_zero (goods_in rest)) g rest
 gathered_plain g other = refl
 
@@ -457,9 +457,9 @@ nested : (a : StatementLine) (A B C : List StatementLine) → (a ∷ (A ++ B)) +
 nested a A B C = append_assoc (a ∷ A) B C
 
 module _ (x : Session) (name : List ℕ) (own : Own) (right : IsRight x) (o : IsOwn x name own) where
-  section_adds : (h : Gathering) × Adds (gathering name) (section_records x.exchange) (map shown (section_records (own_exchange (part_of x o.number own)))) h × Counts (gathering name) h (0 + length x.exchange.bidders) (0 + o.number)
+  section_adds : (h : Gathering) × Adds (new_gathering name) (section_records x.exchange) (map shown (section_records (own_exchange (part_of x o.number own)))) h × Counts (new_gathering name) h (0 + length x.exchange.bidders) (0 + o.number)
   section_adds =
-      let g : Gathering = gathering name in
+      let g : Gathering = new_gathering name in
       let (h, bidders, counts) = bidders_shown name g x.exchange.bidders o.number own.bidder refl o.named o.bidder right.exchange.names in
       let goods = goods_shown g x.exchange.goods in (
         h,
@@ -479,17 +479,17 @@ module _ (x : Session) (name : List ℕ) (own : Own) (right : IsRight x) (o : Is
       sym (at_map (λ (q : Payment). q.name) x.closed.payments o.number own.payment [] o.payment) ∙ ap (λ (names : List (List ℕ)). get_or names o.number []) (last_names x.exchange 0 (opening_bounds x.exchange) x.going x.closed right.settlements)
       ∙ at_map (λ (y : Bidder). y.name) x.exchange.bidders o.number own.bidder [] o.bidder ∙ o.named
 
-  session_gathered : (named name ∷ gathered (gathering name) (session_records x)) ++ ended ∷ [] ≡ own_lines (part_of x o.number own)
+  session_gathered : (named name ∷ lines_gathered (new_gathering name) (session_records x)) ++ ended ∷ [] ≡ own_lines (part_of x o.number own)
   session_gathered =
       let (h, adds, counts) = section_adds in
       let number_is : h.number ≡ o.number = counts.number_is ∙ omega arith in
       let rest = settlements_add x.exchange h 0 (opening_bounds x.exchange) x.going x.closed own.payment (omega (arith, number_is, slice_get_within x.exchange.bidders o.number own.bidder o.bidder)) right.settlements
       (payment_name ∙ sym counts.name) (subst (λ (n : ℕ). slice_get x.closed.payments n ≡ Some own.payment) (sym number_is) o.payment) right.exchange.names in
       ap (λ (ls : List StatementLine). (named name ∷ ls) ++ ended ∷ [])
-      (gathered_more (gathering name) (section_records x.exchange) (settlement_records 0 x.going x.closed)
-      ∙ ap (λ (ls : List StatementLine). ls ++ gathered (gathering_after_all (gathering name) (section_records x.exchange)) (settlement_records 0 x.going x.closed)) adds.adds
-      ∙ ap (λ (y : Gathering). map shown (section_records (own_exchange (part_of x o.number own))) ++ gathered y (settlement_records 0 x.going x.closed)) adds.leads)
-      ∙ nested (named name) (map shown (section_records (own_exchange (part_of x o.number own)))) (gathered h (settlement_records 0 x.going x.closed)) (ended ∷ [])
+      (gathered_more (new_gathering name) (section_records x.exchange) (settlement_records 0 x.going x.closed)
+      ∙ ap (λ (ls : List StatementLine). ls ++ lines_gathered (gathering_after_all (new_gathering name) (section_records x.exchange)) (settlement_records 0 x.going x.closed)) adds.adds
+      ∙ ap (λ (y : Gathering). map shown (section_records (own_exchange (part_of x o.number own))) ++ lines_gathered y (settlement_records 0 x.going x.closed)) adds.leads)
+      ∙ nested (named name) (map shown (section_records (own_exchange (part_of x o.number own)))) (lines_gathered h (settlement_records 0 x.going x.closed)) (ended ∷ [])
       ∙ ap (λ (ls : List StatementLine). (named name ∷ map shown (section_records (own_exchange (part_of x o.number own)))) ++ ls)
       (rest
       ∙ ap (λ (n : ℕ). lines_from 0 (map (step_of n h.name) x.going) (record { regret = x.closed.settlement.regret; kept = get_or x.closed.settlement.final.sets n []; cut = x.closed.cut; surplus = x.closed.surplus; payment = own.payment })) number_is
@@ -499,9 +499,9 @@ module _ (x : Session) (name : List ℕ) (own : Own) (right : IsRight x) (o : Is
 
 pub gathered_is_statement : GatheredIsStatement
 gathered_is_statement journal name own of =
-    ap (λ (ls : List StatementLine). (named name ∷ ls) ++ ended ∷ []) (sym (gathered_plain (gathering name) journal) ∙ ap (gathered (gathering name)) of.says)
+    ap (λ (ls : List StatementLine). (named name ∷ ls) ++ ended ∷ []) (sym (gathered_plain (new_gathering name) journal) ∙ ap (lines_gathered (new_gathering name)) of.says)
     ∙ session_gathered of.session name own of.right of.is_own
-    ∙ sym (ap (λ (rs : List Record). statement_lines rs own) (sym (plain_shown journal) ∙ ap published of.says) ∙ lines_are_own of.session name own of.is_own)
+    ∙ sym (ap (λ (rs : List Record). statement_lines rs own) (sym (plain_shown journal) ∙ ap public_records of.says) ∙ lines_are_own of.session name own of.is_own)
 
 pub lines_are_one : LinesAreOne
 lines_are_one journal name a b one other = sym (gathered_is_statement journal name a one) ∙ gathered_is_statement journal name b other

@@ -20,8 +20,8 @@ use Rattle.ice_defs.specs.Bounds.{Bounds}
 use Rattle.ice_defs.specs.Prices.{Prices, price_of}
 use Rattle.ice_defs.specs.Rows.{HasCommonDivisor}
 use Rattle.ice_defs.specs.Round.{Submission, Judged, Standing, JudgesInOrder, IsVerdict, is_accepted, bounds_after}
-use Rattle.ice_defs.specs.Fraction.{Fraction, whole, AtMost, Equals, less}
-use Rattle.ice_defs.specs.Cut.{cut_down}
+use Rattle.ice_defs.specs.Fraction.{Fraction, whole_number, AtMost, Equals, minus}
+use Rattle.ice_defs.specs.Cut.{discount_at_cut}
 use Rattle.ice_defs.specs.Exchange.{Settings, Good, Bidder}
 use Rattle.ice_defs.specs.Session.{Payment, closes}
 use Rattle.ice_journal.specs.Records.{Record}
@@ -67,8 +67,8 @@ module _ (settings : Settings) (goods : List Good) (bidder : Bidder) where
     payment : Payment
     lines_is : lines ≡ shown (payment_record payment) ∷ ended ∷ []
     name : payment.name ≡ bidder.name
-    discount : Equals payment.discount (cut_down cut payment.vickrey)
-    equal : Equals payment.payment (less (whole (value x bounds.lo)) payment.discount)
+    discount : Equals payment.discount (discount_at_cut cut payment.vickrey)
+    equal : Equals payment.payment (minus (whole_number (value x bounds.lo)) payment.discount)
 
   inv_payment : (n number : ℕ) (bounds : Bounds) (a : ℤ) (x y : NodeSet) (p : Prices) (js : List Judged) (cut : Fraction) (lines : List StatementLine) → Audited (here n number at_payment bounds a x y p js cut) lines None → Paid bounds x cut lines
   inv_payment n number bounds a x y p js cut [] (passes e) = absurd cc
@@ -98,16 +98,16 @@ module _ (settings : Settings) (goods : List Good) (bidder : Bidder) where
     surplus : Fraction
     payment : Payment
     lines_is : lines ≡ shown (line.threshold cut surplus) ∷ shown (payment_record payment) ∷ ended ∷ []
-    low : AtMost (whole (pos 0)) cut
+    low : AtMost (whole_number (pos 0)) cut
     name : payment.name ≡ bidder.name
-    discount : Equals payment.discount (cut_down cut payment.vickrey)
-    equal : Equals payment.payment (less (whole (value x bounds.lo)) payment.discount)
+    discount : Equals payment.discount (discount_at_cut cut payment.vickrey)
+    equal : Equals payment.payment (minus (whole_number (value x bounds.lo)) payment.discount)
 
   inv_threshold : (n number : ℕ) (bounds : Bounds) (a : ℤ) (x y : NodeSet) (p : Prices) (js : List Judged) (cut : Fraction) (lines : List StatementLine) → Audited (here n number at_threshold bounds a x y p js cut) lines None → Charged bounds x lines
   inv_threshold n number bounds a x y p js cut [] (passes e) = absurd cc
   inv_threshold n number bounds a x y p js cut (shown (line.threshold c s) ∷ rest) (goes_on {after = after} none holds is later) = by (int_le (pos 0) c.num) refl is
     where
-      low_of : int_le (pos 0) c.num ≡ true → AtMost (whole (pos 0)) c
+      low_of : int_le (pos 0) c.num ≡ true → AtMost (whole_number (pos 0)) c
       low_of e = let h : pos 0 ≤ℤ c.num = grind (arith, ints) in omega (arith, ints, h, times_one c.num, zero-*ℤ (pos c.den))
 
       by : (t : Bool) → int_le (pos 0) c.num ≡ t → option_map (λ (st : AuditState). record st { line = suc n }) (cond t (Some (here n number at_payment bounds a x y p js c)) None) ≡ Some after

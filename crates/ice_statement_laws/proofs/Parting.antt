@@ -18,8 +18,8 @@ use Rattle.ice_defs.specs.Weighing.{lower_weights}
 use Rattle.ice_defs.specs.Prices.{ArePrices}
 use Rattle.ice_defs.specs.Rows.{HasCommonDivisor}
 use Rattle.ice_defs.specs.Round.{Judged, Standing, JudgesInOrder, of_name, bounds_after}
-use Rattle.ice_defs.specs.Fraction.{Fraction, whole, Equals, less, fraction_at}
-use Rattle.ice_defs.specs.Cut.{cut_down}
+use Rattle.ice_defs.specs.Fraction.{Fraction, whole_number, Equals, minus, fraction_at}
+use Rattle.ice_defs.specs.Cut.{discount_at_cut}
 use Rattle.ice_defs.specs.Market.{SellsOnlyOwned}
 use Rattle.ice_defs.specs.Exchange.{Good, Bidder, Exchange, trees_of, exact_of, opening_bounds, market_of}
 use Rattle.ice_defs.specs.Lawful.{IsBidder, IsExchange}
@@ -158,18 +158,18 @@ module _ (ex : Exchange) (lawful : IsExchange ex) (b : ℕ) (bidder : Bidder) (i
       ∙ standings_count ex.bidders bounds g.provisional.sets same (count_sets (exact_of ex) g.provisional.sets going.provisional.feasible)
 
   -- the last one
-  own_closed : (bounds : List Bounds) (c : Closed) (p : Payment) → length bounds ≡ length ex.bidders → IsClosed ex bounds c → AllByRecursion (λ (q : Payment). Equals q.discount (cut_down c.cut q.vickrey)) c.payments
+  own_closed : (bounds : List Bounds) (c : Closed) (p : Payment) → length bounds ≡ length ex.bidders → IsClosed ex bounds c → AllByRecursion (λ (q : Payment). Equals q.discount (discount_at_cut c.cut q.vickrey)) c.payments
       → slice_get c.payments b ≡ Some p
       → IsOwnClosed ex.settings (length ex.goods) bidder (bounds_of bounds b) (record { regret = c.settlement.regret; kept = set_of c.settlement.final.sets b; cut = c.cut; surplus = c.surplus; payment = p })
   own_closed bounds c p same closed discounts paid = record {
     kept = sat_of (exact_of ex) c.settlement.final.sets closed.settled.final.feasible;
     cut = closed.cut.payable.low;
     name = sym (at_map (λ (q : Payment). q.name) c.payments b p [] paid) ∙ ap (λ (names : List (List ℕ)). get_or names b []) closed.names ∙ at_map (λ (x : Bidder). x.name) ex.bidders b bidder [] is;
-    discount = at_all (λ (q : Payment). Equals q.discount (cut_down c.cut q.vickrey)) c.payments b p paid discounts;
+    discount = at_all (λ (q : Payment). Equals q.discount (discount_at_cut c.cut q.vickrey)) c.payments b p paid discounts;
     payment =
-        subst (λ (f : Fraction). Equals f (less (whole (value (set_of c.settlement.final.sets b) (bounds_of bounds b).lo)) p.discount)) payment_is
-        (subst (λ (f : Fraction). Equals (fraction_at (map (λ (q : Payment). q.payment) c.payments) b) (less (whole (value (set_of c.settlement.final.sets b) (bounds_of bounds b).lo)) f)) discount_is
-        (subst (λ (z : ℤ). Equals (fraction_at (map (λ (q : Payment). q.payment) c.payments) b) (less (whole z) (fraction_at (map (λ (q : Payment). q.discount) c.payments) b))) value_is (closed.payments.each b within)));
+        subst (λ (f : Fraction). Equals f (minus (whole_number (value (set_of c.settlement.final.sets b) (bounds_of bounds b).lo)) p.discount)) payment_is
+        (subst (λ (f : Fraction). Equals (fraction_at (map (λ (q : Payment). q.payment) c.payments) b) (minus (whole_number (value (set_of c.settlement.final.sets b) (bounds_of bounds b).lo)) f)) discount_is
+        (subst (λ (z : ℤ). Equals (fraction_at (map (λ (q : Payment). q.payment) c.payments) b) (minus (whole_number z) (fraction_at (map (λ (q : Payment). q.discount) c.payments) b))) value_is (closed.payments.each b within)));
   }
     where
       worth : ℕ → ℤ
@@ -193,14 +193,14 @@ module _ (ex : Exchange) (lawful : IsExchange ex) (b : ℕ) (bidder : Bidder) (i
       value_is = at_map worth (numbers_below (length bounds)) b b (pos 0) number_there ∙ ap (value (set_of c.settlement.final.sets b)) lower_is
 
       payment_is : fraction_at (map (λ (q : Payment). q.payment) c.payments) b ≡ p.payment
-      payment_is = at_map (λ (q : Payment). q.payment) c.payments b p (whole (pos 0)) paid
+      payment_is = at_map (λ (q : Payment). q.payment) c.payments b p (whole_number (pos 0)) paid
 
       discount_is : fraction_at (map (λ (q : Payment). q.discount) c.payments) b ≡ p.discount
-      discount_is = at_map (λ (q : Payment). q.discount) c.payments b p (whole (pos 0)) paid
+      discount_is = at_map (λ (q : Payment). q.discount) c.payments b p (whole_number (pos 0)) paid
 
   -- all of them
   own_from : (number : ℕ) (bounds : List Bounds) (going : List Going) (c : Closed) (p : Payment) → length bounds ≡ length ex.bidders → IsRightFrom ex number bounds going c
-      → AllByRecursion (λ (g : Going). ¬ HasCommonDivisor g.prices) going → AllByRecursion (λ (q : Payment). Equals q.discount (cut_down c.cut q.vickrey)) c.payments → slice_get c.payments b ≡ Some p
+      → AllByRecursion (λ (g : Going). ¬ HasCommonDivisor g.prices) going → AllByRecursion (λ (q : Payment). Equals q.discount (discount_at_cut c.cut q.vickrey)) c.payments → slice_get c.payments b ≡ Some p
       → IsOwnFrom ex.settings (length ex.goods) bidder number (bounds_of bounds b) (map (step_of b bidder.name) going)
       (record { regret = c.settlement.regret; kept = set_of c.settlement.final.sets b; cut = c.cut; surplus = c.surplus; payment = p })
   own_from number bounds [] c p same (ends, closed) lowest discounts paid = (ends, own_closed bounds c p same closed discounts paid)

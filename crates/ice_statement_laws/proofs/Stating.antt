@@ -11,7 +11,7 @@ use Rattle.ice_journal.specs.Records as line
 use Rattle.ice_section.specs.Section.{good_record}
 use Rattle.ice_section.specs.Described.{bidder_records, section_records}
 use Rattle.ice_journal_laws.specs.Written.{session_records}
-use Rattle.ice_statement_laws.specs.Statement.{published, Own, OwnGoing, own_going, IsOwn, StatementLine, named, shown, ended, settlement_lines, later_records, statement_lines}
+use Rattle.ice_statement_laws.specs.Statement.{public_records, Own, OwnGoing, own_going, IsOwn, StatementLine, named, shown, ended, settlement_lines, later_records, statement_lines}
 use Rattle.ice_statement_laws.specs.Own.{step_lines, lines_from, own_exchange, own_lines}
 use Rattle.ice_statement_laws.specs.Parts.{step_of, part_of}
 use Rattle.ice_statement_laws.proofs.Shown.{shown_from, shown_of, session_shown, header_of, later_of}
@@ -32,7 +32,7 @@ described goods b =
     sym (map-append shown goods (bidder_records b))
     ∙ ap (λ (rs : List Record). map shown (goods ++ rs)) (sym (flat_map-cons bidder_records b [] ∙ append-nil (bidder_records b)))
 
-pub lines_are_own : (x : Session) (name : List ℕ) (own : Own) → (o : IsOwn x name own) → statement_lines (published (session_records x)) own ≡ own_lines (part_of x o.number own)
+pub lines_are_own : (x : Session) (name : List ℕ) (own : Own) → (o : IsOwn x name own) → statement_lines (public_records (session_records x)) own ≡ own_lines (part_of x o.number own)
 lines_are_own x name own o =
     ap (λ (rs : List Record). statement_lines rs own) (session_shown x)
     ∙ ap (λ (rs : List Record). (((named own.bidder.name ∷ map shown rs) ++ map shown (bidder_records own.bidder)) ++ settlement_lines (later_records (shown_of x)) own.going own.kept own.payment) ++ ended ∷ []) (header_of x)

@@ -10,7 +10,7 @@ use Rattle.ice_defs.specs.Steps.{Step, sides_after}
 use Rattle.ice_defs.specs.Prices.{Prices}
 use Rattle.ice_defs.specs.Rows.{HasCommonDivisor}
 use Rattle.ice_defs.specs.Fraction.{Fraction, Equals}
-use Rattle.ice_defs.specs.Cut.{cut_down}
+use Rattle.ice_defs.specs.Cut.{discount_at_cut}
 use Rattle.ice_defs.specs.Exchange.{names_of}
 use Rattle.ice_defs.specs.Session.{Going, Payment, Closed, Session}
 use Rattle.ice_defs.specs.declared.Group.TheVariants.{Assign, Final, Rival, Provisional, Without}
@@ -18,14 +18,14 @@ use Rattle.ice_defs.proofs.Lists.{all-first, all-last}
 use Rattle.ice_journal.specs.Records.{Record, Version, version_1, version_2, Kind, assign_kind, regret_kind, session_kind, exchange_kind, prices_kind, Change, closed_end, spent_end}
 use Rattle.ice_journal.specs.Records as line
 use Rattle.ice_journal.specs.Ranges.{IsRecord}
-use Rattle.ice_journal.specs.Plain.{changed, all_zero, goods_in, plain_records, plain}
+use Rattle.ice_journal.specs.Plain.{after_changes, all_zero, goods_in, plain_records, plain}
 use Rattle.ice_section.specs.Section.{may_end}
 use Rattle.ice_section.specs.Described.{section_records}
 use Rattle.ice_journal_laws.specs.declared.rule.Rule.{Rule}
 use Rattle.ice_journal_laws.specs.declared.rule.Rule.TheVariants as rule
 use Rattle.ice_journal_laws.specs.Fields.{step_in, multipliers_after}
 use Rattle.ice_journal_laws.specs.State.{Place, at_section, at_group, at_log, at_prices, at_accuracy, at_threshold, at_payment, at_spent_log, at_pool, at_end, State, begun, exchange_at, goods_at}
-use Rattle.ice_journal_laws.specs.Next.{next, next_at, go_to, to_line, if_true, or_stop, open_after, after_step, bidder_count, after_section, section_ended}
+use Rattle.ice_journal_laws.specs.Next.{next, next_at, go_to, to_line, if_true, or_stop, open_after, after_step, bidder_count, after_section, past_section}
 use Rattle.ice_journal_laws.specs.Tests.{Fails, HasUnlawfulPrices, IsOtherPayment, AreUnlawful, vickreys}
 use Rattle.ice_journal_laws.specs.Checks.{Checks}
 use Rattle.ice_journal_laws.specs.Theorems.{Says}
@@ -69,7 +69,7 @@ late_step version_2 goods m r of_payment = refl
 -- prices that may stand somewhere, and pass their test, are in lowest terms
 prices_next : (s : State) (place : Place) (p : Prices) (after : State) → option_map (to_line (suc s.line)) (next_at s place (line.prices p)) ≡ Some after → ¬ HasUnlawfulPrices place s (line.prices p) → ¬ HasCommonDivisor p
 prices_next s at_section p after e fine =
-    absurd (none-some after (sym (ap (option_map (to_line (suc s.line))) (late_after (may_end s.section) (section_ended s) s.kind (line.prices p) of_prices)) ∙ e))
+    absurd (none-some after (sym (ap (option_map (to_line (suc s.line))) (late_after (may_end s.section) (past_section s) s.kind (line.prices p) of_prices)) ∙ e))
 prices_next s (at_group Assign) p after e fine = absurd (none-some after e)
 prices_next s (at_group Final) p after e fine = absurd (none-some after e)
 prices_next s (at_group Rival) p after e fine = absurd (none-some after e)
@@ -90,7 +90,7 @@ prices_next s other p after e fine = absurd (none-some after e)
 -- behind the cut it is the state's
 threshold_next : (s : State) (place : Place) (cut surplus : Fraction) (after : State) → option_map (to_line (suc s.line)) (next_at s place (line.threshold cut surplus)) ≡ Some after → after.cut ≡ cut
 threshold_next s at_section cut surplus after e =
-    absurd (none-some after (sym (ap (option_map (to_line (suc s.line))) (late_after (may_end s.section) (section_ended s) s.kind (line.threshold cut surplus) of_threshold)) ∙ e))
+    absurd (none-some after (sym (ap (option_map (to_line (suc s.line))) (late_after (may_end s.section) (past_section s) s.kind (line.threshold cut surplus) of_threshold)) ∙ e))
 threshold_next s (at_group Assign) cut surplus after e = absurd (none-some after e)
 threshold_next s (at_group Final) cut surplus after e = absurd (none-some after e)
 threshold_next s (at_group Rival) cut surplus after e = absurd (none-some after e)
@@ -105,12 +105,12 @@ threshold_next s other cut surplus after e = absurd (none-some after e)
 
 -- a payment that passes its test states the discount that the cut leaves, and the cut stays
 record IsDiscounted (cut : Fraction) (p : Payment) (after : State) : Type 0 where
-  discount : Equals p.discount (cut_down cut p.vickrey)
+  discount : Equals p.discount (discount_at_cut cut p.vickrey)
   same : after.cut ≡ cut
 
 payment_next : (s : State) (place : Place) (p : Payment) (after : State) → option_map (to_line (suc s.line)) (next_at s place (payment_record p)) ≡ Some after → ¬ IsOtherPayment place s (payment_record p) → IsDiscounted s.cut p after
 payment_next s at_section p after e fine =
-    absurd (none-some after (sym (ap (option_map (to_line (suc s.line))) (late_after (may_end s.section) (section_ended s) s.kind (payment_record p) of_payment)) ∙ e))
+    absurd (none-some after (sym (ap (option_map (to_line (suc s.line))) (late_after (may_end s.section) (past_section s) s.kind (payment_record p) of_payment)) ∙ e))
 payment_next s (at_group Assign) p after e fine = absurd (none-some after e)
 payment_next s (at_group Final) p after e fine = absurd (none-some after e)
 payment_next s (at_group Rival) p after e fine = absurd (none-some after e)
@@ -121,7 +121,7 @@ payment_next s (at_log g found sides m) p after e fine =
 payment_next s (at_spent_log open_sides) p after e fine =
     absurd (none-some after (sym (ap (λ (o : Option Step). option_map (to_line (suc s.line)) (option_map (λ x. go_to (if open_after x open_sides == 0 then at_end spent_end else at_spent_log (open_after x open_sides)) s) o)) (late_step s.version (goods_at s) (all_zero (goods_at s)) (payment_record p) of_payment)) ∙ e))
 payment_next s (at_payment b) p after e fine = record {
-  discount = subst (λ (v : ℤ). Equals p.discount (cut_down s.cut v)) (sym vickrey_is) (covered true _ _ (λ no. fine (λ line. no line.discount)));
+  discount = subst (λ (v : ℤ). Equals p.discount (discount_at_cut s.cut v)) (sym vickrey_is) (covered true _ _ (λ no. fine (λ line. no line.discount)));
   same = by (bytes_eq p.name (slice_index_or (names_of (exchange_at s)) b [])) e;
 }
   where
@@ -147,7 +147,7 @@ itself (r ∷ rs) = same (itself rs)
 
 plainly : (goods : ℕ) (m : Multipliers) (rs : List Record) → Said rs (plain_records goods m rs)
 plainly goods m [] = nothing
-plainly goods m (line.near changes ∷ rs) = leafed (plainly goods (changed m changes) rs)
+plainly goods m (line.near changes ∷ rs) = leafed (plainly goods (after_changes m changes) rs)
 plainly goods m (line.step s ∷ rs) = same (plainly goods m rs)
 plainly goods m (r ∷ rs) = same (plainly goods (all_zero goods) rs)
 
@@ -198,26 +198,26 @@ module _ (t : State) where
   discounted_one s after r p is none (same nothing) = payment_next s s.place p after is (none rule.Payment)
 
   discounted : (s : State) (rs : List Record) (payments : List Payment) (ws : List Record) → Leads (passing s) rs (passing t) → Said rs (map payment_record payments ++ ws)
-      → AllByRecursion (λ (q : Payment). Equals q.discount (cut_down s.cut q.vickrey)) payments
+      → AllByRecursion (λ (q : Payment). Equals q.discount (discount_at_cut s.cut q.vickrey)) payments
   discounted s rs [] ws l said = tt
   discounted s rs (p ∷ payments) ws l said =
       let (r, after, rest, is, none, l', more, one) = first_on s rs (payment_record p) (map payment_record payments ++ ws) l said in
       let h = discounted_one s after r p is none one in
-      (h.discount, subst (λ (c : Fraction). AllByRecursion (λ (q : Payment). Equals q.discount (cut_down c q.vickrey)) payments) h.same (discounted after rest payments ws l' more))
+      (h.discount, subst (λ (c : Fraction). AllByRecursion (λ (q : Payment). Equals q.discount (discount_at_cut c q.vickrey)) payments) h.same (discounted after rest payments ws l' more))
 
   cut_one : (s after : State) (r : Record) (cut surplus : Fraction) → next s r ≡ Some after → Said (r ∷ []) (line.threshold cut surplus ∷ []) → after.cut ≡ cut
   cut_one s after r cut surplus is (same nothing) = threshold_next s s.place cut surplus after is
 
   charged : (s : State) (rs : List Record) (cut surplus : Fraction) (payments : List Payment) (ws : List Record) → Leads (passing s) rs (passing t)
-      → Said rs (line.threshold cut surplus ∷ (map payment_record payments ++ ws)) → AllByRecursion (λ (q : Payment). Equals q.discount (cut_down cut q.vickrey)) payments
+      → Said rs (line.threshold cut surplus ∷ (map payment_record payments ++ ws)) → AllByRecursion (λ (q : Payment). Equals q.discount (discount_at_cut cut q.vickrey)) payments
   charged s rs cut surplus payments ws l said =
       let (r, after, rest, is, none, l', more, one) = first_on s rs (line.threshold cut surplus) (map payment_record payments ++ ws) l said in
-      subst (λ (c : Fraction). AllByRecursion (λ (q : Payment). Equals q.discount (cut_down c q.vickrey)) payments) (cut_one s after r cut surplus is one) (discounted after rest payments ws l' more)
+      subst (λ (c : Fraction). AllByRecursion (λ (q : Payment). Equals q.discount (discount_at_cut c q.vickrey)) payments) (cut_one s after r cut surplus is one) (discounted after rest payments ws l' more)
 
   -- ---- settlements
 
   closed_charged : (s : State) (rs : List Record) (number : ℕ) (c : Closed) → Leads (passing s) rs (passing t) → Said rs (closed_records number c)
-      → AllByRecursion (λ (q : Payment). Equals q.discount (cut_down c.cut q.vickrey)) c.payments
+      → AllByRecursion (λ (q : Payment). Equals q.discount (discount_at_cut c.cut q.vickrey)) c.payments
   closed_charged s rs number c l said =
       let before : List Record = (line.settle number ∷ regret_records c.settlement) ++ without_records 0 c.withouts in
       let on = lead_past s rs before (line.threshold c.cut c.surplus ∷ (map payment_record c.payments ++ line.end closed_end ∷ [])) l
@@ -225,7 +225,7 @@ module _ (t : State) where
       charged on.state on.records c.cut c.surplus c.payments (line.end closed_end ∷ []) on.leads on.said
 
   all_charged : (s : State) (rs : List Record) (number : ℕ) (going : List Going) (c : Closed) → Leads (passing s) rs (passing t) → Said rs (settlement_records number going c)
-      → AllByRecursion (λ (q : Payment). Equals q.discount (cut_down c.cut q.vickrey)) c.payments
+      → AllByRecursion (λ (q : Payment). Equals q.discount (discount_at_cut c.cut q.vickrey)) c.payments
   all_charged s rs number [] c l said = closed_charged s rs number c l said
   all_charged s rs number (g ∷ later) c l said =
       let on = lead_past s rs (going_records number g) (settlement_records (suc number) later c) l said in

@@ -6,7 +6,7 @@ use Rattle.ice_journal.specs.Records.{Record}
 use Rattle.ice_journal.specs.Ranges.{IsRecord}
 use Rattle.ice_journal.specs.Spelling.{text_of}
 use Rattle.ice_section.specs.Laws.{DescribedAreRecords, DescribedAreTaken}
-use Rattle.ice_statement_laws.specs.Statement.{published, Own, StatementLine, statement_lines}
+use Rattle.ice_statement_laws.specs.Statement.{public_records, Own, StatementLine, statement_lines}
 use Rattle.ice_statement_laws.specs.Audit.{IsAudit}
 use Rattle.ice_statement_laws.specs.Own.{own_lines, IsRightOwn}
 use Rattle.ice_statement_laws.specs.Parts.{part_of}
@@ -27,10 +27,10 @@ module _ (taken : DescribedAreTaken) (records_of : DescribedAreRecords)
     part_is_right : IsRightOwn (part_of is.own_is.session is.own_is.is_own.number own)
     part_is_right = part_right is.own_is.session name own is.own_is.right (checked_is_stated is.journal is.own_is.session is.checks is.own_is.says) is.own_is.is_own
 
-    lines_same : statement_lines (published is.journal) own ≡ own_lines (part_of is.own_is.session is.own_is.is_own.number own)
-    lines_same = ap (λ (rs : List Record). statement_lines rs own) (sym (plain_shown is.journal) ∙ ap published is.own_is.says) ∙ lines_are_own is.own_is.session name own is.own_is.is_own
+    lines_same : statement_lines (public_records is.journal) own ≡ own_lines (part_of is.own_is.session is.own_is.is_own.number own)
+    lines_same = ap (λ (rs : List Record). statement_lines rs own) (sym (plain_shown is.journal) ∙ ap public_records is.own_is.says) ∙ lines_are_own is.own_is.session name own is.own_is.is_own
 
-    lines_are : AreLines text (statement_lines (published is.journal) own)
+    lines_are : AreLines text (statement_lines (public_records is.journal) own)
     lines_are = record {
       lawful = subst (AllByRecursion IsLine) (sym lines_same)
           (own_lawful records_of is.own_is.session own is.own_is.is_own.number (settlements_lawful is.journal is.own_is.session is.spelled.lawful is.checks is.own_is.says) is.own_is.is_own.payment part_is_right);
@@ -39,7 +39,7 @@ module _ (taken : DescribedAreTaken) (records_of : DescribedAreRecords)
 
     accepted : AuditsBytes text (yes own.payment.payment)
     accepted = (
-      statement_lines (published is.journal) own,
+      statement_lines (public_records is.journal) own,
       lines_are,
       subst (λ (ls : List StatementLine). IsAudit ls None) (sym lines_same) (right_parts_pass taken (part_of is.own_is.session is.own_is.is_own.number own) part_is_right),
       ap paid_in lines_same ∙ own_pays (part_of is.own_is.session is.own_is.is_own.number own),

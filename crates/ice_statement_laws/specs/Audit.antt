@@ -12,8 +12,8 @@ use Rattle.ice_defs.specs.Bounds.{Bounds, no_bounds}
 use Rattle.ice_defs.specs.Prices.{Prices, price_of}
 use Rattle.ice_defs.specs.Rows.{HasCommonDivisor}
 use Rattle.ice_defs.specs.Round.{Submission, Judged, Standing, is_accepted, IsVerdict, bounds_after}
-use Rattle.ice_defs.specs.Fraction.{Fraction, whole, Equals, less}
-use Rattle.ice_defs.specs.Cut.{cut_down}
+use Rattle.ice_defs.specs.Fraction.{Fraction, whole_number, Equals, minus}
+use Rattle.ice_defs.specs.Cut.{discount_at_cut}
 use Rattle.ice_defs.specs.Exchange.{Settings, Bidder}
 use Rattle.ice_journal.specs.Records.{Record}
 use Rattle.ice_journal.specs.Records as line
@@ -58,7 +58,7 @@ audit_begun = record {
   offered = [];
   prices = record { den = 1; nums = [] };
   judged = [];
-  cut = whole (pos 0);
+  cut = whole_number (pos 0);
 }
 
 abbrev pub no_bidder : Bidder
@@ -115,17 +115,17 @@ is_named s (line.bidder name own) = has_name s name
 is_named s other = true
 
 -- where a maker refuses, the order is not at fault
-abbrev pub section_taken : AuditState → Result Section SectionFault → Option AuditState
-section_taken s (Ok section) = Some (record s { section = section })
-section_taken s (Err order) = None
-section_taken s (Err count) = Some s
-section_taken s (Err no_good) = Some s
-section_taken s (Err (maker number)) = Some s
+abbrev pub with_section : AuditState → Result Section SectionFault → Option AuditState
+with_section s (Ok section) = Some (record s { section = section })
+with_section s (Err order) = None
+with_section s (Err count) = Some s
+with_section s (Err no_good) = Some s
+with_section s (Err (maker number)) = Some s
 
 abbrev pub section_next : AuditState → Record → Option AuditState
 section_next s r =
     if may_end s.section then begin_settlement (record s { bounds = (bidder_at s).bounds }) 0 r
-    else if is_named s r then section_taken s (take_record s.section r)
+    else if is_named s r then with_section s (take_record s.section r)
     else None
 
 -- the standing of the bidder in the round
@@ -191,8 +191,8 @@ IsOtherVerdict other s l = ⊥
 
 -- the discount by the cut, and the lower value of the kept set less that discount
 pub record IsOwnPayment (s : AuditState) (p : Payment) : Type 0 where
-  pub discount : Equals p.discount (cut_down s.cut p.vickrey)
-  pub payment : Equals p.payment (less (whole (value s.kept s.bounds.lo)) p.discount)
+  pub discount : Equals p.discount (discount_at_cut s.cut p.vickrey)
+  pub payment : Equals p.payment (minus (whole_number (value s.kept s.bounds.lo)) p.discount)
 
 abbrev pub IsOtherPayment : Spot → AuditState → StatementLine → Type 0
 IsOtherPayment at_payment s l = IsSomeAnd (option_and_then payment_in (record_in l)) (λ p. ¬ IsOwnPayment s p)

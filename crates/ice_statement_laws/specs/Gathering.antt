@@ -4,7 +4,7 @@ use Rattle.std.specs.Str.{bytes_eq}
 use Rattle.ice_defs.specs.Set.{NodeSet}
 use Rattle.ice_journal.specs.Records.{Record}
 use Rattle.ice_journal.specs.Records as line
-use Rattle.ice_statement_laws.specs.Statement.{published, Own, StatementLine, named, shown, kept, offered, ended, statement_lines}
+use Rattle.ice_statement_laws.specs.Statement.{public_records, Own, StatementLine, named, shown, kept, offered, ended, statement_lines}
 use Rattle.ice_statement_laws.specs.Texts.{IsOwnOf}
 
 -- where the sets of a group go
@@ -25,8 +25,8 @@ pub record Gathering : Type 0 where
   pub kept : NodeSet
   pub offered : NodeSet
 
-abbrev pub gathering : List ℕ → Gathering
-gathering name =
+abbrev pub new_gathering : List ℕ → Gathering
+new_gathering name =
     record { name = name; bidders = 0; number = 0; found = false; is_own = false; slot = nowhere; sets = 0; kept = []; offered = [] }
 
 abbrev pub is_to_kept : Slot → Bool
@@ -85,9 +85,9 @@ lines_at g (line.threshold cut surplus) = shown (line.threshold cut surplus) ∷
 lines_at g (line.payment name vickrey discount payment) = shown_if (bytes_eq g.name name) (line.payment name vickrey discount payment)
 lines_at g other = []
 
-abbrev pub gathered : Gathering → List Record → List StatementLine
-gathered g [] = []
-gathered g (r ∷ rest) = lines_at g r ++ gathered (gathering_after g r) rest
+abbrev pub lines_gathered : Gathering → List Record → List StatementLine
+lines_gathered g [] = []
+lines_gathered g (r ∷ rest) = lines_at g r ++ lines_gathered (gathering_after g r) rest
 
 abbrev pub gathering_after_all : Gathering → List Record → Gathering
 gathering_after_all g [] = g
@@ -95,14 +95,14 @@ gathering_after_all g (r ∷ rest) = gathering_after_all (gathering_after g r) r
 
 -- all lines, where the records are the whole journal
 abbrev pub gathered_lines : List ℕ → List Record → List StatementLine
-gathered_lines name journal = (named name ∷ gathered (gathering name) journal) ++ ended ∷ []
+gathered_lines name journal = (named name ∷ lines_gathered (new_gathering name) journal) ++ ended ∷ []
 
 -- what is gathered of a journal that says a right session is the statement of its named bidder
 abbrev pub GatheredIsStatement : Type 0
 GatheredIsStatement = (journal : List Record) (name : List ℕ) (own : Own) → IsOwnOf journal name own
-    → gathered_lines name journal ≡ statement_lines (published journal) own
+    → gathered_lines name journal ≡ statement_lines (public_records journal) own
 
 -- so a bidder's own is told by the journal: two of them make the same lines
 abbrev pub LinesAreOne : Type 0
 LinesAreOne = (journal : List Record) (name : List ℕ) (a b : Own) → IsOwnOf journal name a → IsOwnOf journal name b
-    → statement_lines (published journal) a ≡ statement_lines (published journal) b
+    → statement_lines (public_records journal) a ≡ statement_lines (public_records journal) b

@@ -7,7 +7,7 @@ use Rattle.ice_journal.specs.Ranges.{IsRecord}
 use Rattle.ice_journal.specs.Spelling.{text_of}
 use Rattle.ice_journal.specs.Journal.{IsJournal}
 use Rattle.ice_journal_laws.specs.Checks.{Failure, Checks}
-use Rattle.ice_statement_laws.specs.Statement.{published, Own, StatementLine, statement_lines}
+use Rattle.ice_statement_laws.specs.Statement.{public_records, Own, StatementLine, statement_lines}
 use Rattle.ice_statement_laws.specs.Audit.{IsAudit}
 use Rattle.ice_statement_laws.specs.Own.{OwnSession, own_lines, IsRightOwn}
 use Rattle.ice_statement_laws.specs.Texts.{IsOwnOf, States, AreLines, AuditAnswer, yes, out_of_memory, AuditsBytes}
@@ -19,7 +19,7 @@ RightPartsPass = (x : OwnSession) → IsRightOwn x → IsAudit (own_lines x) Non
 -- every statement of a closed journal that passes every test passes the audit
 abbrev pub StatementsPass : Type 0
 StatementsPass = (journal : List Record) (name : List ℕ) (own : Own) → Checks journal → IsOwnOf journal name own
-    → IsAudit (statement_lines (published journal) own) None
+    → IsAudit (statement_lines (public_records journal) own) None
 
 -- the audit has one outcome
 abbrev pub AuditIsOne : Type 0
@@ -40,7 +40,7 @@ AuditSaysYes = (bytes name text : List ℕ) (own : Own) (answer : AuditAnswer) �
 -- what is the bidder's own give it the same bytes
 abbrev pub StatementHidesOthers : Type 0
 StatementHidesOthers = (one other name s t : List ℕ) (a b : Own) (here : States one name a s) (there : States other name b t)
-    → published here.journal ≡ published there.journal → a ≡ b → s ≡ t
+    → public_records here.journal ≡ public_records there.journal → a ≡ b → s ≡ t
 
 -- what the audit says yes to is the lines of a right part: so its verdicts are those of the
 -- rules, and the payment is at most what the kept set is worth at the last lower values

@@ -7,8 +7,8 @@ use Rattle.ice_defs.specs.Bounds.{Bounds}
 use Rattle.ice_defs.specs.Prices.{Prices, price_of}
 use Rattle.ice_defs.specs.Rows.{HasCommonDivisor}
 use Rattle.ice_defs.specs.Round.{Judged, JudgesInOrder, bounds_after}
-use Rattle.ice_defs.specs.Fraction.{Fraction, whole, AtMost, Equals, less}
-use Rattle.ice_defs.specs.Cut.{cut_down}
+use Rattle.ice_defs.specs.Fraction.{Fraction, whole_number, AtMost, Equals, minus}
+use Rattle.ice_defs.specs.Cut.{discount_at_cut}
 use Rattle.ice_defs.specs.Exchange.{Settings, Good, Bidder, Exchange}
 use Rattle.ice_defs.specs.Lawful.{IsExchange}
 use Rattle.ice_defs.specs.Session.{Payment, closes}
@@ -85,10 +85,10 @@ module _ (settings : Settings) (goods : ℕ) (bidder : Bidder) where
   -- discount that the cut leaves of its Vickrey discount
   pub record IsOwnClosed (bounds : Bounds) (c : OwnClosed) : Type 0 where
     pub kept : IsSatisfied bidder.tree c.kept
-    pub cut : AtMost (whole (pos 0)) c.cut
+    pub cut : AtMost (whole_number (pos 0)) c.cut
     pub name : c.payment.name ≡ bidder.name
-    pub discount : Equals c.payment.discount (cut_down c.cut c.payment.vickrey)
-    pub payment : Equals c.payment.payment (less (whole (value c.kept bounds.lo)) c.payment.discount)
+    pub discount : Equals c.payment.discount (discount_at_cut c.cut c.payment.vickrey)
+    pub payment : Equals c.payment.payment (minus (whole_number (value c.kept bounds.lo)) c.payment.discount)
 
   -- from the settlement with this number and these bounds
   -- on: the close test fails but at the last one

@@ -4,7 +4,7 @@ use Rattle.std.specs.Prelude.{ℕ, List, map}
 use Rattle.std.specs.List.{AllByRecursion}
 use Rattle.ice_defs.specs.Rows.{HasCommonDivisor}
 use Rattle.ice_defs.specs.Fraction.{Equals}
-use Rattle.ice_defs.specs.Cut.{cut_down}
+use Rattle.ice_defs.specs.Cut.{discount_at_cut}
 use Rattle.ice_defs.specs.Session.{Going, Session}
 use Rattle.ice_statement_laws.specs.Statement.{Own, own_going}
 use Rattle.ice_statement_laws.specs.Own.{OwnStep, OwnSession}
@@ -38,4 +38,4 @@ part_of x b own = record {
 -- all prices are in lowest terms, and each discount is what the cut leaves
 pub record IsStated (x : Session) : Type 0 where
   pub prices : AllByRecursion (λ g. ¬ HasCommonDivisor g.prices) x.going
-  pub discounts : AllByRecursion (λ p. Equals p.discount (cut_down x.closed.cut p.vickrey)) x.closed.payments
+  pub discounts : AllByRecursion (λ p. Equals p.discount (discount_at_cut x.closed.cut p.vickrey)) x.closed.payments

@@ -23,8 +23,8 @@ is_published (line.prices p) = true
 is_published (line.threshold cut surplus) = true
 is_published other = false
 
-abbrev pub published : List Record → List Record
-published journal = filter is_published journal
+abbrev pub public_records : List Record → List Record
+public_records journal = filter is_published journal
 
 -- a bidder's part of a settlement that goes on: its final set, its
 -- provisional set, its submissions with their verdicts

@@ -11,7 +11,7 @@ use Rattle.ice_journal_laws.specs.Fields.{payment_in}
 use Rattle.ice_journal_laws.specs.Checks.{Failure, Checks}
 use Rattle.ice_journal_laws.specs.Theorems.{Says}
 use Rattle.ice_journal_laws.specs.Written.{session_records}
-use Rattle.ice_statement_laws.specs.Statement.{published, Own, IsOwn, StatementLine, named, shown, kept, offered, ended, statement_text}
+use Rattle.ice_statement_laws.specs.Statement.{public_records, Own, IsOwn, StatementLine, named, shown, kept, offered, ended, statement_text}
 use Rattle.ice_statement_laws.specs.Statement.{statement_of}
 use Rattle.ice_statement_laws.specs.Audit.{IsAudit}
 
@@ -31,7 +31,7 @@ pub record States (bytes : List ℕ) (name : List ℕ) (own : Own) (text : List 
   pub spelled : IsJournal bytes journal
   pub checks : Checks journal
   pub own_is : IsOwnOf journal name own
-  pub text_is : text ≡ statement_of (published journal) own
+  pub text_is : text ≡ statement_of (public_records journal) own
 
 -- ---- the lines of a statement
 

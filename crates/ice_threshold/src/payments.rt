@@ -1,7 +1,7 @@
 //! The payments of a settlement that closes.
 ghost use Rattle.std.specs.Prelude.{◌≡◌, ◌<◌, ◌≤◌, ◌*◌, ◌^◌, pos, ◌≤ℤ◌, length, All, IfOk, unsigned_abs};
 ghost use Rattle.ice_defs.specs.Sum.{sum_over};
-ghost use Rattle.ice_defs.specs.Fraction.{IsFraction, Equals, whole, less, sum_of};
+ghost use Rattle.ice_defs.specs.Fraction.{IsFraction, Equals, whole_number, minus, sum_of};
 ghost use Rattle.ice_defs.specs.Threshold.{IsThreshold, ArePayments, IsSurplus};
 ghost use Rattle.ice_defs.specs.Cut.{IsCut, cut_sum};
 ghost use Rattle.ice_threshold.specs.CutOff.{cut_num, IsCutDown, AreCutDown, IsPaid, ArePaid};
@@ -94,7 +94,7 @@ fn surplus_at(vickrey: &[i128], total: i128, cut: Ratio) -> Frac
     requires low { pos 0 ≤ℤ total }
     requires high { total ≤ℤ pos (10 ^ 15 * 40) }
     ensures proper { IsFraction result }
-    ensures equal { Equals result (less (whole total) (cut_sum cut vickrey.now)) }
+    ensures equal { Equals result (minus (whole_number total) (cut_sum cut vickrey.now)) }
     ensures lowest { IsLowest result }
 {
     let left = scaled(total, cut.den) - sum_cut_off(vickrey, cut.num, cut.den);

@@ -7,7 +7,7 @@ use Rattle.std.proofs.lemmas.List.{ext_get_or, get_or-map, length-map}
 use Rattle.ice_defs.specs.Set.{NodeSet, Weights, has, weight_of}
 use Rattle.ice_defs.specs.Trade.{Assignment, weights_of, set_of}
 use Rattle.ice_defs.specs.Bounds.{Bounds, bounds_of, no_bounds}
-use Rattle.ice_defs.specs.Weighing.{weighted, weighted_list, perturbed_list, lower_weights, weighted_weights, perturbed_weights}
+use Rattle.ice_defs.specs.Weighing.{weighted_value, weighted_list, perturbed_list, lower_weights, weighted_weights, perturbed_weights}
 use Rattle.ice_tree.specs.Alike.{AreAlike}
 pub use Rattle.ice_defs.proofs.Weights.{length-perturbed_list, weights_of-lower, length-perturbed, weights_of-perturbed}
 pub use Rattle.ice_defs.proofs.Weights.{weight_of-perturbed_list as get_or-perturbed_list}
@@ -39,7 +39,7 @@ length-weighted_list w (lo ∷ los) [] e = absurd (omega arith)
 length-weighted_list w (lo ∷ los) (hi ∷ his) e = omega (arith, length-weighted_list w los his (omega arith))
 
 pub get_or-weighted_list : (w : ℕ) (los his : List ℤ) (n : ℕ) → length his ≡ length los → n < length los
-    → weight_of (weighted_list w los his) n ≡ weighted w (weight_of los n) (weight_of his n)
+    → weight_of (weighted_list w los his) n ≡ weighted_value w (weight_of los n) (weight_of his n)
 get_or-weighted_list w [] his n e h = absurd (omega arith)
 get_or-weighted_list w (lo ∷ los) [] n e h = absurd (omega arith)
 get_or-weighted_list w (lo ∷ los) (hi ∷ his) zero e h = refl
@@ -49,7 +49,7 @@ pub lower_filled : (ws los : List ℤ) → length ws ≡ length los → ((k : �
 lower_filled ws los e each = ext_get_or (pos 0) ws los e (λ k h. each k (omega (arith, e)))
 
 pub weighted_filled : (w : ℕ) (ws los his : List ℤ) → length ws ≡ length los → length his ≡ length los
-    → ((k : ℕ) → k < length los → weight_of ws k ≡ weighted w (weight_of los k) (weight_of his k)) → ws ≡ weighted_list w los his
+    → ((k : ℕ) → k < length los → weight_of ws k ≡ weighted_value w (weight_of los k) (weight_of his k)) → ws ≡ weighted_list w los his
 weighted_filled w ws los his e f each =
     ext_get_or (pos 0) ws (weighted_list w los his) (e ∙ sym (length-weighted_list w los his f))
     (λ k h. each k (omega (arith, e)) ∙ sym (get_or-weighted_list w los his k f (omega (arith, e))))

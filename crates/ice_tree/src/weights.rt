@@ -2,7 +2,7 @@
 ghost use Rattle.std.specs.Prelude.{◌≡◌, ◌<◌, ◌≤◌, ◌≤ℤ◌, ◌*ℤ◌, length, map, replicate, slice_set, pos, neg_ℤ, IfOk};
 ghost use Rattle.ice_defs.specs.Set.{weight_of, IsSmall};
 ghost use Rattle.ice_defs.specs.Trade.{weights_of};
-ghost use Rattle.ice_defs.specs.Weighing.{weighted, weighted_list, perturbed_list, lower_weights, weighted_weights, perturbed_weights};
+ghost use Rattle.ice_defs.specs.Weighing.{weighted_value, weighted_list, perturbed_list, lower_weights, weighted_weights, perturbed_weights};
 ghost use Rattle.ice_tree.specs.Alike.{AreAlike, AreChosen};
 
 use crate::assignment::Assignment;
@@ -48,7 +48,7 @@ fn weighted(weight: u8, lo: i64, hi: i64) -> i128
     requires low { neg_ℤ (pos 1000000000) ≤ℤ lo }
     requires ordered { lo ≤ℤ hi }
     requires high { hi ≤ℤ pos 1000000000 }
-    ensures value { result ≡ weighted weight lo hi }
+    ensures value { result ≡ weighted_value weight lo hi }
     ensures small { IsSmall result }
 {
     times(weight, lo) + times(100 - weight, hi)

@@ -5,7 +5,7 @@ use Rattle.ice_defs.specs.Set.{weight_of}
 use Rattle.ice_defs.specs.Bounds.{Bounds}
 use Rattle.ice_defs.specs.Exchange.{Bidder, opening_bounds}
 use Rattle.ice_defs.proofs.Multiples.{one_time}
-use Rattle.ice_gen.specs.Generated.{Made, bounds_of_values, truth_of_values, made, generated, truths}
+use Rattle.ice_gen.specs.Generated.{Made, bounds_of_values, truth_of_values, made, generated_exchange, truths}
 use Rattle.ice_trial.specs.Truths.{IsTruth, AreTruths}
 
 -- values with how far below and above each the bounds are
@@ -42,5 +42,5 @@ bounds_are : (ms : List Made) → map (λ (b : Bidder). b.bounds) (map (λ (m : 
 bounds_are [] = refl
 bounds_are (m ∷ ms) = ap (λ (bs : List Bounds). bounds_of_values m.values ∷ bs) (bounds_are ms)
 
-pub generated_truths : (number : ℕ) → AreTruths (opening_bounds (generated number)) (truths number)
+pub generated_truths : (number : ℕ) → AreTruths (opening_bounds (generated_exchange number)) (truths number)
 generated_truths number = subst (λ (bs : List Bounds). AreTruths bs (truths number)) (sym (bounds_are (made number))) (truths_of (made number))

@@ -24,7 +24,7 @@ use Rattle.ice_session_laws.proofs.Ends.{opening_may_be_written}
 use Rattle.ice_trial.specs.Truths.{AreTruths, AreExact, truth_bids}
 use Rattle.ice_trial.proofs.Accepted.{truths_are_accepted}
 use Rattle.ice_trial.specs.declared.trial.TruthRound.{TruthRound}
-use Rattle.ice_trial.specs.Rounds.{submissions_in, accepted, Submits, IsTold}
+use Rattle.ice_trial.specs.Rounds.{submissions_in, acceptances, Submits, IsTold}
 
 -- nothing is said of what an error gives
 pub none_given : {T E : Type 0} (P : T → Type 0) (r : Result T E) (e : E) → r ≡ Err e → IfOk r P
@@ -52,7 +52,7 @@ truths_count s r o truths run is are =
     count_truths s.bounds truths are ∙ run.lawful.same_length ∙ length-map s.exchange.bidders (λ (b : Bidder). b.tree) ∙ ap (λ (x : Exchange). length x.bidders) (sym is.exchange)
 
 -- bids that are all accepted
-accepted_are : (judged : List Judged) → AllByRecursion (λ j. j.verdict ≡ Accepted) judged → judged ≡ accepted (submissions_in judged)
+accepted_are : (judged : List Judged) → AllByRecursion (λ j. j.verdict ≡ Accepted) judged → judged ≡ acceptances (submissions_in judged)
 accepted_are [] all = refl
 accepted_are (j ∷ judged) all =
     ap (λ (v : Verdict). record { submission = j.submission; verdict = v } ∷ judged) all.0 ∙ ap (λ (js : List Judged). record { submission = j.submission; verdict = Accepted } ∷ js) (accepted_are judged all.1)
@@ -90,14 +90,14 @@ module _ (s : SessionAt) (r after : RoundAt) (o : Opening) (truths : List Bounds
   pub same_exchange : after.exchange ≡ r.exchange
   same_exchange = here.exchange ∙ sym is.exchange
 
-  running : IsRunning (going_of o (accepted bids) ∷ []) (session_after after)
+  running : IsRunning (going_of o (acceptances bids) ∷ []) (session_after after)
   running =
-      subst (λ (js : List Judged). IsRunning (going_of o js ∷ []) (session_after after)) (accepted_are submits.0 told.0 ∙ ap accepted submits.1) (round_ends [] s (going_of o submits.0) after here)
+      subst (λ (js : List Judged). IsRunning (going_of o js ∷ []) (session_after after)) (accepted_are submits.0 told.0 ∙ ap acceptances submits.1) (round_ends [] s (going_of o submits.0) after here)
 
   pub truths_told : (first : TruthRound) → first.opening ≡ o → first.bids.items ≡ bids → IsTold (session_after after) first
   truths_told first opened said = record {
-    running = subst (λ (x : Opening). IsRunning (going_of x (accepted first.bids.items) ∷ []) (session_after after)) (sym opened)
-        (subst (λ (bs : List Submission). IsRunning (going_of o (accepted bs) ∷ []) (session_after after)) (sym said) running);
+    running = subst (λ (x : Opening). IsRunning (going_of x (acceptances first.bids.items) ∷ []) (session_after after)) (sym opened)
+        (subst (λ (bs : List Submission). IsRunning (going_of o (acceptances bs) ∷ []) (session_after after)) (sym said) running);
     round = record {
       number = ap (λ (x : Opening). x.number) opened ∙ is.number ∙ sym run.number;
       bids = said ∙ bids_are ∙ ap (λ (x : Exchange). truth_bids (names_of x) truths) (sym here.exchange) ∙ ap (truth_bids (names_of after.exchange)) (sym next_are);

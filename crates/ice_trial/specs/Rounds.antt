@@ -35,13 +35,13 @@ pub record HaveSubmitted (before after : RoundAt) (bids : List Submission) (coun
 
 -- ---- a round of true values
 
-abbrev pub accepted : List Submission → List Judged
-accepted bids = map (λ bid. record { submission = bid; verdict = Accepted }) bids
+abbrev pub acceptances : List Submission → List Judged
+acceptances bids = map (λ bid. record { submission = bid; verdict = Accepted }) bids
 
 -- the settlement that opened it, with all its bids accepted
 abbrev pub goings_of : Option TruthRound → List Going
 goings_of None = []
-goings_of (Some r) = going_of r.opening (accepted r.bids.items) ∷ []
+goings_of (Some r) = going_of r.opening (acceptances r.bids.items) ∷ []
 
 -- settlement 0 opened it, its bids are those of the true values, and its opening may be written
 pub record IsTruthRound (ex : Exchange) (truths : List Bounds) (r : TruthRound) : Type 0 where

@@ -1,6 +1,6 @@
 //! Trials of generated exchanges.
 ghost use Rattle.std.specs.Prelude.{◌≡◌, IfOk};
-ghost use Rattle.ice_gen.specs.Generated.{generated, truths};
+ghost use Rattle.ice_gen.specs.Generated.{generated_exchange, truths};
 ghost use Rattle.ice_trial.specs.Ends.{IsTrialEnd};
 
 use crate::trial::{TrialEnd, try_truths};
@@ -22,7 +22,7 @@ fn read_again(alloc: Global, exchange: &Exchange) -> Result<Exchange, AllocError
 
 /// The generated exchange of a number, as it is read again, and the true values of its bidders.
 fn made_again(alloc: Global, number: u32) -> Result<Generated, AllocError>
-    ensures exchange { IfOk result (λ made. made.exchange ≡ generated number) }
+    ensures exchange { IfOk result (λ made. made.exchange ≡ generated_exchange number) }
     ensures truth { IfOk result (λ made. made.truth.items ≡ truths number) }
 {
     let Generated { exchange, truth } = generate(alloc, number)?;
@@ -34,7 +34,7 @@ fn made_again(alloc: Global, number: u32) -> Result<Generated, AllocError>
 /// with the generated true values.
 #[tactic(none)]
 pub fn try_generated(alloc: Global, number: u32) -> TrialEnd
-    ensures { IsTrialEnd (generated number) (truths number) result }
+    ensures { IsTrialEnd (generated_exchange number) (truths number) result }
 {
     match made_again(alloc, number) {
         Ok(made) => try_truths(alloc, made.exchange, &made.truth),

@@ -8,7 +8,7 @@ use Rattle.std.proofs.lemmas.List.{append-nil, drop_all, drop_more, length-map, 
 use Rattle.std.proofs.Math.Nat.{mul-le-mul_left, div-le_self}
 use Rattle.std.proofs.lemmas.Nat.{le-div}
 use Rattle.ice_defs.specs.Frac.{if_fits, num_fits, den_fits}
-use Rattle.ice_defs.specs.Fraction.{Fraction, whole, IsFraction, times, fraction_at}
+use Rattle.ice_defs.specs.Fraction.{Fraction, whole_number, IsFraction, times, fraction_at}
 use Rattle.ice_defs.specs.Program.{AreNonNegative}
 use Rattle.ice_defs.specs.PricingRun.{Member, common_den, num_over}
 use Rattle.ice_defs.specs.Rows.{Row}
@@ -46,7 +46,7 @@ large-in : (most : ℕ) (ws : List Fraction) (i : ℕ) → AllByRecursion IsFrac
 large-in most ws i are h (inl big) = inl (omega (arith, big, den-most ws i are h))
 large-in most ws i are h (inr big) =
     let w : Fraction = fraction_at ws i in
-    inr (i, w, h, get_or_default ws i w (whole (pos 0)) h, (let more = num-most (common_den ws) w (proper-at ws i are h) (common_den-pos ws are) (den-most ws i are h) (omega (arith, ints, big)) in omega (arith, ints, big, more)))
+    inr (i, w, h, get_or_default ws i w (whole_number (pos 0)) h, (let more = num-most (common_den ws) w (proper-at ws i are h) (common_den-pos ws are) (den-most ws i are h) (omega (arith, ints, big)) in omega (arith, ints, big, more)))
   where
     proper-at : (xs : List Fraction) (k : ℕ) → AllByRecursion IsFraction xs → k < length xs → IsFraction (fraction_at xs k)
     proper-at [] k ps l = absurd (omega arith)
@@ -54,7 +54,7 @@ large-in most ws i are h (inr big) =
     proper-at (x ∷ xs) (suc k) (p, ps) l = proper-at xs k ps (omega arith)
 
 pub any-large : (most : ℕ) (ws : List Fraction) → AllByRecursion IsFraction ws → Any (IsLarge most) ws → AreLarge most ws
-any-large most ws are (i, w, h, e, large) = large-in most ws i are h (subst (IsLarge most) (sym e ∙ get_or_default ws i w (whole (pos 0)) h) large)
+any-large most ws are (i, w, h, e, large) = large-in most ws i are h (subst (IsLarge most) (sym e ∙ get_or_default ws i w (whole_number (pos 0)) h) large)
 
 -- ---- what is outside 128 bits
 
@@ -81,13 +81,13 @@ none-large most f few is low e = by (not-both (num_fits f.num) (den_fits f.den) 
 
 pub weighed-proper : (factor : ℕ) (fs : List Fraction) → AreNonNegative fs → AllByRecursion IsFraction (weights_of_duals factor fs)
 weighed-proper factor [] h = tt
-weighed-proper factor (f ∷ fs) (h, hs) = (positive-lowest (times (whole (pos factor)) f).num (times (whole (pos factor)) f).den (omega (arith, h.0)), weighed-proper factor fs hs)
+weighed-proper factor (f ∷ fs) (h, hs) = (positive-lowest (times (whole_number (pos factor)) f).num (times (whole_number (pos factor)) f).den (omega (arith, h.0)), weighed-proper factor fs hs)
 
 -- one that is too large by itself
 pub stop-large : (most factor : ℕ) (fs : List Fraction) (i : ℕ) (f : Fraction) → i < length fs → f ≡ get_or fs i f
-    → IsLarge most (lowest_of (times (whole (pos factor)) f)) → Any (IsLarge most) (weights_of_duals factor fs)
+    → IsLarge most (lowest_of (times (whole_number (pos factor)) f)) → Any (IsLarge most) (weights_of_duals factor fs)
 stop-large most factor fs i f h is large =
-    let made : Fraction → Fraction = λ y. lowest_of (times (whole (pos factor)) y) in
+    let made : Fraction → Fraction = λ y. lowest_of (times (whole_number (pos factor)) y) in
     (i, made f, omega (arith, length-map fs made, h), get_or-map made fs i f (made f) h ∙ ap made (sym is), large)
 
 -- ---- numerators

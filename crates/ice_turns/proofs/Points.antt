@@ -7,7 +7,7 @@ use Rattle.std.proofs.lemmas.List.{length-map}
 use Rattle.std.proofs.lemmas.Int.{ints}
 use Rattle.std.proofs.Math.IntN.{*ℤ_comm}
 use Rattle.std.proofs.lemmas.List.Elements.{All-from_recursion, recursion_from_All, All-take, All-drop, All-weaker}
-use Rattle.ice_defs.specs.Fraction.{Fraction, whole, IsFraction, AtMost}
+use Rattle.ice_defs.specs.Fraction.{Fraction, whole_number, IsFraction, AtMost}
 use Rattle.ice_defs.specs.Prices.{price_of, ArePrices}
 use Rattle.ice_defs.specs.Program.{AreNonNegative}
 use Rattle.ice_defs.specs.PricingRun.{common_den, num_over}
@@ -21,12 +21,12 @@ use Rattle.ice_terms.specs.Terms.{ArePriceTerms, is_numerator}
 
 pub low-take : (n : ℕ) (fs : List Fraction) → AreNonNegative fs → AllByRecursion IsFraction (take n fs)
 low-take n fs h =
-    let P : Fraction → Type 0 = λ f. IsFraction f × AtMost (whole (pos 0)) f in
+    let P : Fraction → Type 0 = λ f. IsFraction f × AtMost (whole_number (pos 0)) f in
     recursion_from_All IsFraction (take n fs) (All-take IsFraction n fs (All-weaker P IsFraction (λ f is. is.0) fs (All-from_recursion P fs h)))
 
 pub low-drop : (n : ℕ) (fs : List Fraction) → AreNonNegative fs → AreNonNegative (drop n fs)
 low-drop n fs h =
-    let P : Fraction → Type 0 = λ f. IsFraction f × AtMost (whole (pos 0)) f in
+    let P : Fraction → Type 0 = λ f. IsFraction f × AtMost (whole_number (pos 0)) f in
     recursion_from_All P (drop n fs) (All-drop P n fs (All-from_recursion P fs h))
 
 pub lowest-reduced : (fs : List Fraction) → AllByRecursion IsLowest fs → ¬ HasCommonDivisor (record { den = common_den fs; nums = map (num_over (common_den fs)) fs })
@@ -64,5 +64,5 @@ terms-of fs den positive fits some few low high = record {
 
 pub low-front : (n : ℕ) (fs : List Fraction) → AreNonNegative fs → AreNonNegative (take n fs)
 low-front n fs h =
-    let P : Fraction → Type 0 = λ f. IsFraction f × AtMost (whole (pos 0)) f in
+    let P : Fraction → Type 0 = λ f. IsFraction f × AtMost (whole_number (pos 0)) f in
     recursion_from_All P (take n fs) (All-take P n fs (All-from_recursion P fs h))

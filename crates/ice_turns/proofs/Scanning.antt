@@ -7,7 +7,7 @@ use Rattle.ice_defs.specs.Set.{NodeSet, IsSatisfied}
 use Rattle.ice_defs.specs.Trade.{tree_of, set_of, weights_of}
 use Rattle.ice_defs.specs.Prices.{Prices}
 use Rattle.ice_defs.specs.Pricing.{excess_net}
-use Rattle.ice_defs.specs.PricingRun.{Member, StageAt, solution_prices, allowed, Violates, IsBestSet, HasNoneToAdd}
+use Rattle.ice_defs.specs.PricingRun.{Member, StageAt, solution_prices, allowance, Violates, IsBestSet, HasNoneToAdd}
 use Rattle.ice_frac.proofs.Fractions.{AtMost-left, AtMost-right}
 use Rattle.ice_frac.proofs.Ring.{scale_le}
 use Rattle.ice_certificate.specs.Excess.{IsGreatestExcess}
@@ -60,12 +60,12 @@ module _ (t : ProvisionalTrade) (p : Prices) (most : Fraction) where
 
 -- with the excess that a stage allows
 module _ (t : ProvisionalTrade) (at : StageAt) (x : List Fraction) (most : Fraction) (proper : IsFraction most)
-    (own : IsFraction (allowed t.trees t.weights t.sets t.goods t.cap at x)) (equal : Equals most (allowed t.trees t.weights t.sets t.goods t.cap at x)) where
+    (own : IsFraction (allowance t.trees t.weights t.sets t.goods t.cap at x)) (equal : Equals most (allowance t.trees t.weights t.sets t.goods t.cap at x)) where
   abbrev prices : Prices
   prices = solution_prices t.trees t.weights t.sets t.goods t.cap x
 
   pub none-to-add : AreAllowed t prices most (length t.trees) → HasNoneToAdd t.trees t.weights t.sets t.goods t.cap at x
-  none-to-add are m violates = are m.bidder m.set violates.0.0 violates.0 (Below-left (allowed t.trees t.weights t.sets t.goods t.cap at x) most _ proper (sym equal) violates.1)
+  none-to-add are m violates = are m.bidder m.set violates.0.0 violates.0 (Below-left (allowance t.trees t.weights t.sets t.goods t.cap at x) most _ proper (sym equal) violates.1)
 
   pub first-violates : (m : Member) → IsFirstAbove t prices most m → Violates t.trees t.weights t.sets t.goods t.cap at x m
   first-violates m is = (is.offer, Below-left most _ _ own equal is.above)
@@ -74,4 +74,4 @@ module _ (t : ProvisionalTrade) (at : StageAt) (x : List Fraction) (most : Fract
   first-best m is = (is.offer, is.best)
 
   pub none-before : (m : Member) → IsFirstAbove t prices most m → (other : Member) → other.bidder < m.bidder → ¬ Violates t.trees t.weights t.sets t.goods t.cap at x other
-  none-before m is other h violates = is.before other.bidder other.set h violates.0 (Below-left (allowed t.trees t.weights t.sets t.goods t.cap at x) most _ proper (sym equal) violates.1)
+  none-before m is other h violates = is.before other.bidder other.set h violates.0 (Below-left (allowance t.trees t.weights t.sets t.goods t.cap at x) most _ proper (sym equal) violates.1)

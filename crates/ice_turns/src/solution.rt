@@ -2,7 +2,7 @@
 ghost use Rattle.std.specs.Prelude.{◌≡◌, IfOk, IfErr};
 ghost use Rattle.ice_defs.specs.Program.{IsInfeasible};
 ghost use Rattle.ice_turns.specs.Solutions.{IsAtEnd, IsStopOf};
-ghost use Rattle.ice_turns.specs.Works.{counted, IsMoreWork};
+ghost use Rattle.ice_turns.specs.Works.{saturating_sum, IsMoreWork};
 
 use crate::ends::Stop;
 use crate::work::RunWork;
@@ -39,7 +39,7 @@ pub fn solve_turn(alloc: Global, program: &Program, work: &mut RunWork) -> Resul
     requires { ¬ IsInfeasible program.now }
     ensures solved { IfOk result (λ s. IsAtEnd program.now s.point.items s.duals.items) }
     ensures stopped { IfErr result (IsStopOf program.now) }
-    ensures turn { work.new.turns ≡ counted work.old.turns 1 }
+    ensures turn { work.new.turns ≡ saturating_sum work.old.turns 1 }
     ensures work { IsMoreWork work.old work.new }
 {
     let mut pivots = 0;

@@ -1,7 +1,7 @@
 //! Weights of a certificate: duals times a factor, over one denominator.
 ghost use Rattle.std.specs.Prelude.{◌≡◌, ◌≤◌, ◌*◌, ◌^◌, length, unsigned_abs, Any, IfOk, IfErr, IfSome, IfNone, pos, ◌≤ℤ◌, ◌<ℤ◌};
 ghost use Rattle.std.specs.List.{AllByRecursion};
-ghost use Rattle.ice_defs.specs.Fraction.{IsFraction, AtMost, whole, times};
+ghost use Rattle.ice_defs.specs.Fraction.{IsFraction, AtMost, whole_number, times};
 ghost use Rattle.ice_defs.specs.Program.{AreNonNegative};
 ghost use Rattle.ice_defs.specs.PricingRun.{num_over};
 ghost use Rattle.ice_pricing_laws.specs.Weights.{lowest_of, weights_of_duals, nums_over, rows_with};
@@ -18,7 +18,7 @@ use std::alloc::{AllocError, Global};
 /// A number of at most 100 * 2^32 as a fraction.
 fn factor_of(factor: u64) -> Frac
     requires { factor ≤ 100 * 2 ^ 32 }
-    ensures { result ≡ whole (pos factor) }
+    ensures { result ≡ whole_number (pos factor) }
 {
     match Frac::new(i128::from(factor), 1) {
         Some(fraction) => fraction,
@@ -32,10 +32,10 @@ fn weight(factor: u64, dual: &Frac, most: u64) -> Option<Frac>
     requires few { factor ≤ 100 * 2 ^ 32 }
     requires most { most ≤ 2 ^ 32 }
     requires proper { IsFraction dual.now }
-    requires low { AtMost (whole (pos 0)) dual.now }
-    ensures value { IfSome result (λ w. w ≡ lowest_of (times (whole (pos factor)) dual.now)) }
+    requires low { AtMost (whole_number (pos 0)) dual.now }
+    ensures value { IfSome result (λ w. w ≡ lowest_of (times (whole_number (pos factor)) dual.now)) }
     ensures fits { IfSome result (AreFitting most) }
-    ensures none { IfNone result (IsLarge most (lowest_of (times (whole (pos factor)) dual.now))) }
+    ensures none { IfNone result (IsLarge most (lowest_of (times (whole_number (pos factor)) dual.now))) }
 {
     let weight = match factor_of(factor).mul(dual) {
         Ok(weight) => weight,

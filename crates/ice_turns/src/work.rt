@@ -1,6 +1,6 @@
 //! How much work a pricing run took.
 ghost use Rattle.std.specs.Prelude.{◌≡◌};
-ghost use Rattle.ice_turns.specs.Works.{counted, no_work, IsMoreWork};
+ghost use Rattle.ice_turns.specs.Works.{saturating_sum, no_work, IsMoreWork};
 
 /// The work of a pricing run.
 #[derive(Clone, Copy, Debug, PartialEq, Eq)]
@@ -24,8 +24,8 @@ impl RunWork {
 
     /// Counts a turn with its pivots.
     pub(crate) fn add_turn(&mut self, pivots: u32)
-        ensures turns { self.new.turns ≡ counted self.old.turns 1 }
-        ensures pivots { self.new.pivots ≡ counted self.old.pivots pivots }
+        ensures turns { self.new.turns ≡ saturating_sum self.old.turns 1 }
+        ensures pivots { self.new.pivots ≡ saturating_sum self.old.pivots pivots }
         ensures more { IsMoreWork self.old self.new }
     {
         self.turns = self.turns.saturating_add(1);

@@ -16,7 +16,7 @@ use Rattle.ice_xor.specs.declared.bidders.Form.{Form}
 use Rattle.ice_xor.specs.declared.bidders.Form.TheVariants.{Xor, Or}
 use Rattle.ice_xor.specs.FlatBids.{Package, FlatBidder}
 use Rattle.ice_xor.specs.Forms.{form_word, form_any, IsForm}
-use Rattle.ice_xor.specs.FlatFile.{packages_at, flat_bidder_of, flat_bidder_at, flat_refusal, flat_added, flat_bidders_from}
+use Rattle.ice_xor.specs.FlatFile.{packages_at, flat_bidder_of, flat_bidder_at, flat_refusal, flat_bidders_with, flat_bidders_from}
 use Rattle.ice_xor.specs.Lawful.{IsFlatBidder, AreFlatBidders}
 
 -- ---- one bidder
@@ -27,7 +27,7 @@ form-read goods path d Or is = rw (is.0, is.1)
 
 pub bidder-read : (goods : List (List ℕ)) (path : Path) (d : Data) (form : Form) (name own : List ℕ) (packages : List Package) → IsForm (Some form) d → of_member path d (codes "name") text_of ≡ Ok name
     → of_member path d (codes "own") (own_at goods) ≡ Ok own → of_member path d (form_word form) (packages_at goods) ≡ Ok packages
-    → (bidders : List FlatBidder) → flat_added goods path bidders d ≡ unless_refused path (flat_refusal bidders name) (bidders ++ record { name = name; own = own; any = form_any form; packages = packages } ∷ [])
+    → (bidders : List FlatBidder) → flat_bidders_with goods path bidders d ≡ unless_refused path (flat_refusal bidders name) (bidders ++ record { name = name; own = own; any = form_any form; packages = packages } ∷ [])
 bidder-read goods path d form name own packages is named owned packed bidders =
     let read : flat_bidder_of goods path d (form_word form) (form_any form) ≡ Ok (record { name = name; own = own; any = form_any form; packages = packages }) = rw (named, owned, packed) in
     ap (λ r. r >>= λ b. unless_refused path (flat_refusal bidders b.name) (bidders ++ b ∷ [])) (form-read goods path d form is ∙ read)
@@ -49,15 +49,15 @@ bidders-push goods bidders b are is fresh room = record {
 -- ---- one after another
 
 module _ (goods : List (List ℕ)) (path : Path) (vs : List Value) (i : ℕ) (bidders : List FlatBidder) (v : Value) (there : i < length vs) (item : v ≡ get_or vs i v) where
-  here : flat_bidders_from goods path i bidders (items_view (drop i vs)) ≡ (flat_added goods (at_index path i) bidders (view v) >>= λ more. flat_bidders_from goods path (suc i) more (items_view (drop (suc i) vs)))
+  here : flat_bidders_from goods path i bidders (items_view (drop i vs)) ≡ (flat_bidders_with goods (at_index path i) bidders (view v) >>= λ more. flat_bidders_from goods path (suc i) more (items_view (drop (suc i) vs)))
   here =
       ap (λ l. flat_bidders_from goods path i bidders (items_view l)) (drop-cons vs i v there)
-      ∙ ap (λ w. flat_added goods (at_index path i) bidders (view w) >>= λ more. flat_bidders_from goods path (suc i) more (items_view (drop (suc i) vs))) (sym item)
+      ∙ ap (λ w. flat_bidders_with goods (at_index path i) bidders (view w) >>= λ more. flat_bidders_from goods path (suc i) more (items_view (drop (suc i) vs))) (sym item)
 
-  pub bad-bidder : (fault : FileFault) → flat_added goods (at_index path i) bidders (view v) ≡ Err fault → flat_bidders_from goods path i bidders (items_view (drop i vs)) ≡ Err fault
+  pub bad-bidder : (fault : FileFault) → flat_bidders_with goods (at_index path i) bidders (view v) ≡ Err fault → flat_bidders_from goods path i bidders (items_view (drop i vs)) ≡ Err fault
   bad-bidder fault read = here ∙ ap (λ r. r >>= λ more. flat_bidders_from goods path (suc i) more (items_view (drop (suc i) vs))) read
 
-  pub next-bidder : (more : List FlatBidder) → flat_added goods (at_index path i) bidders (view v) ≡ Ok more
+  pub next-bidder : (more : List FlatBidder) → flat_bidders_with goods (at_index path i) bidders (view v) ≡ Ok more
       → flat_bidders_from goods path i bidders (items_view (drop i vs)) ≡ flat_bidders_from goods path (i + 1) more (items_view (drop (i + 1) vs))
   next-bidder more read =
       here ∙ ap (λ r. r >>= λ more. flat_bidders_from goods path (suc i) more (items_view (drop (suc i) vs))) read

@@ -7,7 +7,7 @@ use Rattle.std.proofs.lemmas.List.{take_more, drop_all, take_all, map-append, le
 use Rattle.ice_defs.specs.Exchange.{Bidder, Exchange}
 use Rattle.ice_defs.specs.Making.{bidder_refusal, exchange_refusal}
 use Rattle.ice_trade.specs.Parts.{with_bidder}
-use Rattle.ice_xor.specs.FlatBids.{FlatBidder, FlatExchange, translated, translated_bidder}
+use Rattle.ice_xor.specs.FlatBids.{FlatBidder, FlatExchange, translation, translated_bidder}
 use Rattle.ice_xor.specs.Lawful.{IsFlatExchange}
 use Rattle.ice_xor.specs.Translating.{or_later, tree_refusal, refusal_of, refusal_from, translate_refusal}
 
@@ -55,7 +55,7 @@ module _ (flat : FlatExchange) (ex : Exchange) (i : ℕ) (b : FlatBidder) (trans
       }
 
 module _ (flat : FlatExchange) (ex : Exchange) (translating : IsTranslating flat ex (length flat.bidders)) where
-  pub translating-done : ex ≡ translated flat
+  pub translating-done : ex ≡ translation flat
   translating-done = translating.is ∙ ap (λ bs. record { settings = flat.settings; goods = flat.goods; bidders = map translated_bidder bs }) (take_all (length flat.bidders) flat.bidders (omega arith))
 
   pub translating-allowed : translate_refusal flat ≡ None

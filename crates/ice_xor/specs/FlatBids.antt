@@ -85,8 +85,8 @@ abbrev pub translated_bidder : FlatBidder → Bidder
 translated_bidder b = record { name = b.name; own = b.own; tree = flat_tree b; bounds = flat_bounds b }
 
 -- the exchange that the flat bids say
-abbrev pub translated : FlatExchange → Exchange
-translated flat = record { settings = flat.settings; goods = flat.goods; bidders = map translated_bidder flat.bidders }
+abbrev pub translation : FlatExchange → Exchange
+translation flat = record { settings = flat.settings; goods = flat.goods; bidders = map translated_bidder flat.bidders }
 
 abbrev pub package_bounds : FlatBidder → Bounds
 package_bounds b = record { lo = map (λ p. p.lo) b.packages; hi = map (λ p. p.hi) b.packages }

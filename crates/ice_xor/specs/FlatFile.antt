@@ -81,13 +81,13 @@ flat_refusal bidders name =
     else if nat_le 40 (length bidders) then Some 12
     else None
 
-abbrev pub flat_added : List (List ℕ) → Path → List FlatBidder → Data → Read (List FlatBidder)
-flat_added goods path bidders d = flat_bidder_at goods path d >>= λ b. unless_refused path (flat_refusal bidders b.name) (bidders ++ b ∷ [])
+abbrev pub flat_bidders_with : List (List ℕ) → Path → List FlatBidder → Data → Read (List FlatBidder)
+flat_bidders_with goods path bidders d = flat_bidder_at goods path d >>= λ b. unless_refused path (flat_refusal bidders b.name) (bidders ++ b ∷ [])
 
 abbrev pub flat_bidders_from : List (List ℕ) → Path → ℕ → List FlatBidder → Items → Read (List FlatBidder)
 flat_bidders_from goods path i bidders no_items = Ok bidders
 flat_bidders_from goods path i bidders (item d rest) =
-    flat_added goods (at_index path i) bidders d >>= λ more. flat_bidders_from goods path (suc i) more rest
+    flat_bidders_with goods (at_index path i) bidders d >>= λ more. flat_bidders_from goods path (suc i) more rest
 
 abbrev pub flat_bidders_at : List Good → Path → Data → Read (List FlatBidder)
 flat_bidders_at goods path d = array_of path d >>= λ items. flat_bidders_from (map (λ good. good.name) goods) path 0 [] items

@@ -5,7 +5,7 @@ ghost use Rattle.ice_defs.specs.FileFault.{Path};
 ghost use Rattle.ice_defs.specs.Lawful.{good_names};
 ghost use Rattle.ice_read.specs.Owned.{AreNames};
 ghost use Rattle.ice_xor.specs.Forms.{form_word, form_any, IsForm};
-ghost use Rattle.ice_xor.specs.FlatFile.{flat_added, flat_bidders_at};
+ghost use Rattle.ice_xor.specs.FlatFile.{flat_bidders_with, flat_bidders_at};
 ghost use Rattle.ice_xor.specs.Lawful.{AreFlatBidders};
 ghost use Rattle.ice_xor.specs.Reading.{IsFaultOrMemory};
 
@@ -121,10 +121,10 @@ fn take_bidder(
     requires names { AreNames (good_names exchange.now) }
     requires lawful { AreFlatBidders (length exchange.now.goods) bidders.old.items }
     ensures taken { OnOk result ((path : Path)
-        → flat_added (good_names exchange.now) path bidders.old.items (view value.now)
+        → flat_bidders_with (good_names exchange.now) path bidders.old.items (view value.now)
         ≡ Ok bidders.new.items) }
     ensures refused { IfErr result (λ fault. IsFaultOrMemory fault
-        (λ path. flat_added (good_names exchange.now) path bidders.old.items (view value.now))) }
+        (λ path. flat_bidders_with (good_names exchange.now) path bidders.old.items (view value.now))) }
     ensures one { OnOk result (length bidders.new.items ≡ length bidders.old.items + 1) }
     ensures lawful { OnOk result (AreFlatBidders (length exchange.now.goods) bidders.new.items) }
     ensures short { IfErr result (λ fault. length fault.place ≤ 64) }

@@ -3,7 +3,7 @@ ghost use Rattle.std.specs.Prelude.{◌≡◌, ◌<◌, length, None, OnOk, IfOk
 ghost use Rattle.ice_defs.specs.Making.{bidder_refusal};
 ghost use Rattle.ice_defs.specs.Lawful.{IsExchange};
 ghost use Rattle.ice_trade.specs.Parts.{with_bidder};
-ghost use Rattle.ice_xor.specs.FlatBids.{translated, translated_bidder};
+ghost use Rattle.ice_xor.specs.FlatBids.{translation, translated_bidder};
 ghost use Rattle.ice_xor.specs.Lawful.{IsFlatBidder};
 ghost use Rattle.ice_xor.specs.Translating.{tree_refusal, or_later, translate_refusal};
 ghost use Rattle.ice_xor.specs.Faults.{IsTranslateFault, IsRefusedBy, TellsSaleOf, TellsItsSale};
@@ -47,7 +47,7 @@ fn add_bidder(exchange: &mut ExchangeMaker, bidder: &FlatBidder) -> Result<(), M
 /// whose packages may sell more of a good than it owns (`OverSale`). Want of memory (`NoMemory`) is
 /// the other error.
 pub fn translate(alloc: Global, flat: &FlatExchange) -> Result<Exchange, TranslateFault>
-    ensures exchange { IfOk result (λ exchange. exchange ≡ translated flat.now) }
+    ensures exchange { IfOk result (λ exchange. exchange ≡ translation flat.now) }
     ensures lawful { IfOk result IsExchange }
     ensures allowed { IfOk result (λ exchange. translate_refusal flat.now ≡ None) }
     ensures refused { IfErr result (IsTranslateFault (translate_refusal flat.now)) }

@@ -4,7 +4,7 @@ use mir.Val.{SFits}
 use Rattle.std.proofs.lemmas.Bool.{false≢true}
 use Rattle.std.proofs.lemmas.Int.{to_z-of_z}
 use Rattle.std.proofs.lemmas.List.{get_or_default}
-use Rattle.ice_defs.specs.Fraction.{whole, AtMost}
+use Rattle.ice_defs.specs.Fraction.{whole_number, AtMost}
 use Rattle.ice_journal.specs.Lines.{fraction_of}
 use Rattle.ice_check_charge.proofs.amounts.is_reached.Goals as goal
 
@@ -16,7 +16,7 @@ loop-without-preserved c =
     let value : c.vickrey.result ≡ total -ℤ without = search rules in
     let is : to_z w128 (of_z w128 c.vickrey.result) ≡ total -ℤ without = to_z-of_z w128 c.vickrey.result fits ∙ value in
     below_more _ _ c.loop-without.invariant
-    (λ h. false≢true (sym c.if-reaches.false ∙ c.reaches.ensures.1 (subst (λ (z : ℤ). AtMost (fraction_of c.args.cut.now) (whole z)) (sym is) h)))
+    (λ h. false≢true (sym c.if-reaches.false ∙ c.reaches.ensures.1 (subst (λ (z : ℤ). AtMost (fraction_of c.args.cut.now) (whole_number z)) (sym is) h)))
 
 pub returns-clause-no : goal.returns-clause-no
 returns-clause-no c = λ e found.
@@ -24,5 +24,5 @@ returns-clause-no c = λ e found.
     let back : to_z w64 (of_z w64 c.args.total) ≡ c.args.total = to_z-of_z w64 c.args.total c.ranges.total in
     let there : get_or withouts found.0 (pos 0) ≡ found.1 = get_or_default withouts found.0 (pos 0) found.1 found.2 ∙ found.3 in
     c.loop-without.invariant found.0 (omega (arith, found.2, c.loop-without-test.false))
-    (subst (λ (z : ℤ). AtMost (fraction_of c.args.cut.now) (whole (z -ℤ get_or withouts found.0 (pos 0)))) (sym back)
-    (subst (λ (z : ℤ). AtMost (fraction_of c.args.cut.now) (whole (c.args.total -ℤ z))) (sym there) found.4))
+    (subst (λ (z : ℤ). AtMost (fraction_of c.args.cut.now) (whole_number (z -ℤ get_or withouts found.0 (pos 0)))) (sym back)
+    (subst (λ (z : ℤ). AtMost (fraction_of c.args.cut.now) (whole_number (c.args.total -ℤ z))) (sym there) found.4))

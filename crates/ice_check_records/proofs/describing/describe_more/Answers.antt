@@ -1,6 +1,6 @@
 use Rattle.std.proofs.Common.{rules, ◌≡◌, suc, refl, sym, subst}
 use Rattle.ice_journal_laws.specs.Progress.{Progress, passing, IsAfter}
-use Rattle.ice_journal_laws.specs.Assigning.{describing}
+use Rattle.ice_journal_laws.specs.Assigning.{section_state}
 use Rattle.std.specs.Prelude.{Ok, Err}
 use Rattle.ice_journal.specs.Lines.{record_of}
 use Rattle.ice_section.specs.Section.{Section, take_record}
@@ -23,8 +23,8 @@ returns-in-Ok c =
     let taken = subst (λ (x : Section). take_record x r ≡ Ok c.take.new.self) same c.in-Ok.ensures.taken in
     record {
       after = λ n p first is. record {
-        after = passing (describing (version_of_head h) (kind_of_head h) (suc n) c.take.new.self);
-        leads = subst (λ (q : Progress). IsAfter q r (passing (describing (version_of_head h) (kind_of_head h) (suc n) c.take.new.self))) (sym is) (section_on (version_of_head h) (kind_of_head h) n s c.take.new.self r taken);
+        after = passing (section_state (version_of_head h) (kind_of_head h) (suc n) c.take.new.self);
+        leads = subst (λ (q : Progress). IsAfter q r (passing (section_state (version_of_head h) (kind_of_head h) (suc n) c.take.new.self))) (sym is) (section_on (version_of_head h) (kind_of_head h) n s c.take.new.self r taken);
         stands = refl;
       };
       number = λ n. tt;

@@ -1,7 +1,7 @@
 use Rattle.std.proofs.Common.{◌≡◌, ◌+◌, drop, map, sym, ◌∙◌, subst}
 use Rattle.ice_defs.specs.Bound.{Multipliers}
 use Rattle.ice_journal.specs.Lines.{change_of}
-use Rattle.ice_journal.specs.Plain.{changed}
+use Rattle.ice_journal.specs.Plain.{after_changes}
 use Rattle.ice_check_records.proofs.Changes.{changed_more, none_left, range_at}
 use Rattle.ice_check_records.proofs.steps_in.changed.Goals as goal
 
@@ -13,7 +13,7 @@ loop-change-preserved c =
     let changes = c.args.changes.now in
     let i = c.loop-change.change-index in
     record {
-      changed_so = subst (λ (m : Multipliers). changed m (map change_of (drop (i + 1) changes)) ≡ changed c.args.before.now (map change_of changes)) (sym c.make_change.ensures)
+      changed_so = subst (λ (m : Multipliers). after_changes m (map change_of (drop (i + 1) changes)) ≡ after_changes c.args.before.now (map change_of changes)) (sym c.make_change.ensures)
           (sym (changed_more c.loop-change.m changes i c.loop-change-test.true) ∙ c.loop-change.invariant.changed_so);
       in_range = (range_at changes i c.loop-change-test.true c.loop-change.invariant.in_range).1;
     }

@@ -3,7 +3,7 @@ use Rattle.std.specs.List.{AllByRecursion}
 use Rattle.std.proofs.lemmas.Int.{ints}
 use Rattle.std.proofs.lemmas.List.{get_or_default}
 use Rattle.std.proofs.lemmas.List.Elements.{All-from_recursion}
-use Rattle.ice_defs.specs.Fraction.{Fraction, whole, fraction_at}
+use Rattle.ice_defs.specs.Fraction.{Fraction, whole_number, fraction_at}
 use Rattle.ice_defs.specs.PricingRun.{num_over}
 use Rattle.ice_row_laws.specs.Sizes.{IsSizedWithin}
 use Rattle.ice_fair_stage.specs.Paid.{IsShortPayment}
@@ -15,8 +15,8 @@ use Rattle.ice_fair_stage.proofs.program.payment.Goals as goal
 read-sized : (cut k i bidder : ℕ) (ps qs : List Fraction) (f : Fraction) → k ≡ cut → i ≡ bidder → ps ≡ qs → bidder < length qs → cut ≤ 1000 → AllByRecursion IsShortPayment qs
     → IsSizedWithin (10 ^ 21) (num_over cut (fraction_at qs bidder)) × (num_over k (get_or ps i f) ≡ num_over cut (fraction_at qs bidder))
 read-sized cut k i bidder ps qs f e g h there few short =
-    let read : get_or ps i f ≡ fraction_at qs bidder = ap (λ xs. get_or xs i f) h ∙ ap (λ j. get_or qs j f) g ∙ get_or_default qs bidder f (whole (pos 0)) there in (
-      payment-sized cut (fraction_at qs bidder) few (All-from_recursion IsShortPayment qs short bidder (whole (pos 0)) there),
+    let read : get_or ps i f ≡ fraction_at qs bidder = ap (λ xs. get_or xs i f) h ∙ ap (λ j. get_or qs j f) g ∙ get_or_default qs bidder f (whole_number (pos 0)) there in (
+      payment-sized cut (fraction_at qs bidder) few (All-from_recursion IsShortPayment qs short bidder (whole_number (pos 0)) there),
       ap (λ j. num_over j (get_or ps i f)) e ∙ ap (num_over cut) read,
     )
 

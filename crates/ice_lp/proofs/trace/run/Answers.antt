@@ -1,5 +1,5 @@
 use Rattle.std.proofs.Common.{◌≡◌, ◌∙◌, ◌-◌, ◌<◌, ◌≤◌, arith, sym, subst, Some}
-use Rattle.ice_defs.specs.Dictionary.{pivoted}
+use Rattle.ice_defs.specs.Dictionary.{pivot_dictionary}
 use Rattle.ice_program_laws.specs.Solutions.{IsPivot}
 use Rattle.ice_program_laws.proofs.Pivot.{pivot_keeps_solutions}
 use Rattle.ice_lp.specs.declared.trace.Turn.TheVariants.{Least, Unbounded, Pivot}
@@ -50,7 +50,7 @@ turns-preserved c =
     let low : c.args.pivots.now ≤ c.turns.pivots = omega (arith, c.turns.invariant.counted, c.turns.invariant.few) in
     let some : 0 < c.turns.left = omega (arith, c.if-left-eq0.false) in
     let is_pivot : IsPivot c.turns.dictionary c.in-Pivot.leaving c.in-Pivot.entering = subst (IsPivotTurn c.turns.dictionary) c.in-Pivot.is c.in_ok-next_turn.ensures.pivot in
-    let made : pivoted c.turns.dictionary c.in-Pivot.leaving c.in-Pivot.entering ≡ Some c.pivot.new.self = c.in_ok-pivot-in-Pivot.ensures.made in
+    let made : pivot_dictionary c.turns.dictionary c.in-Pivot.leaving c.in-Pivot.entering ≡ Some c.pivot.new.self = c.in_ok-pivot-in-Pivot.ensures.made in
     record {
       few = omega arith;
       counted = omega (arith, c.turns.invariant.counted, some);

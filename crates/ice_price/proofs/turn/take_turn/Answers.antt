@@ -5,7 +5,7 @@ use Rattle.std.proofs.lemmas.Int.{to_z-of_z}
 use Rattle.std.proofs.lemmas.List.{get_or_read, length-drop}
 use Rattle.ice_defs.specs.Prices.{Prices, ArePrices}
 use Rattle.ice_defs.specs.Program.{AreNonNegative}
-use Rattle.ice_defs.specs.Fraction.{Fraction, whole, fraction_at}
+use Rattle.ice_defs.specs.Fraction.{Fraction, whole_number, fraction_at}
 use Rattle.ice_defs.specs.PricingRun.{prices_of}
 use Rattle.ice_defs.specs.Rows.{HasCommonDivisor}
 use Rattle.ice_pricing_laws.specs.Weights.{weights_of_duals}
@@ -22,7 +22,7 @@ use Rattle.ice_price.proofs.TurnEnds.{adds, none-left, step-stops, stops, end-tu
 use Rattle.ice_price.proofs.turn.take_turn.Goals as goal
 
 last-read : (xs : List Fraction) (place goods : ℕ) (last : Fraction) → place ≡ goods → place < length xs → last ≡ slice_index_or xs place last → last ≡ fraction_at xs goods
-last-read xs place goods last e h is = get_or_read xs place last h is (whole (pos 0)) ∙ ap (fraction_at xs) e
+last-read xs place goods last e h is = get_or_read xs place last h is (whole_number (pos 0)) ∙ ap (fraction_at xs) e
 
 weights-same : (k factor place goods : ℕ) (own ys items : List Fraction) → k ≡ factor → own ≡ drop place ys → place ≡ goods → ys ≡ items → weights_of_duals k own ≡ weights_of_duals factor (drop goods items)
 weights-same k factor place goods own ys items e d f g = ap (λ j. weights_of_duals j own) e ∙ ap (weights_of_duals factor) (d ∙ ap (λ j. drop j ys) f ∙ ap (drop goods) g)

@@ -2,7 +2,7 @@ use Rattle.std.proofs.Common.{◌≡◌, ◌∙◌, ◌-ℤ◌, arith, ap, to_z,
 use mir.Syntax.{w64}
 use Rattle.std.proofs.lemmas.Int.{ints}
 use Rattle.ice_defs.specs.Set.{weight_of}
-use Rattle.ice_proxy.specs.Proposals.{halved}
+use Rattle.ice_proxy.specs.Proposals.{width_after_halvings}
 use Rattle.ice_proxy.proofs.proposal.lower.Goals as goal
 
 pub overflow_sub-result : goal.overflow_sub-result
@@ -17,5 +17,5 @@ returns c =
     let most = c.requires.bounds.high c.args.node c.requires.node in
     let width : to_z w64 (of_z w64 (to_z w64 (of_z w64 c.args.truth) -ℤ to_z w64 (of_z w64 c.lo.result))) ≡ c.args.truth -ℤ weight_of c.args.old.now.lo c.args.node =
     omega (arith, ints, least, most, c.lo.ensures) in
-    let value : c.halved.result ≡ halved c.args.attempt (c.args.truth -ℤ weight_of c.args.old.now.lo c.args.node) = c.halved.ensures.value ∙ ap (halved c.args.attempt) width in
+    let value : c.halved.result ≡ width_after_halvings c.args.attempt (c.args.truth -ℤ weight_of c.args.old.now.lo c.args.node) = c.halved.ensures.value ∙ ap (width_after_halvings c.args.attempt) width in
     omega (arith, ints, least, most, value, width, c.halved.ensures.low, c.halved.ensures.high)

@@ -2,7 +2,7 @@ use Rattle.std.proofs.Common.{◌≡◌, ◌∙◌, ◌-ℤ◌, arith, ap, to_z,
 use mir.Syntax.{w64}
 use Rattle.std.proofs.lemmas.Int.{ints}
 use Rattle.ice_defs.specs.Set.{weight_of}
-use Rattle.ice_proxy.specs.Proposals.{halved}
+use Rattle.ice_proxy.specs.Proposals.{width_after_halvings}
 use Rattle.ice_proxy.proofs.proposal.upper.Goals as goal
 
 pub returns : goal.returns
@@ -11,5 +11,5 @@ returns c =
     let most = c.requires.bounds.high c.args.node c.requires.node in
     let width : to_z w64 (of_z w64 (to_z w64 (of_z w64 c.hi.result) -ℤ to_z w64 (of_z w64 c.args.truth))) ≡ weight_of c.args.old.now.hi c.args.node -ℤ c.args.truth =
     omega (arith, ints, least, most, c.hi.ensures) in
-    let value : c.halved.result ≡ halved c.args.attempt (weight_of c.args.old.now.hi c.args.node -ℤ c.args.truth) = c.halved.ensures.value ∙ ap (halved c.args.attempt) width in
+    let value : c.halved.result ≡ width_after_halvings c.args.attempt (weight_of c.args.old.now.hi c.args.node -ℤ c.args.truth) = c.halved.ensures.value ∙ ap (width_after_halvings c.args.attempt) width in
     omega (arith, ints, least, most, value, width, c.halved.ensures.low, c.halved.ensures.high)

@@ -4,7 +4,7 @@ use Rattle.std.proofs.lemmas.Int.{ints}
 use Rattle.std.proofs.lemmas.List.{take_all}
 use Rattle.ice_defs.specs.Set.{weight_of}
 use Rattle.ice_defs.proofs.Multiples.{one_time}
-use Rattle.ice_proxy.specs.Proposals.{halved, proposed_hi}
+use Rattle.ice_proxy.specs.Proposals.{width_after_halvings, proposed_hi}
 use Rattle.ice_defs.proofs.Values.{one_value_more}
 use Rattle.ice_proxy.proofs.Proposals.{length-proposed_hi, weight_of-proposed_hi}
 use Rattle.ice_proxy.proofs.proposal.upper_values.Goals as goal
@@ -22,7 +22,7 @@ loop-node-preserved c =
     let high : weight_of c.args.truth.now c.loop-node.node ≤ℤ weight_of c.args.old.now.hi c.loop-node.node = omega (arith, ints, c.requires.inside.high c.loop-node.node t, one_time (weight_of c.args.old.now.hi c.loop-node.node)) in
     let back : to_z w64 (of_z w64 (weight_of c.args.truth.now c.loop-node.node)) ≡ weight_of c.args.truth.now c.loop-node.node = omega (arith, ints, low, high, least, most) in
     let value : c.upper.result ≡ weight_of (proposed_hi c.args.attempt c.args.old.now.hi c.args.truth.now) c.loop-node.node =
-    c.upper.ensures ∙ ap (λ (z : ℤ). z +ℤ halved c.args.attempt (weight_of c.args.old.now.hi c.loop-node.node -ℤ z)) back
+    c.upper.ensures ∙ ap (λ (z : ℤ). z +ℤ width_after_halvings c.args.attempt (weight_of c.args.old.now.hi c.loop-node.node -ℤ z)) back
     ∙ sym (weight_of-proposed_hi c.args.attempt c.args.old.now.hi c.args.truth.now c.loop-node.node same there_hi) in
     let whole : to_z w64 (of_z w64 c.upper.result) ≡ c.upper.result = omega (arith, ints, c.upper.type_inv) in
     c.push.ensures.items

@@ -4,7 +4,7 @@ use Rattle.ice_defs.specs.declared.NodeKind.TheVariants.{Choose}
 use Rattle.ice_defs.specs.Making.{draft_refusal, with_open}
 use Rattle.ice_tree.specs.Fault.{tree_fault_number}
 use Rattle.ice_read.specs.declared.cause.ReadCause.TheVariants.{Tree}
-use Rattle.ice_read.specs.Reading.{taken}
+use Rattle.ice_read.specs.Reading.{made_so_far}
 use Rattle.ice_read.specs.TreeFile.{Interval}
 use Rattle.ice_read.proofs.PlacesOfFaults.{refused}
 use Rattle.ice_read.proofs.Refusals.{opened_chain, made, unmade}
@@ -20,7 +20,7 @@ returns-in-Ok-clause-opened c =
       λ goods path.
           opened_chain goods d path (view c.args.value.now) interval c.in_ok-lo.lo c.in_ok-hi.hi (items_view c.in_ok-items.items.now.items) (c.in_ok-interval.ensures.reading path) (c.in_ok-lo.ensures.reading path) (c.in_ok-hi.ensures.reading path) (c.in_ok-items.ensures.reading path)
           ∙ rw (made goods d (Choose interval.least interval.most) c.in_ok-lo.lo c.in_ok-hi.hi path c.requires.going c.requires.deep due)
-          (ap (λ x. Ok (record { interval = interval; items = items_view c.in_ok-items.items.now.items; made = taken x })) (sym after)),
+          (ap (λ x. Ok (record { interval = interval; items = items_view c.in_ok-items.items.now.items; made = made_so_far x })) (sym after)),
     )
 
 pub returns-in-Err-clause-refused : goal.returns-in-Err-clause-refused

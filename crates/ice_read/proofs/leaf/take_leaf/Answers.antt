@@ -5,7 +5,7 @@ use Rattle.ice_defs.specs.Lawful.{good_names}
 use Rattle.ice_defs.specs.Making.{draft_refusal, with_node}
 use Rattle.ice_tree.specs.Fault.{tree_fault_number}
 use Rattle.ice_read.specs.declared.cause.ReadCause.TheVariants.{Tree}
-use Rattle.ice_read.specs.Reading.{side_kind, taken}
+use Rattle.ice_read.specs.Reading.{side_kind, made_so_far}
 use Rattle.ice_read.proofs.PlacesOfFaults.{refused}
 use Rattle.ice_read.proofs.Refusals.{leaf_chain, made, unmade}
 use Rattle.ice_read.proofs.leaf.take_leaf.Goals as goal
@@ -21,7 +21,7 @@ returns-in-Ok-clause-taken c = λ path.
     let after : c.leaf.new.self.draft ≡ with_node d kind c.in_ok-lo.lo c.in_ok-hi.hi = search rules in
     leaf_chain (good_names ex) d c.args.side path (view c.args.value.now) c.word.result.now c.in_ok-good.good c.in_ok-units.units c.in_ok-lo.lo c.in_ok-hi.hi c.word.ensures (c.in_ok-good.ensures.reading path) (c.in_ok-units.ensures.reading path) (c.in_ok-lo.ensures.reading path) (c.in_ok-hi.ensures.reading path)
     ∙ made (good_names ex) d kind c.in_ok-lo.lo c.in_ok-hi.hi path c.requires.going c.requires.deep (rw goods at due)
-    ∙ ap (λ x. Ok (taken x)) (sym after)
+    ∙ ap (λ x. Ok (made_so_far x)) (sym after)
 
 pub returns-in-Err-clause-refused : goal.returns-in-Err-clause-refused
 returns-in-Err-clause-refused c = λ path.

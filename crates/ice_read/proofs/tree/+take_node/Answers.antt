@@ -8,7 +8,7 @@ use Rattle.ice_tree.specs.Fault.{tree_fault_number}
 use Rattle.ice_read.specs.declared.cause.ReadCause.TheVariants.{Shape, Tree}
 use Rattle.ice_read.specs.Values.{at_member, at_index}
 use Rattle.ice_read.specs.TreeFile.{node_at}
-use Rattle.ice_read.specs.Reading.{taken, levels_below}
+use Rattle.ice_read.specs.Reading.{made_so_far, levels_below}
 use Rattle.ice_read.proofs.PlacesOfFaults.{refused, fault_below}
 use Rattle.ice_read.proofs.Nodes.{IsGoing, child_read, same_levels, buys, sells, has_no_form, not_opened, next_child, bad_child, no_more_child, begun, waiting_child, with_child, stopped, finished, not_finished}
 use Rattle.ice_read.proofs.tree.+take_node.Goals as goal
@@ -71,10 +71,10 @@ returns-in-Err-clause-refused t c = λ path.
     let g = c.loop-index.invariant.going in
     let opened = ap (λ (m : Making). m.draft.opened) c.in_ok-items.ensures.same in
     let interval = c.in_ok-items.ensures.opened.0 in
-    let start = c.in_ok-items.ensures.opened.1 goods path ∙ ap (λ xs. Ok (record { interval = interval; items = items_view xs; made = taken made })) (sym c.deref-item-items.ensures.value) in
+    let start = c.in_ok-items.ensures.opened.1 goods path ∙ ap (λ xs. Ok (record { interval = interval; items = items_view xs; made = made_so_far made })) (sym c.deref-item-items.ensures.value) in
     let inside = at_index (at_member path (codes "of")) i in
     let read = child_read goods old made now i g opened inside (view c.item-item.result) ∙ c.in-Err.ensures.refused inside in
-    let child = bad_child (node_at goods (levels_below made) (length old.tree)) (at_member path (codes "of")) vs i (taken now) c.item-item.result _ (omega arith) (sym c.item-item.is) read in
+    let child = bad_child (node_at goods (levels_below made) (length old.tree)) (at_member path (codes "of")) vs i (made_so_far now) c.item-item.result _ (omega arith) (sym c.item-item.is) read in
     stopped goods old made now interval vs path (view c.args.value.now) c.if-is_buy.ensures c.if-is_sell.ensures c.if-not-is_choose.ensures start i g _ (c.loop-index.invariant.rest (at_member path (codes "of")) ∙ child)
     ∙ ap Err (fault_below (decimal i) c.in-Err.fault c.at.result c.at.ensures.fault (at_member path (codes "of")) ∙ fault_below (codes "of") c.at.result c.under.result c.under.ensures path)
 
@@ -102,7 +102,7 @@ loop-index-preserved t c =
       same = c.in_default.ensures.same ∙ ap (λ (m : Making). record { goods = m.goods; draft = record after { opened = m.draft.opened } }) c.loop-index.invariant.same;
       rest = λ path.
           let read = child_read goods old made now i g opened (at_index path i) (view c.item-item.result) ∙ c.in_default.ensures.taken (at_index path i) in
-          c.loop-index.invariant.rest path ∙ next_child (node_at goods (levels_below made) (length old.tree)) path vs i (taken now) c.item-item.result (taken after) (omega arith) (sym c.item-item.is) read;
+          c.loop-index.invariant.rest path ∙ next_child (node_at goods (levels_below made) (length old.tree)) path vs i (made_so_far now) c.item-item.result (made_so_far after) (omega arith) (sym c.item-item.is) read;
     }
 
 pub returns-in-Ok-clause-taken : goal.returns-in-Ok-clause-taken
@@ -116,10 +116,10 @@ returns-in-Ok-clause-taken t c = λ path.
     let all : i ≡ length vs = omega arith in
     let g = subst (IsGoing old made now) all c.loop-index.invariant.going in
     let interval = c.in_ok-items.ensures.opened.0 in
-    let start = c.in_ok-items.ensures.opened.1 goods path ∙ ap (λ xs. Ok (record { interval = interval; items = items_view xs; made = taken made })) (sym c.deref-item-items.ensures.value) in
-    let rest = c.loop-index.invariant.rest (at_member path (codes "of")) ∙ no_more_child (node_at goods (levels_below made) (length old.tree)) (at_member path (codes "of")) vs i (taken now) (omega arith) in
+    let start = c.in_ok-items.ensures.opened.1 goods path ∙ ap (λ xs. Ok (record { interval = interval; items = items_view xs; made = made_so_far made })) (sym c.deref-item-items.ensures.value) in
+    let rest = c.loop-index.invariant.rest (at_member path (codes "of")) ∙ no_more_child (node_at goods (levels_below made) (length old.tree)) (at_member path (codes "of")) vs i (made_so_far now) (omega arith) in
     finished goods old made now interval vs path (view c.args.value.now) c.if-is_buy.ensures c.if-is_sell.ensures c.if-not-is_choose.ensures start c.requires.waiting g rest c.in-Ok.ensures.refused
-    ∙ ap (λ (m : Making). Ok (taken m.draft)) (sym c.in-Ok.ensures.made)
+    ∙ ap (λ (m : Making). Ok (made_so_far m.draft)) (sym c.in-Ok.ensures.made)
 
 pub returns-in-Ok-clause-same : goal.returns-in-Ok-clause-same
 returns-in-Ok-clause-same t c =
@@ -139,7 +139,7 @@ returns-in-Err-close-clause-refused t c = λ path.
     let all : i ≡ length vs = omega arith in
     let g = subst (IsGoing old made now) all c.loop-index.invariant.going in
     let interval = c.in_ok-items.ensures.opened.0 in
-    let start = c.in_ok-items.ensures.opened.1 goods path ∙ ap (λ xs. Ok (record { interval = interval; items = items_view xs; made = taken made })) (sym c.deref-item-items.ensures.value) in
-    let rest = c.loop-index.invariant.rest (at_member path (codes "of")) ∙ no_more_child (node_at goods (levels_below made) (length old.tree)) (at_member path (codes "of")) vs i (taken now) (omega arith) in
+    let start = c.in_ok-items.ensures.opened.1 goods path ∙ ap (λ xs. Ok (record { interval = interval; items = items_view xs; made = made_so_far made })) (sym c.deref-item-items.ensures.value) in
+    let rest = c.loop-index.invariant.rest (at_member path (codes "of")) ∙ no_more_child (node_at goods (levels_below made) (length old.tree)) (at_member path (codes "of")) vs i (made_so_far now) (omega arith) in
     not_finished goods old made now interval vs path (view c.args.value.now) c.if-is_buy.ensures c.if-is_sell.ensures c.if-not-is_choose.ensures start c.requires.waiting g rest (tree_fault_number c.in-Err-close.fault) c.in-Err-close.ensures.refused
     ∙ refused (tree_fault_number c.in-Err-close.fault) (Tree c.in-Err-close.fault) c.of-in-Err-close.result c.of-in-Err-close.ensures refl path

@@ -8,7 +8,7 @@ use Rattle.ice_write_session.specs.Records.{halt_records, spent_records, limit_r
 use Rattle.ice_write_session.specs.Writable.{IsWritable}
 use Rattle.ice_session_laws.specs.Written.{begun_records}
 use Rattle.ice_session_laws.proofs.Ends.{spent_may_be_written, limit_may_be_written}
-use Rattle.ice_gen.specs.Generated.{generated, truths}
+use Rattle.ice_gen.specs.Generated.{generated_exchange, truths}
 use Rattle.ice_trial.specs.Rounds.{goings_of}
 use Rattle.ice_session_commands.specs.GenServed.{summary_text}
 use Rattle.ice_session_commands.specs.GenJournal.{trial_records}
@@ -33,7 +33,7 @@ put_spent_trial-requires-clause-first g c =
     let trial = q.1 in
     let halt = q.2 in
     let is = q.3 in
-    first_writable (generated c.args.number) c.in-Spent.halt.exchange (truths c.args.number) c.in-Spent.first (halt.exchange ∙ trial.exchange) trial.round
+    first_writable (generated_exchange c.args.number) c.in-Spent.halt.exchange (truths c.args.number) c.in-Spent.first (halt.exchange ∙ trial.exchange) trial.round
 
 pub put_spent_trial-requires-clause-halt : goal.put_spent_trial-requires-clause-halt
 put_spent_trial-requires-clause-halt g c =

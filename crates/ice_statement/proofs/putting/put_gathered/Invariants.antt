@@ -1,7 +1,7 @@
 use Rattle.std.proofs.Common.{List, ◌+◌, ◌≤◌, length}
 use Rattle.ice_journal.specs.Records.{Record}
 use Rattle.ice_journal.specs.Journal.{IsJournal}
-use Rattle.ice_statement_laws.specs.Gathering.{gathering}
+use Rattle.ice_statement_laws.specs.Gathering.{new_gathering}
 use Rattle.ice_statement.proofs.Gathers.{HasPut}
 use Rattle.ice_statement.proofs.putting.put_gathered.Given as goal
 
@@ -9,7 +9,7 @@ abbrev pub invariant-loop-text : goal.invariant-loop-text
 invariant-loop-text g l = record {
   bidders : l.gathering.bidders + length l.rest ≤ length l.bytes;
   sets : l.gathering.sets + length l.rest ≤ length l.bytes;
-  put : (journal : List Record) → IsJournal l.bytes journal → HasPut (gathering l.name) l.gathering l.rest journal (g.K.Sink.taken l.initial.out) (g.K.Sink.taken l.out);
+  put : (journal : List Record) → IsJournal l.bytes journal → HasPut (new_gathering l.name) l.gathering l.rest journal (g.K.Sink.taken l.initial.out) (g.K.Sink.taken l.out);
 }
 
 abbrev pub decreases-loop-text : goal.decreases-loop-text

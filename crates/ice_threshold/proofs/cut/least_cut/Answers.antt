@@ -2,7 +2,7 @@ use Rattle.std.proofs.Common.{◌≡◌, ◌≤◌, List, ℤ, pos, ◌≤ℤ◌
 use mir.Syntax.{w128}
 use borrow.Author.Count.{below_more}
 use Rattle.std.proofs.lemmas.Int.{ints}
-use Rattle.ice_defs.specs.Fraction.{Fraction, whole, AtMost}
+use Rattle.ice_defs.specs.Fraction.{Fraction, whole_number, AtMost}
 use Rattle.ice_defs.specs.Cut.{IsCut}
 use Rattle.ice_frac.proofs.Fractions.{AtMost-trans}
 use Rattle.ice_threshold.specs.Level.{asked_cut}
@@ -20,7 +20,7 @@ loop-at-preserved c =
     let right : AtMost c.asked.result c.greater-cut.result = c.greater-cut.ensures.right in
     record {
       proper = c.greater-cut.ensures.proper;
-      low = AtMost-trans (whole (pos 0)) before after c.loop-at.invariant.proper c.loop-at.invariant.low left;
+      low = AtMost-trans (whole_number (pos 0)) before after c.loop-at.invariant.proper c.loop-at.invariant.low left;
       least = λ other pay. c.greater-cut.ensures.least other (c.loop-at.invariant.least other pay) (subst (λ (f : Fraction). AtMost f other) (sym asked) (asked_at_most vs total other pay c.loop-at.at));
       asked = below_more (λ k. AtMost (asked_cut vs total k) after) c.loop-at.at
           (λ k l. AtMost-trans (asked_cut vs total k) before after c.loop-at.invariant.proper (c.loop-at.invariant.asked k l) left)

@@ -3,7 +3,7 @@ use mir.Syntax.{w128}
 use Rattle.std.specs.List.{AllByRecursion}
 use Rattle.std.proofs.lemmas.Int.{ints}
 use Rattle.std.proofs.lemmas.List.Elements.{recursion_from_All}
-use Rattle.ice_defs.specs.Fraction.{Fraction, Equals, whole, less}
+use Rattle.ice_defs.specs.Fraction.{Fraction, Equals, whole_number, minus}
 use Rattle.ice_defs.specs.Cut.{IsCut, cut_sum}
 use Rattle.ice_threshold.specs.CutOff.{AreCutDown, ArePaid}
 use Rattle.ice_threshold.proofs.OneCut.{cut_down_is_threshold}
@@ -30,7 +30,7 @@ returns c =
     let off_reduced : AreCutDown reduced ds vs = AreCutDown_moves cut reduced ds vs cut_is.payable.proper c.reduced.ensures.proper c.reduced.ensures.equal off in
     let low : AllByRecursion (λ v. pos 0 ≤ℤ v) vs = recursion_from_All (λ v. pos 0 ≤ℤ v) vs (λ k d l. (c.requires.limited k d l).low) in
     let paid : ArePaid cut ps c.args.values.now vs = c.in_ok-payments.ensures.paid in
-    let left : Equals c.surplus_at.result (less (whole c.args.total) (cut_sum cut vs)) = subst (λ (t : ℤ). Equals c.surplus_at.result (less (whole t) (cut_sum cut vs))) same c.surplus_at.ensures.equal in
+    let left : Equals c.surplus_at.result (minus (whole_number c.args.total) (cut_sum cut vs)) = subst (λ (t : ℤ). Equals c.surplus_at.result (minus (whole_number t) (cut_sum cut vs))) same c.surplus_at.ensures.equal in
     let high : c.args.total ≤ℤ pos (10 ^ 15 * 40) = total_high c.args.values.now c.args.total c.requires.valued c.requires.summed c.requires.few in
     record {
       cut = moved;

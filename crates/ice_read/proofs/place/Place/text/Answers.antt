@@ -1,9 +1,9 @@
 use Rattle.std.proofs.Common.{◌≡◌, ℕ, IsTrue, List, [], ◌∷◌, ◌++◌, refl, ap, sym, ◌∙◌, arith}
 use Rattle.std.proofs.lemmas.Str.Ascii.{encode_ascii}
-use Rattle.ice_read.specs.Places.{shown, is_dotted}
+use Rattle.ice_read.specs.Places.{place_text, is_dotted}
 use Rattle.ice_read.proofs.place.Place.text.Goals as goal
 
-undotted : (bs same : List ℕ) → IsTrue (is_dotted bs) → same ≡ bs → ((rest : List ℕ) → same ≡ 46 ∷ rest → ⊥) → 45 ∷ [] ≡ shown bs
+undotted : (bs same : List ℕ) → IsTrue (is_dotted bs) → same ≡ bs → ((rest : List ℕ) → same ≡ 46 ∷ rest → ⊥) → 45 ∷ [] ≡ place_text bs
 undotted [] same dotted e none = refl
 undotted (b ∷ rest) same dotted e none = let first : b ≡ 46 = grind arith in absurd (none rest (rw (← first) e))
 
