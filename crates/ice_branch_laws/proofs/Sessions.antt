@@ -12,7 +12,7 @@ use Rattle.ice_defs.specs.declared.Group.{Group}
 use Rattle.ice_defs.specs.declared.Group.TheVariants.{Final, Rival, Provisional, Without}
 use Rattle.ice_defs.specs.Exchange.{Bidder, Exchange, trees_of, exact_of, opening_bounds}
 use Rattle.ice_defs.specs.Session.{Proved, Going}
-use Rattle.ice_defs.specs.Right.{bounds_after_round}
+use Rattle.ice_headline_laws.specs.Right.{bounds_after_round}
 use Rattle.ice_search.specs.Results.{IsFoundBy}
 use Rattle.ice_search.specs.declared.results.Found.{Found}
 use Rattle.ice_regret.specs.declared.lead.Regret.{Regret}

@@ -19,7 +19,7 @@ use Rattle.ice_defs.specs.Group.{free_side}
 use Rattle.ice_defs.specs.Exchange.{Exchange, trees_of, exact_of, opening_bounds, IsBetween}
 use Rattle.ice_defs.specs.Lawful.{IsExchange}
 use Rattle.ice_defs.specs.Session.{Proved, Regretted}
-use Rattle.ice_defs.specs.Right.{IsBestFound}
+use Rattle.ice_headline_laws.specs.Right.{IsBestFound}
 use Rattle.ice_defs.proofs.Lists.{all-append}
 use Rattle.ice_defs.proofs.Starts.{meets_free_side}
 use Rattle.ice_regret_laws.proofs.Perturbed.{perturbed_gives_regret}

@@ -13,6 +13,9 @@ int_le-from a b l = grind (arith, ints)
 pub int_le-true : (a b : ℤ) → int_le a b ≡ true → a ≤ℤ b
 int_le-true a b e = grind (arith, ints)
 
+pub int_le-false : (a b : ℤ) → int_le a b ≡ false → b ≤ℤ a
+int_le-false a b e = grind (arith, ints)
+
 pub int_lt-not : (a b : ℤ) → b ≤ℤ a → int_lt a b ≡ false
 int_lt-not a b l = grind (arith, ints)
 

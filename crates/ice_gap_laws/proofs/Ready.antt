@@ -13,7 +13,7 @@ use Rattle.ice_defs.specs.Bounds.{Bounds}
 use Rattle.ice_defs.specs.Weighing.{lower_weights}
 use Rattle.ice_defs.specs.Exchange.{Exchange, trees_of, exact_of, opening_bounds}
 use Rattle.ice_defs.specs.Session.{Proved, Going}
-use Rattle.ice_defs.specs.Right.{IsBestFound}
+use Rattle.ice_headline_laws.specs.Right.{IsBestFound}
 use Rattle.ice_journal_laws.proofs.Past.{IsPast}
 use Rattle.ice_journal_laws.proofs.Grouping.{so_far}
 use Rattle.ice_journal.specs.Records.{Record, Version, version_1, version_2, Kind, assign_kind, regret_kind, session_kind, exchange_kind, prices_kind}

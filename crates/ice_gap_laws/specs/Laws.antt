@@ -7,7 +7,7 @@ use Rattle.ice_defs.specs.Bounds.{Bounds}
 use Rattle.ice_defs.specs.Group.{start_of, group_weights}
 use Rattle.ice_defs.specs.Exchange.{Exchange, trees_of, exact_of, opening_bounds}
 use Rattle.ice_defs.specs.Weighing.{lower_weights}
-use Rattle.ice_defs.specs.Right.{bounds_after_rounds}
+use Rattle.ice_headline_laws.specs.Right.{bounds_after_rounds}
 use Rattle.ice_journal_laws.specs.Stops.{AreGoing}
 use Rattle.ice_defs.specs.declared.Group.TheVariants.{Rival}
 use Rattle.ice_defs.specs.Lawful.{IsExchange}

@@ -1,6 +1,7 @@
 -- Every right session has the headline.
-use Rattle.std.proofs.Common.{ℕ, ◌<◌, ◌≡◌, List, length, slice_index_or, sym, subst, ◌∙◌, arith, ap, ℤ, pos, ◌≤ℤ◌}
+use Rattle.std.proofs.Common.{ℕ, ◌<◌, ◌≡◌, List, length, slice_index_or, sym, subst, ◌∙◌, arith, ap, Bool, true, false, refl, ℤ, pos, ◌≤ℤ◌, int_le}
 use Rattle.std.specs.List.{AllByRecursion}
+use Rattle.std.proofs.lemmas.Int.{ints}
 use Rattle.std.proofs.lemmas.List.{length-map}
 use Rattle.ice_defs.specs.Sum.{sum_over}
 use Rattle.ice_defs.specs.Set.{value}
@@ -10,15 +11,17 @@ use Rattle.ice_defs.specs.Weighing.{lower_weights}
 use Rattle.ice_defs.specs.Fraction.{whole_number, IsFraction, Equals, AtMost, sum_of, fraction_at}
 use Rattle.ice_defs.specs.Exchange.{Exchange, trees_of, market_of, opening_bounds}
 use Rattle.ice_defs.specs.Session.{Closed}
-use Rattle.ice_defs.specs.Right.{IsClosed, own_values, vickreys_of, discounts_of, payments_of, final_bounds}
-use Rattle.ice_defs.specs.Headline.{NobodyOverpays, RightGivesHeadline}
+use Rattle.ice_headline_laws.specs.Right.{IsClosed, own_values, vickreys_of, discounts_of, payments_of, final_bounds}
+use Rattle.ice_headline_laws.specs.Headline.{NobodyOverpays, RightGivesHeadline}
 use Rattle.ice_regret_laws.proofs.Trades.{assignments_trade, regret_bounds_trades}
 use Rattle.ice_regret_laws.proofs.Worths.{worth_covers_lower}
 use Rattle.ice_headline_laws.proofs.Last.{last_is_closed}
 use Rattle.ice_headline_laws.proofs.OwnValues.{own_count, own_at, own_sum}
-use Rattle.ice_headline_laws.proofs.Sums.{all_proper, sum_is_surplus, nothing_left}
+use Rattle.ice_headline_laws.proofs.Sums.{all_proper, sum_is_surplus, nothing_left, surplus_left}
+use Rattle.ice_headline_laws.proofs.Vickreys.{stated_vickreys}
 use Rattle.ice_headline_laws.proofs.Charged.{payment_high, charge_high}
-use Rattle.ice_frac.proofs.Fractions.{proper_sum}
+use Rattle.ice_defs.proofs.Integers.{int_le-true, int_le-false}
+use Rattle.ice_frac.proofs.Fractions.{proper_sum, AtMost_from_Equals}
 
 -- what is so of the last settlement
 module _ (ex : Exchange) (bounds : List Bounds) (c : Closed) (is : IsClosed ex bounds c) where
@@ -58,6 +61,16 @@ module _ (ex : Exchange) (bounds : List Bounds) (c : Closed) (is : IsClosed ex b
   pub no_surplus : c.settlement.final.value ≤ℤ sum_over (λ v. v) (vickreys_of c) → Equals c.surplus (whole_number (pos 0))
   no_surplus enough = nothing_left c.settlement.final.value (discounts_of c) c.surplus proper_discounts is.surplus (is.discounts.spent enough)
 
+  pub no_deficit : AtMost (whole_number (pos 0)) c.surplus
+  no_deficit = by (int_le c.settlement.final.value (sum_over (λ v. v) (vickreys_of c))) refl
+    where
+      by : (b : Bool) → int_le c.settlement.final.value (sum_over (λ v. v) (vickreys_of c)) ≡ b → AtMost (whole_number (pos 0)) c.surplus
+      by true e =
+          AtMost_from_Equals (whole_number (pos 0)) c.surplus (sym (no_surplus (int_le-true c.settlement.final.value (sum_over (λ v. v) (vickreys_of c)) e)))
+      by false e =
+          let above = int_le-false c.settlement.final.value (sum_over (λ v. v) (vickreys_of c)) e in
+          surplus_left c.settlement.final.value (vickreys_of c) (discounts_of c) c.surplus is.discounts.within proper_discounts is.surplus (omega (arith, ints, above))
+
   -- ---- nobody pays too much
 
   payment-high : (b : ℕ) → b < length bounds → AtMost (fraction_at (payments_of c) b) (whole_number (value (set_of c.settlement.final.sets b) (weights_of (lower_weights bounds) b)))
@@ -80,13 +93,17 @@ right_gives_headline s right =
     let c : Closed = s.closed in
     let is : IsClosed ex bounds c = last_is_closed ex 0 (opening_bounds ex) s.going c right.settlements in
     record {
+      final_trade = assignments_trade (market_of ex) c.settlement.final.sets right.exchange.owned is.settled.final.feasible;
       no_trade_beats = regret_bounds_trades (market_of ex) bounds c.settlement.final.sets c.settlement.regret is.settled.final.feasible is.settled.regret;
       regret = is.settled.regret;
-      final_trade = assignments_trade (market_of ex) c.settlement.final.sets right.exchange.owned is.settled.final.feasible;
+      total = is.settled.final.value;
+      best = is.settled.final.best;
+      vickreys = stated_vickreys s right;
+      discounts = is.discounts;
+      payments = is.payments;
       proper = (is.surplus.0, proper_payments ex bounds c is);
-      sum = payments_are_surplus ex bounds c is;
-      no_surplus = no_surplus ex bounds c is;
-      discounts = is.discounts.within;
-      fair = is.discounts.fair;
       nobody_overpays = nobody_overpays ex bounds c is;
+      sum = payments_are_surplus ex bounds c is;
+      no_deficit = no_deficit ex bounds c is;
+      no_surplus = no_surplus ex bounds c is;
     }

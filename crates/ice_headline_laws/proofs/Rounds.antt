@@ -4,7 +4,7 @@ use Rattle.std.proofs.lemmas.List.{length-map}
 use Rattle.ice_defs.specs.Bounds.{Bounds}
 use Rattle.ice_defs.specs.Exchange.{Exchange, opening_bounds}
 use Rattle.ice_defs.specs.Session.{Going, Closed}
-use Rattle.ice_defs.specs.Right.{IsRightFrom, bounds_after_round, bounds_after_rounds}
+use Rattle.ice_headline_laws.specs.Right.{IsRightFrom, bounds_after_round, bounds_after_rounds}
 use Rattle.ice_round_laws.specs.Keeping.{HaveBounds}
 use Rattle.ice_round_laws.proofs.Keeping.{rounds_keep_bounds, opening_have_bounds}
 use Rattle.ice_headline_laws.specs.Promises.{FinalBoundsAreBounds}

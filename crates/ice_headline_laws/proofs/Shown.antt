@@ -6,7 +6,7 @@ use Rattle.ice_defs.specs.Bounds.{Bounds}
 use Rattle.ice_defs.specs.Weighing.{perturbed_weights}
 use Rattle.ice_defs.specs.Exchange.{Exchange, trees_of, exact_of, opening_bounds, market_of}
 use Rattle.ice_defs.specs.Session.{Closed}
-use Rattle.ice_defs.specs.Right.{IsClosed, final_bounds}
+use Rattle.ice_headline_laws.specs.Right.{IsClosed, final_bounds}
 use Rattle.ice_regret_laws.proofs.Perturbed.{perturbed_attains}
 use Rattle.ice_headline_laws.specs.Promises.{RivalShowsRegret}
 use Rattle.ice_headline_laws.proofs.Last.{last_is_closed}

@@ -1,13 +1,12 @@
 -- What else a right session promises: laws, as statements.
-use Rattle.std.specs.Prelude.{ℕ, ◌<◌, ◌≡◌, length, slice_index_or, pos}
+use Rattle.std.specs.Prelude.{◌≡◌}
 use Rattle.ice_defs.specs.Trade.{IsFeasible}
 use Rattle.ice_defs.specs.Bounds.{IsProfile}
-use Rattle.ice_defs.specs.Weighing.{lower_weights, perturbed_weights}
+use Rattle.ice_defs.specs.Weighing.{perturbed_weights}
 use Rattle.ice_defs.specs.Regret.{lead}
-use Rattle.ice_defs.specs.Vickrey.{IsVickrey}
 use Rattle.ice_defs.specs.Exchange.{trees_of, exact_of}
 use Rattle.ice_defs.specs.Session.{Session}
-use Rattle.ice_defs.specs.Right.{IsRight, vickreys_of, final_bounds}
+use Rattle.ice_headline_laws.specs.Right.{IsRight, final_bounds}
 use Rattle.ice_round_laws.specs.Keeping.{HaveBounds}
 
 -- each bidder has final bounds, and they are bounds of its tree
@@ -24,10 +23,3 @@ pub record ShowsRegret (s : Session) : Type 0 where
 
 abbrev pub RivalShowsRegret : Type 0
 RivalShowsRegret = (s : Session) → IsRight s → ShowsRegret s
-
--- each stated Vickrey discount is what the best of all is worth at
--- final lower values, above the best without that bidder
-abbrev pub StatedVickreys : Type 0
-StatedVickreys = (s : Session) → IsRight s → (b : ℕ) → b < length (trees_of s.exchange)
-    → IsVickrey (trees_of s.exchange) (exact_of s.exchange) (lower_weights (final_bounds s)) b
-    (slice_index_or (vickreys_of s.closed) b (pos 0))

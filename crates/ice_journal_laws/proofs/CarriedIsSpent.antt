@@ -9,7 +9,7 @@ use Rattle.ice_defs.specs.Searched.{IsSpentSearch}
 use Rattle.ice_defs.specs.Group.{start_of, group_weights, first_sets}
 use Rattle.ice_defs.specs.Exchange.{Exchange, trees_of, exact_of, opening_bounds}
 use Rattle.ice_defs.specs.Lawful.{IsExchange}
-use Rattle.ice_defs.specs.Right.{bounds_after_rounds}
+use Rattle.ice_headline_laws.specs.Right.{bounds_after_rounds}
 use Rattle.ice_defs.specs.Session.{Proved, Going}
 use Rattle.ice_refute.specs.Code.{CountsGoods}
 use Rattle.ice_journal.specs.Records.{Record, version_1, version_2, session_kind, spent_end}

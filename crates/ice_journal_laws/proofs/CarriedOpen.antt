@@ -6,7 +6,7 @@ use Rattle.ice_defs.specs.Bounds.{Bounds}
 use Rattle.ice_defs.specs.declared.Group.TheVariants.{Final}
 use Rattle.ice_defs.specs.Round.{Judged}
 use Rattle.ice_defs.specs.Exchange.{Exchange, exact_of, opening_bounds}
-use Rattle.ice_defs.specs.Right.{bounds_after_round}
+use Rattle.ice_headline_laws.specs.Right.{bounds_after_round}
 use Rattle.ice_defs.specs.Lawful.{IsExchange}
 use Rattle.ice_defs.specs.Session.{Going}
 use Rattle.ice_journal.specs.Records.{Record, Version, version_2, session_kind, open_end}

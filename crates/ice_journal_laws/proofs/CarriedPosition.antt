@@ -4,7 +4,7 @@ use Rattle.ice_defs.specs.Bounds.{Bounds}
 use Rattle.ice_defs.specs.declared.Group.TheVariants.{Final, Rival, Without}
 use Rattle.ice_defs.specs.Exchange.{Exchange, trees_of, exact_of, opening_bounds}
 use Rattle.ice_defs.specs.Lawful.{IsExchange}
-use Rattle.ice_defs.specs.Right.{bounds_after_rounds}
+use Rattle.ice_headline_laws.specs.Right.{bounds_after_rounds}
 use Rattle.ice_defs.specs.Session.{Going}
 use Rattle.ice_journal.specs.Records.{Record, Version, session_kind}
 use Rattle.ice_journal.specs.Records as line

@@ -7,7 +7,7 @@ use Rattle.ice_defs.specs.Bounds.{Bounds}
 use Rattle.ice_defs.specs.Rows.{Row}
 use Rattle.ice_defs.specs.Round.{Judged}
 use Rattle.ice_defs.specs.Exchange.{Exchange, exact_of, opening_bounds}
-use Rattle.ice_defs.specs.Right.{bounds_after_round}
+use Rattle.ice_headline_laws.specs.Right.{bounds_after_round}
 use Rattle.ice_defs.specs.Session.{Proved, Going, Closed, Session}
 use Rattle.ice_refute.specs.Code.{CountsGoods}
 use Rattle.ice_journal.specs.Records.{Record, version_2, session_kind, closed_end}

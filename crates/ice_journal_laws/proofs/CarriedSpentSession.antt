@@ -6,7 +6,7 @@ use Rattle.ice_defs.specs.Steps.{Side}
 use Rattle.ice_defs.specs.Log.{Passes}
 use Rattle.ice_defs.specs.Bounds.{Bounds}
 use Rattle.ice_defs.specs.Exchange.{Exchange, trees_of, exact_of, opening_bounds}
-use Rattle.ice_defs.specs.Right.{bounds_after_round, bounds_after_rounds}
+use Rattle.ice_headline_laws.specs.Right.{bounds_after_round, bounds_after_rounds}
 use Rattle.ice_defs.specs.Session.{Proved, Going}
 use Rattle.ice_refute.specs.Code.{CountsGoods}
 use Rattle.ice_journal.specs.Records.{Record, Version, version_1, version_2, session_kind, spent_end}

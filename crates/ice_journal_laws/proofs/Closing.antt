@@ -17,7 +17,7 @@ use Rattle.ice_defs.specs.Threshold.{vickrey_of, ArePayments}
 use Rattle.ice_defs.specs.Cut.{discount_at_cut, cut_sum, IsCut}
 use Rattle.ice_defs.specs.Exchange.{Bidder, Exchange, trees_of, exact_of, names_of}
 use Rattle.ice_defs.specs.Session.{Proved, Settlement, Payment}
-use Rattle.ice_defs.specs.Right.{own_values, IsSettled, IsClosed}
+use Rattle.ice_headline_laws.specs.Right.{own_values, IsSettled, IsClosed}
 use Rattle.ice_defs.proofs.Products.{times_one}
 use Rattle.ice_frac.proofs.Fractions.{AtMost-trans, AtMost-plus}
 use Rattle.ice_threshold.specs.CutOff.{IsCutDown, AreCutDown}

@@ -23,7 +23,7 @@ use Rattle.ice_defs.specs.Group.{free_side, start_of}
 use Rattle.ice_defs.specs.Exchange.{Exchange, trees_of, exact_of}
 use Rattle.ice_defs.specs.Lawful.{IsExchange}
 use Rattle.ice_defs.specs.Session.{Proved}
-use Rattle.ice_defs.specs.Right.{IsBestFound}
+use Rattle.ice_headline_laws.specs.Right.{IsBestFound}
 use Rattle.ice_journal.specs.Records.{Record, Version}
 use Rattle.ice_journal.specs.Records as line
 use Rattle.ice_journal.specs.Plain.{goods_in, all_zero, plain_records}

@@ -7,7 +7,7 @@ use Rattle.ice_defs.specs.Regret.{IsRegret}
 use Rattle.ice_defs.specs.Exchange.{Bidder, Exchange, trees_of, opening_bounds, market_of}
 use Rattle.ice_defs.specs.Lawful.{IsExchange}
 use Rattle.ice_defs.specs.Session.{Settlement, Going, Closed, closes}
-use Rattle.ice_defs.specs.Right.{IsSettled, IsGoing, IsClosed, IsRightFrom, bounds_after_round, bounds_after_rounds}
+use Rattle.ice_headline_laws.specs.Right.{IsSettled, IsGoing, IsClosed, IsRightFrom, bounds_after_round, bounds_after_rounds}
 use Rattle.ice_journal.specs.Records.{Record}
 use Rattle.ice_defs.specs.Conditions.{AreBoundsOf}
 use Rattle.ice_round_laws.proofs.Keeping.{rounds_keep_bounds, bounds_count, bounds_at, bounds_from}

@@ -12,7 +12,7 @@ use Rattle.ice_defs.specs.Bounds.{Bounds}
 use Rattle.ice_defs.specs.Exchange.{Exchange, Bidder, opening_bounds}
 use Rattle.ice_defs.specs.Lawful.{IsExchange}
 use Rattle.ice_defs.specs.Session.{Proved, Settlement}
-use Rattle.ice_defs.specs.Right.{IsBestFound}
+use Rattle.ice_headline_laws.specs.Right.{IsBestFound}
 use Rattle.ice_journal.specs.Records.{Record, Version, Kind, regret_kind, regret_end}
 use Rattle.ice_journal.specs.Records as line
 use Rattle.ice_journal.specs.Ranges.{IsRecord}

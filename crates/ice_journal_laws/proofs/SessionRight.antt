@@ -4,7 +4,7 @@ use Rattle.std.specs.Prelude.{Some, None}
 use Rattle.std.specs.List.{AllByRecursion}
 use Rattle.std.proofs.lemmas.Option.{none-some}
 use Rattle.std.proofs.lemmas.List.{append-nil, append_assoc}
-use Rattle.ice_defs.specs.Headline.{RightGivesHeadline}
+use Rattle.ice_headline_laws.specs.Headline.{RightGivesHeadline}
 use Rattle.ice_defs.specs.declared.Group.TheVariants.{Final, Rival, Provisional, Without}
 use Rattle.ice_journal.specs.Records.{Record, Version, Kind, session_kind, closed_end}
 use Rattle.ice_journal.specs.Records as line

@@ -16,7 +16,7 @@ use Rattle.ice_defs.specs.Fraction.{Fraction, IsFraction}
 use Rattle.ice_defs.specs.Exchange.{Exchange, trees_of, exact_of, names_of}
 use Rattle.ice_defs.specs.declared.Group.TheVariants.{Final, Rival, Provisional, Without}
 use Rattle.ice_defs.specs.Session.{Proved, Settlement, Going, Payment, Closed, closes}
-use Rattle.ice_defs.specs.Right.{IsBestFound, IsGoing, IsClosed, payments_of}
+use Rattle.ice_headline_laws.specs.Right.{IsBestFound, IsGoing, IsClosed, payments_of}
 use Rattle.ice_journal_laws.specs.Theorems.{ArePaidByCut}
 use Rattle.ice_journal.specs.Records.{Record, Version, session_kind, closed_end}
 use Rattle.ice_journal.specs.Records as line

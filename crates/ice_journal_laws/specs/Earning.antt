@@ -12,7 +12,7 @@ use Rattle.ice_defs.specs.declared.Group.TheVariants.{Final, Rival, Provisional,
 use Rattle.ice_defs.specs.Group.{start_of, first_sets, empty_sets}
 use Rattle.ice_defs.specs.Exchange.{Exchange, trees_of, exact_of}
 use Rattle.ice_defs.specs.Session.{Proved, Settlement, Going}
-use Rattle.ice_defs.specs.Right.{bounds_after_round}
+use Rattle.ice_headline_laws.specs.Right.{bounds_after_round}
 use Rattle.ice_journal_laws.specs.State.{State, trees_at, exact_at, weights_at}
 use Rattle.ice_journal_laws.specs.Tests.{Taken}
 

@@ -17,7 +17,7 @@ use Rattle.ice_defs.specs.Fraction.{Fraction}
 use Rattle.ice_defs.specs.Exchange.{Exchange, trees_of, exact_of, names_of, opening_bounds}
 use Rattle.ice_defs.specs.Lawful.{IsExchange}
 use Rattle.ice_defs.specs.Session.{Proved, Going, Payment, Closed, Session, closes, standings}
-use Rattle.ice_defs.specs.Right.{bounds_after_round}
+use Rattle.ice_headline_laws.specs.Right.{bounds_after_round}
 use Rattle.ice_journal.specs.Records.{Record, Version, session_kind, closed_end}
 use Rattle.ice_journal.specs.Records as line
 use Rattle.ice_section.specs.Described.{section_records}

@@ -3,7 +3,7 @@ use Rattle.std.specs.Prelude.{ℕ, suc, ◌≡◌, false, List, [], ◌∷◌, �
 use Rattle.ice_defs.specs.Bounds.{Bounds}
 use Rattle.ice_defs.specs.Exchange.{Exchange}
 use Rattle.ice_defs.specs.Session.{closes, Going}
-use Rattle.ice_defs.specs.Right.{IsGoing, bounds_after_round}
+use Rattle.ice_headline_laws.specs.Right.{IsGoing, bounds_after_round}
 use Rattle.ice_journal.specs.Records.{Record, version_1, Kind, regret_kind, spent_end}
 use Rattle.ice_journal_laws.specs.Written.{going_records}
 use Rattle.ice_defs.specs.Trade.{Assignment}

@@ -8,8 +8,8 @@ use Rattle.ice_defs.specs.Cut.{discount_at_cut}
 use Rattle.ice_defs.specs.Exchange.{trees_of, exact_of, opening_bounds}
 use Rattle.ice_defs.specs.Lawful.{IsExchange}
 use Rattle.ice_defs.specs.Session.{Assigned, Regretted, Session}
-use Rattle.ice_defs.specs.Right.{IsSettled, IsRight, final_bounds, payments_of}
-use Rattle.ice_defs.specs.Headline.{Headline}
+use Rattle.ice_headline_laws.specs.Right.{IsSettled, IsRight, final_bounds, payments_of}
+use Rattle.ice_headline_laws.specs.Headline.{Headline}
 use Rattle.ice_journal.specs.Records.{Record, Kind, assign_kind, regret_kind, session_kind}
 use Rattle.ice_journal.specs.Records as line
 use Rattle.ice_journal.specs.Ranges.{IsRecord}

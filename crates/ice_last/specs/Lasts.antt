@@ -2,7 +2,7 @@
 -- is none.
 use Rattle.std.specs.Prelude.{ℕ, ◌≡◌, List, Some, Result, Ok, Err}
 use Rattle.ice_defs.specs.Session.{Session}
-use Rattle.ice_defs.specs.Right.{IsRight, final_bounds, payments_of}
+use Rattle.ice_headline_laws.specs.Right.{IsRight, final_bounds, payments_of}
 use Rattle.ice_journal.specs.Records.{Record, session_kind}
 use Rattle.ice_journal.specs.Journal.{grammar, unended, IsLinesFault}
 use Rattle.ice_journal_laws.specs.Checks.{Checks, FirstFailure}

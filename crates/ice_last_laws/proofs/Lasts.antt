@@ -15,7 +15,7 @@ use Rattle.ice_row_laws.specs.Laws.{AreSatisfied}
 use Rattle.ice_defs.specs.Bounds.{Bounds}
 use Rattle.ice_defs.specs.Trade.{Assignment}
 use Rattle.ice_defs.specs.Session.{Going, Payment, Closed, Session}
-use Rattle.ice_defs.specs.Right.{IsRightFrom, IsClosed, final_bounds, payments_of, bounds_after_round, bounds_after_rounds}
+use Rattle.ice_headline_laws.specs.Right.{IsRightFrom, IsClosed, final_bounds, payments_of, bounds_after_round, bounds_after_rounds}
 use Rattle.ice_defs.proofs.Lists.{all_push}
 use Rattle.ice_frac.proofs.Gcd.{gcd_is, gcd_comm, dvd_from_coprime}
 use Rattle.ice_pricing_laws.proofs.Lists.{all-map, all-each, all-at}

@@ -4,7 +4,7 @@ use Rattle.std.specs.List.{AllByRecursion}
 use Rattle.ice_defs.specs.Fraction.{Fraction}
 use Rattle.ice_defs.specs.Exchange.{trees_of}
 use Rattle.ice_defs.specs.Session.{Payment, Session}
-use Rattle.ice_defs.specs.Right.{IsRight, final_bounds, payments_of}
+use Rattle.ice_headline_laws.specs.Right.{IsRight, final_bounds, payments_of}
 use Rattle.ice_journal.specs.Records.{Record, session_kind}
 use Rattle.ice_journal.specs.Records as line
 use Rattle.ice_journal.specs.Ranges.{IsRecord, IsFractionField}

@@ -17,7 +17,7 @@ use Rattle.ice_defs.specs.Round.{Submission, Judged, Standing, stated_bounds, is
 use Rattle.ice_defs.specs.Exchange.{Bidder, Exchange, names_of, opening_bounds}
 use Rattle.ice_defs.specs.Lawful.{AreBounds, IsExchange}
 use Rattle.ice_defs.specs.Session.{standings_from, standings, Going, Closed}
-use Rattle.ice_defs.specs.Right.{IsRightFrom, bounds_after_round, bounds_after_rounds, final_bounds}
+use Rattle.ice_headline_laws.specs.Right.{IsRightFrom, bounds_after_round, bounds_after_rounds, final_bounds}
 use Rattle.ice_defs.proofs.Naming.{bytes_eq-same}
 use Rattle.ice_round_laws.specs.Keeping.{HaveBounds}
 use Rattle.ice_round_laws.proofs.Keeping.{rounds_keep_bounds, opening_have_bounds, bounds_count}

@@ -12,7 +12,7 @@ use Rattle.ice_defs.specs.Round.{Standing}
 use Rattle.ice_defs.specs.Exchange.{opening_bounds, market_of}
 use Rattle.ice_defs.specs.Lawful.{AreBounds}
 use Rattle.ice_defs.specs.Session.{Session}
-use Rattle.ice_defs.specs.Right.{IsRight, final_bounds}
+use Rattle.ice_headline_laws.specs.Right.{IsRight, final_bounds}
 use Rattle.ice_proxy.specs.Proposals.{proposal, IsAcceptable, IsProxyAttempt}
 use Rattle.ice_proxy.specs.Sessions.{IsProxySession, HoldTruths, HoldThroughout}
 

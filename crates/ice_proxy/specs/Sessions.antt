@@ -7,7 +7,7 @@ use Rattle.ice_defs.specs.Prices.{Prices}
 use Rattle.ice_defs.specs.Round.{Judged, Standing}
 use Rattle.ice_defs.specs.Exchange.{Exchange, opening_bounds}
 use Rattle.ice_defs.specs.Session.{standings, Going, Session}
-use Rattle.ice_defs.specs.Right.{bounds_after_round}
+use Rattle.ice_headline_laws.specs.Right.{bounds_after_round}
 use Rattle.ice_proxy.specs.Proposals.{IsProxyBid}
 
 -- one submission per bidder in order, each its proxy bid

@@ -11,7 +11,7 @@ use Rattle.ice_defs.specs.Round.{Submission, Judged, Standing, next_bounds}
 use Rattle.ice_defs.specs.declared.Verdict.{Verdict}
 use Rattle.ice_defs.specs.Exchange.{Exchange, exact_of, opening_bounds}
 use Rattle.ice_defs.specs.Session.{Going, Closed, closes, standings}
-use Rattle.ice_defs.specs.Right.{bounds_after_round, bounds_after_rounds}
+use Rattle.ice_headline_laws.specs.Right.{bounds_after_round, bounds_after_rounds}
 use Rattle.ice_journal.specs.Records.{Record, Version, session_kind}
 use Rattle.ice_journal.specs.Records as line
 use Rattle.ice_section.specs.Described.{section_records}

@@ -7,7 +7,7 @@ use Rattle.ice_defs.specs.Round.{Judged, Standing}
 use Rattle.ice_defs.specs.Exchange.{Exchange, exact_of, opening_bounds}
 use Rattle.ice_defs.specs.Lawful.{IsExchange}
 use Rattle.ice_defs.specs.Session.{Going, Session, closes, standings}
-use Rattle.ice_defs.specs.Right.{bounds_after_rounds}
+use Rattle.ice_headline_laws.specs.Right.{bounds_after_rounds}
 use Rattle.ice_journal.specs.Records.{Record, Version, session_kind}
 use Rattle.ice_journal.specs.Records as line
 use Rattle.ice_section.specs.Described.{section_records}

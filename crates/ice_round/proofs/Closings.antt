@@ -10,7 +10,7 @@ use Rattle.ice_defs.specs.Cut.{IsCut}
 use Rattle.ice_defs.specs.Threshold.{IsThreshold, ArePayments, IsSurplus}
 use Rattle.ice_defs.specs.Exchange.{trees_of, exact_of, names_of}
 use Rattle.ice_defs.specs.Session.{Payment}
-use Rattle.ice_defs.specs.Right.{own_values, IsClosed}
+use Rattle.ice_headline_laws.specs.Right.{own_values, IsClosed}
 use Rattle.ice_defs.proofs.Below.{length-numbers_below, get_or-numbers_below}
 use Rattle.ice_headline_laws.proofs.OwnValues.{own_count}
 use Rattle.ice_trade.proofs.Weighted.{length-trees, length-names}

@@ -8,7 +8,7 @@ use Rattle.ice_defs.specs.Group.{empty_sets}
 use Rattle.ice_defs.specs.Pricing.{IsBalanced}
 use Rattle.ice_defs.specs.Exchange.{Settings, Good, trees_of}
 use Rattle.ice_defs.specs.Session.{closes, standings}
-use Rattle.ice_defs.specs.Right.{IsGoing}
+use Rattle.ice_headline_laws.specs.Right.{IsGoing}
 use Rattle.ice_round_laws.proofs.Taking.{rounds_begin}
 use Rattle.ice_search.specs.Results.{proved_found, IsFoundBy}
 use Rattle.ice_price.specs.Ends.{IsPriced}

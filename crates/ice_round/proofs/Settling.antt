@@ -9,7 +9,7 @@ use Rattle.ice_defs.specs.Group.{free_side, empty_sets}
 use Rattle.ice_defs.specs.Searched.{IsFound}
 use Rattle.ice_defs.specs.Session.{Proved}
 use Rattle.ice_defs.specs.Exchange.{Exchange, trees_of, exact_of}
-use Rattle.ice_defs.specs.Right.{IsBestFound}
+use Rattle.ice_headline_laws.specs.Right.{IsBestFound}
 use Rattle.ice_defs.proofs.Starts.{meets_free_side}
 use Rattle.ice_defs.proofs.EmptySets.{empty_feasible, total_value-empty}
 use Rattle.ice_refute.specs.Code.{CountsGoods}

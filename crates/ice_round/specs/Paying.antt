@@ -3,7 +3,7 @@ use Rattle.std.specs.Prelude.{List, map, ℤ}
 use Rattle.ice_defs.specs.Bounds.{Bounds}
 use Rattle.ice_defs.specs.Cut.{IsCut}
 use Rattle.ice_defs.specs.Threshold.{IsThreshold, ArePayments, IsSurplus}
-use Rattle.ice_defs.specs.Right.{own_values}
+use Rattle.ice_headline_laws.specs.Right.{own_values}
 use Rattle.ice_threshold.specs.CutOff.{AreCutDown}
 use Rattle.ice_threshold.specs.Limits.{AreShort}
 use Rattle.ice_threshold.specs.declared.payments.Payments.{Payments}

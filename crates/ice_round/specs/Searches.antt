@@ -2,7 +2,7 @@
 use Rattle.std.specs.Prelude.{ℕ, ◌+◌}
 use Rattle.ice_defs.specs.Steps.{branch_count}
 use Rattle.ice_defs.specs.Weighing.{weighted_weights}
-use Rattle.ice_defs.specs.Right.{IsSettled}
+use Rattle.ice_headline_laws.specs.Right.{IsSettled}
 use Rattle.ice_search.specs.Instance.{Instance, empty_search}
 use Rattle.ice_search.specs.Results.{IsFoundBy}
 use Rattle.ice_search.specs.declared.results.Found.{Found}

@@ -3,7 +3,7 @@ use Rattle.std.specs.Prelude.{◌+◌, ◌≤◌, ◌≡◌, false, IsTrue, [], 
 use Rattle.ice_defs.specs.Steps.{branch_count}
 use Rattle.ice_defs.specs.Weighing.{weighted_weights}
 use Rattle.ice_defs.specs.Session.{closes}
-use Rattle.ice_defs.specs.Right.{IsClosed, IsGoing}
+use Rattle.ice_headline_laws.specs.Right.{IsClosed, IsGoing}
 use Rattle.ice_search.specs.Results.{IsFoundBy}
 use Rattle.ice_threshold.specs.CutOff.{AreCutDown}
 use Rattle.ice_threshold.specs.Limits.{AreShort}

@@ -1,7 +1,7 @@
 //! What the bidders of a settlement that closes pay.
 ghost use Rattle.std.specs.Prelude.{◌≡◌, ◌<◌, ◌≤◌, length, map, pos, neg_ℤ, ◌≤ℤ◌, All, IfOk};
 ghost use Rattle.ice_defs.specs.Exchange.{trees_of, exact_of};
-ghost use Rattle.ice_defs.specs.Right.{own_values};
+ghost use Rattle.ice_headline_laws.specs.Right.{own_values};
 ghost use Rattle.ice_defs.specs.Set.{value};
 ghost use Rattle.ice_defs.specs.Trade.{set_of, weights_of, IsFeasible, total_value};
 ghost use Rattle.ice_defs.specs.Weighing.{lower_weights};

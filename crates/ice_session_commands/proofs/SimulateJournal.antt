@@ -10,7 +10,7 @@ use Rattle.ice_defs.specs.Bounds.{Bounds}
 use Rattle.ice_defs.specs.Round.{Submission}
 use Rattle.ice_defs.specs.Exchange.{Exchange, exact_of, opening_bounds}
 use Rattle.ice_defs.specs.Session.{Going, standings}
-use Rattle.ice_defs.specs.Right.{bounds_after_rounds, bounds_after_round}
+use Rattle.ice_headline_laws.specs.Right.{bounds_after_rounds, bounds_after_round}
 use Rattle.ice_journal.specs.Records.{Record, version_2, session_kind}
 use Rattle.ice_journal.specs.Records as line
 use Rattle.ice_journal.specs.Ranges.{IsRecord}

@@ -4,8 +4,8 @@ use Rattle.ice_edge.specs.declared.status.Status.{Status}
 use Rattle.ice_edge.specs.declared.status.Status.TheVariants.{Done, Input, Spent, Limit, ReadFault, NoMemory, StillOpen}
 use Rattle.ice_defs.specs.FileFault.{FileFault}
 use Rattle.ice_defs.specs.Session.{Session}
-use Rattle.ice_defs.specs.Right.{IsRight}
-use Rattle.ice_defs.specs.Headline.{Headline}
+use Rattle.ice_headline_laws.specs.Right.{IsRight}
+use Rattle.ice_headline_laws.specs.Headline.{Headline}
 use Rattle.ice_journal.specs.Records.{Record, session_kind}
 use Rattle.ice_journal.specs.Records as line
 use Rattle.ice_journal.specs.Journal.{bytes_of, IsJournal}

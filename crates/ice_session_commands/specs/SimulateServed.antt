@@ -6,8 +6,8 @@ use Rattle.ice_edge.specs.declared.status.Status.TheVariants.{Done, Input, Spent
 use Rattle.ice_defs.specs.FileFault.{FileFault}
 use Rattle.ice_defs.specs.Exchange.{Exchange, opening_bounds}
 use Rattle.ice_defs.specs.Session.{Session}
-use Rattle.ice_defs.specs.Right.{IsRight}
-use Rattle.ice_defs.specs.Headline.{Headline}
+use Rattle.ice_headline_laws.specs.Right.{IsRight}
+use Rattle.ice_headline_laws.specs.Headline.{Headline}
 use Rattle.ice_journal.specs.Records.{Record, version_2, session_kind}
 use Rattle.ice_journal.specs.Journal.{bytes_of, IsJournal}
 use Rattle.ice_journal_laws.specs.State.{begun}

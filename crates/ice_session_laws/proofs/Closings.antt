@@ -15,7 +15,7 @@ use Rattle.ice_defs.specs.Cut.{IsCut, discount_at_cut, cut_sum}
 use Rattle.ice_defs.specs.Exchange.{Exchange, trees_of, exact_of, names_of}
 use Rattle.ice_defs.specs.Lawful.{IsExchange}
 use Rattle.ice_defs.specs.Session.{Proved, Payment, Closed}
-use Rattle.ice_defs.specs.Right as right
+use Rattle.ice_headline_laws.specs.Right as right
 use Rattle.ice_frac.proofs.Fractions.{Equals-trans, Equals-less, proper_sum, proper_less}
 use Rattle.ice_frac.proofs.Gcd.{IsGcd-gcd}
 use Rattle.ice_headline_laws.proofs.OwnValues.{own_count, own_at}

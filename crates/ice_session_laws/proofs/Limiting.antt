@@ -12,7 +12,7 @@ use Rattle.ice_defs.specs.Group.{empty_sets}
 use Rattle.ice_defs.specs.Exchange.{Good, Exchange, trees_of, exact_of, opening_bounds}
 use Rattle.ice_defs.specs.Lawful.{IsExchange}
 use Rattle.ice_defs.specs.Session.{Going, Proved, Settlement, closes}
-use Rattle.ice_defs.specs.Right.{bounds_after_rounds}
+use Rattle.ice_headline_laws.specs.Right.{bounds_after_rounds}
 use Rattle.ice_defs.proofs.Lists.{all-append}
 use Rattle.ice_defs.specs.Conditions.{AreBoundsOf, AreWeightsOf}
 use Rattle.ice_bound.proofs.Modest.{weighted_modest}

@@ -11,7 +11,7 @@ use Rattle.ice_defs.specs.Round.{Judged, Standing, IsNextVerdict, next_bounds}
 use Rattle.ice_defs.specs.Exchange.{Exchange, exact_of, opening_bounds}
 use Rattle.ice_defs.specs.Lawful.{IsExchange}
 use Rattle.ice_defs.specs.Session.{Going, closes, standings}
-use Rattle.ice_defs.specs.Right.{bounds_after_round, bounds_after_rounds}
+use Rattle.ice_headline_laws.specs.Right.{bounds_after_round, bounds_after_rounds}
 use Rattle.ice_defs.proofs.Lists.{all-append}
 use Rattle.ice_round_laws.proofs.Taking.{rounds_go_on}
 use Rattle.ice_bound.proofs.Living.{opening_are_bounds}

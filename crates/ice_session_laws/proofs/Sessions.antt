@@ -7,7 +7,7 @@ use Rattle.ice_defs.specs.Sweep.{EarnsStep}
 use Rattle.ice_defs.specs.Exchange.{Exchange, exact_of, opening_bounds}
 use Rattle.ice_defs.specs.Lawful.{IsExchange}
 use Rattle.ice_defs.specs.Session.{Going, Closed, Session, closes}
-use Rattle.ice_defs.specs.Right.{bounds_after_round, bounds_after_rounds, IsRight}
+use Rattle.ice_headline_laws.specs.Right.{bounds_after_round, bounds_after_rounds, IsRight}
 use Rattle.ice_defs.proofs.Lists.{all-append}
 use Rattle.ice_headline_laws.proofs.Promised.{right_gives_headline}
 use Rattle.ice_journal.specs.Records.{Record, Version, version_2, session_kind}

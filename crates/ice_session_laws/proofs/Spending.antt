@@ -15,7 +15,7 @@ use Rattle.ice_defs.specs.Group.{start_of, empty_sets}
 use Rattle.ice_defs.specs.Exchange.{Exchange, trees_of, exact_of, opening_bounds}
 use Rattle.ice_defs.specs.Lawful.{IsExchange}
 use Rattle.ice_defs.specs.Session.{Going}
-use Rattle.ice_defs.specs.Right.{bounds_after_rounds}
+use Rattle.ice_headline_laws.specs.Right.{bounds_after_rounds}
 use Rattle.ice_defs.proofs.Lists.{all-append}
 use Rattle.ice_defs.specs.Conditions.{AreBoundsOf, AreWeightsOf}
 use Rattle.ice_bound.proofs.Modest.{lower_modest, weighted_modest, perturbed_modest}

@@ -6,7 +6,7 @@ use Rattle.ice_defs.specs.Sweep.{EarnsStep}
 use Rattle.ice_defs.specs.Exchange.{trees_of, exact_of, opening_bounds}
 use Rattle.ice_defs.specs.Lawful.{IsExchange}
 use Rattle.ice_defs.specs.Session.{Going, closes}
-use Rattle.ice_defs.specs.Right.{IsGoing, bounds_after_rounds}
+use Rattle.ice_headline_laws.specs.Right.{IsGoing, bounds_after_rounds}
 use Rattle.ice_defs.specs.Conditions.{AreBoundsOf}
 use Rattle.ice_journal.specs.Records.{version_2}
 use Rattle.ice_journal.specs.Ranges.{IsRecord}

@@ -3,8 +3,8 @@
 use Rattle.std.specs.Prelude.{List, ◌∷◌, ◌++◌, length, None}
 use Rattle.ice_defs.specs.Exchange.{Exchange, exact_of}
 use Rattle.ice_defs.specs.Session.{Going, Session}
-use Rattle.ice_defs.specs.Right.{IsRight}
-use Rattle.ice_defs.specs.Headline.{Headline}
+use Rattle.ice_headline_laws.specs.Right.{IsRight}
+use Rattle.ice_headline_laws.specs.Headline.{Headline}
 use Rattle.ice_journal.specs.Records.{Record, version_2, session_kind}
 use Rattle.ice_journal.specs.Records as line
 use Rattle.ice_section.specs.Described.{section_records}

@@ -10,7 +10,7 @@ use Rattle.ice_defs.specs.Round.{Submission, Judged, Standing, next_bounds}
 use Rattle.ice_defs.specs.Exchange.{Bidder, Exchange, trees_of, names_of, opening_bounds}
 use Rattle.ice_defs.specs.Lawful.{AreBounds}
 use Rattle.ice_defs.specs.Session.{Going, standings}
-use Rattle.ice_defs.specs.Right.{bounds_after_round, bounds_after_rounds}
+use Rattle.ice_headline_laws.specs.Right.{bounds_after_round, bounds_after_rounds}
 use Rattle.ice_round_laws.specs.Keeping.{HaveBounds}
 use Rattle.ice_round_laws.proofs.Naming.{standings_are_named}
 use Rattle.ice_round.specs.SessionAt.{SessionAt, RoundAt, session_after}

@@ -15,7 +15,7 @@ use Rattle.ice_defs.specs.Set.{weight_of}
 use Rattle.ice_defs.specs.Bound.{Multipliers}
 use Rattle.ice_defs.specs.Exchange.{Good, Bidder, opening_bounds}
 use Rattle.ice_defs.specs.Session.{Going, Payment, Closed, Session}
-use Rattle.ice_defs.specs.Right.{IsRight}
+use Rattle.ice_headline_laws.specs.Right.{IsRight}
 use Rattle.ice_journal.specs.Records.{Record, version_2}
 use Rattle.ice_journal.specs.Records as line
 use Rattle.ice_journal.specs.Nodes.{node_record}

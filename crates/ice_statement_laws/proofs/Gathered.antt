@@ -21,7 +21,7 @@ use Rattle.ice_defs.specs.Round.{Judged, of_name}
 use Rattle.ice_defs.specs.Exchange.{Good, Bidder, Exchange, trees_of, exact_of, names_of, opening_bounds}
 use Rattle.ice_defs.specs.Trade.{Assignment, IsFeasible}
 use Rattle.ice_defs.specs.Bounds.{Bounds}
-use Rattle.ice_defs.specs.Right.{bounds_after_round, IsRightFrom, IsRight}
+use Rattle.ice_headline_laws.specs.Right.{bounds_after_round, IsRightFrom, IsRight}
 use Rattle.ice_defs.specs.Session.{Proved, Settlement, Going, Payment, Closed, Session}
 use Rattle.ice_journal.specs.Records.{Record, version_2, closed_end}
 use Rattle.ice_journal.specs.Records as line

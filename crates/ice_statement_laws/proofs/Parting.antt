@@ -24,7 +24,7 @@ use Rattle.ice_defs.specs.Market.{SellsOnlyOwned}
 use Rattle.ice_defs.specs.Exchange.{Good, Bidder, Exchange, trees_of, exact_of, opening_bounds, market_of}
 use Rattle.ice_defs.specs.Lawful.{IsBidder, IsExchange}
 use Rattle.ice_defs.specs.Session.{Going, Payment, Closed, Session, standings_from, standings}
-use Rattle.ice_defs.specs.Right.{own_values, IsGoing, IsClosed, bounds_after_round, IsRightFrom, IsRight}
+use Rattle.ice_headline_laws.specs.Right.{own_values, IsGoing, IsClosed, bounds_after_round, IsRightFrom, IsRight}
 use Rattle.ice_statement_laws.specs.Statement.{Own, IsOwn}
 use Rattle.ice_statement_laws.specs.Own.{IsOwnStep, IsOwnClosed, IsOwnFrom, IsRightOwn}
 use Rattle.ice_statement_laws.specs.Parts.{step_of, part_of, IsStated}

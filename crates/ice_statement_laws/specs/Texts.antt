@@ -3,7 +3,7 @@ use Rattle.std.specs.Prelude.{◌≡◌, ℕ, ◌+◌, ◌<◌, List, [], ◌∷
 use Rattle.std.specs.List.{AllByRecursion, flat_map}
 use Rattle.ice_defs.specs.Fraction.{Fraction}
 use Rattle.ice_defs.specs.Session.{Payment, Session}
-use Rattle.ice_defs.specs.Right.{IsRight}
+use Rattle.ice_headline_laws.specs.Right.{IsRight}
 use Rattle.ice_journal.specs.Records.{Record}
 use Rattle.ice_journal.specs.Ranges.{IsName, IsBits, IsRecord}
 use Rattle.ice_journal.specs.Journal.{LinesFault, grammar, unended, IsJournal}

@@ -10,8 +10,8 @@ use Rattle.ice_defs.specs.Vickrey.{IsVickrey}
 use Rattle.ice_defs.specs.Threshold.{IsThreshold}
 use Rattle.ice_defs.specs.Exchange.{Exchange, trees_of, exact_of}
 use Rattle.ice_defs.specs.Session.{Proved, Settlement}
-use Rattle.ice_defs.specs.Right as right
-use Rattle.ice_defs.specs.Right.{IsSettled}
+use Rattle.ice_headline_laws.specs.Right as right
+use Rattle.ice_headline_laws.specs.Right.{IsSettled}
 use Rattle.ice_vickrey.specs.Economy.{Economy}
 use Rattle.ice_vickrey.specs.Marginals.{proved_without, AreMarginalsFrom}
 use Rattle.ice_vickrey.specs.declared.marginal.Marginal.{Marginal}

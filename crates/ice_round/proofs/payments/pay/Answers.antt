@@ -4,7 +4,7 @@ use Rattle.std.proofs.lemmas.List.{length-map}
 use mir.Syntax.{w128}
 use mir.Val.{SFits}
 use Rattle.ice_defs.specs.Sum.{sum_over}
-use Rattle.ice_defs.specs.Right.{own_values}
+use Rattle.ice_headline_laws.specs.Right.{own_values}
 use Rattle.ice_headline_laws.proofs.OwnValues.{own_count, own_sum}
 use Rattle.ice_threshold.specs.Limits.{IsVickreyLimit}
 use Rattle.ice_trade.proofs.Weighted.{length-trees}
