@@ -1,8 +1,6 @@
 -- How a search for fair prices ends.
 use Rattle.std.specs.Prelude.{◌≡◌}
-use Rattle.ice_defs.specs.Prices.{Prices}
 use Rattle.ice_defs.specs.PricingLimit.{limit_of}
-use Rattle.ice_fair_laws.specs.Fair.{AreAccurate, HasViolationOf}
 use Rattle.ice_fair_laws.specs.FairRun.{EndsAtFairLimit}
 use Rattle.ice_pricing.specs.declared.certificate.Pricing.{Pricing}
 use Rattle.ice_price.specs.Ends.{IsPriceEnd, IsPriced}

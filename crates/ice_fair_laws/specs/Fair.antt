@@ -121,4 +121,5 @@ module _ (t : PaidTrade) (c : FairCertificate) where
     pub high_count : length c.high ≡ length t.trees
     pub rows : AllByRecursion (IsRow t.trees t.weights t.sets) c.rows
     pub numbers : total_held c ≤ c.den
-    pub equal : Equals (times (whole_number (pos c.den)) distance) (minus (plus held_payments (rows_above violation)) (whole_number (t.cap *ℤ demand)))
+    pub equal : Equals (times (whole_number (pos c.den)) distance)
+        (minus (plus held_payments (rows_above violation)) (whole_number (t.cap *ℤ demand)))

@@ -48,7 +48,7 @@ pub record Headline (s : Session) : Type 0 where
   -- isn't sold, and nobody gives what it doesn't own.
   pub final_trade : IsFeasibleTrade (market_of s.exchange) (trades_of (market_of s.exchange) (final_sets s))
   -- Efficient to within the regret: whatever the true values inside the final bounds are, no
-  -- feasible trade is worth more to all bidders together than the final one by more than the regret.
+  -- feasible trade is worth more than the final one by more than the regret, all bidders together.
   pub no_trade_beats : NoTradeBeatsBy (market_of s.exchange) (final_bounds s) (final_sets s) s.closed.settlement.regret
   -- The regret is exact: under some true values inside the final bounds, some feasible assignment
   -- is worth just that much more than the final one.
@@ -73,8 +73,8 @@ pub record Headline (s : Session) : Type 0 where
   -- Individually rational: whatever its true values inside its final bounds are, nobody pays more
   -- than its final trade is worth to it.
   pub nobody_overpays : NobodyOverpays (market_of s.exchange) (final_bounds s) (final_sets s) (payments_of s.closed)
-  -- Budget balance: the payments sum to the surplus, so none is paid from outside; and the surplus
-  -- is 0 where the Vickrey discounts sum to the total value or more.
+  -- Budget balance: the payments sum to the surplus, which is never below 0, so no money comes from
+  -- outside; and it is 0 where the Vickrey discounts sum to the total value or more.
   pub sum : Equals (sum_of (payments_of s.closed)) s.closed.surplus
   pub no_deficit : AtMost (whole_number (pos 0)) s.closed.surplus
   pub no_surplus : final_total s ≤ℤ sum_over (λ v. v) (vickreys_of s.closed) → Equals s.closed.surplus (whole_number (pos 0))

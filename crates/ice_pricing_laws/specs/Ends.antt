@@ -46,7 +46,8 @@ AccuracyStageEnds = (ts : List Tree) (ws : List Weights) (sets : Assignment) (go
     → IsRunMarket ts ws sets goods cap → IsRunState ts ws sets goods cap first_stage pool
     → solution ts ws sets goods cap first_stage pool ≡ Some x
     → HasNoneToAdd ts ws sets goods cap first_stage x
-    → (v : ℤ) × Equals (record { num = v; den = (solution_prices ts ws sets goods cap x).den }) (allowance ts ws sets goods cap first_stage x)
+    → (v : ℤ)
+    × Equals (record { num = v; den = (solution_prices ts ws sets goods cap x).den }) (allowance ts ws sets goods cap first_stage x)
     × AreCertified ts ws sets goods cap (solution_prices ts ws sets goods cap x) v (certificate_at ts ws sets goods cap first_stage pool)
 
 -- a stage that is past had accurate prices over its denominator, and delta is their violation

@@ -11,8 +11,8 @@ use Rattle.ice_journal_laws.specs.Fields.{payment_in}
 use Rattle.ice_journal_laws.specs.Checks.{Failure, Checks}
 use Rattle.ice_journal_laws.specs.Theorems.{Says}
 use Rattle.ice_journal_laws.specs.Written.{session_records}
-use Rattle.ice_statement_laws.specs.Statement.{public_records, Own, IsOwn, StatementLine, named, shown, kept, offered, ended, statement_text}
-use Rattle.ice_statement_laws.specs.Statement.{statement_of}
+use Rattle.ice_statement_laws.specs.Statement.{public_records, Own, IsOwn, StatementLine, named, shown, kept, offered, ended}
+use Rattle.ice_statement_laws.specs.Statement.{statement_of, statement_text}
 use Rattle.ice_statement_laws.specs.Audit.{IsAudit}
 
 -- ---- the statement of a journal

@@ -82,7 +82,8 @@ flat_refusal bidders name =
     else None
 
 abbrev pub flat_bidders_with : List (List ℕ) → Path → List FlatBidder → Data → Read (List FlatBidder)
-flat_bidders_with goods path bidders d = flat_bidder_at goods path d >>= λ b. unless_refused path (flat_refusal bidders b.name) (bidders ++ b ∷ [])
+flat_bidders_with goods path bidders d =
+    flat_bidder_at goods path d >>= λ b. unless_refused path (flat_refusal bidders b.name) (bidders ++ b ∷ [])
 
 abbrev pub flat_bidders_from : List (List ℕ) → Path → ℕ → List FlatBidder → Items → Read (List FlatBidder)
 flat_bidders_from goods path i bidders no_items = Ok bidders
