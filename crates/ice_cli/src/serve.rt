@@ -42,13 +42,14 @@ fn refuse_words<K: Sink>(out: &mut K) -> Status
 /// to the bidder of this name, `audit FILE` writes the audit's answer on such a statement, and
 /// `fair JOURNAL` writes fair prices of a closed session.
 ///
-/// Files come from `shelf`, and output goes to `out`: each line with its newline is one put, but of
-/// `migrate` many lines are, and of a statement's first line each part is. The status says how the
-/// call ended, and the first clause ties it to the words, to what the shelf told, to the counts of
-/// faults that rose in this call, and to the text that was appended. Want of memory alone
-/// (`Status::NoMemory`) has no cause; nothing is written then, or whole lines of a journal with no
-/// stop in them. At each status but those of a file that is refused or unread, and of a sink that
-/// failed, the shelf tells the same after the call as before it: no fetch has failed.
+/// Files come from `shelf`, and output goes to `out`. Each line with its newline is one put, but of
+/// `migrate` many lines are, and of a statement's first line each part is: no clause says so. The
+/// status says how the call ended, and the first clause ties it to the words, to what the shelf
+/// told, to the counts of faults that rose in this call, and to the text that was appended. Want of
+/// memory alone (`Status::NoMemory`) has no cause; nothing is written then, or whole lines of a
+/// journal with no stop in them. At each status but those of a file that is refused or unread, and
+/// of a sink that failed, the shelf tells the same after the call as before it: no fetch has
+/// failed.
 pub fn serve<H: Shelf, K: Sink>(
     alloc: Global,
     words: &[String],

@@ -2,14 +2,15 @@
 
 ghost use Rattle.ice_refute.specs.Laws.{LogRefutes, LogIsShort, LogCloses};
 
-/// Where a log passes, no feasible assignment that meets its start is worth more than its target.
+/// Where a log passes, and each of its leaves has one multiplier for each good, no feasible
+/// assignment that meets its start is worth more than its target.
 #[tactic(auto, using(crate::proofs::Refutes::log_refutes))]
 pub fn logs_refute()
     ensures { LogRefutes }
 {}
 
-/// Over n free nodes a log that passes has fewer than 2^n branch steps, and fewer than 2^(n+1)
-/// steps.
+/// Where a start has one mark for each node, and n of its nodes are free, a log from it that passes
+/// has fewer than 2^n branch steps, and fewer than 2^(n+1) steps.
 #[tactic(auto, using(crate::proofs::Counting::log_is_short))]
 pub fn logs_are_short()
     ensures { LogIsShort }

@@ -114,7 +114,9 @@ pub fn bounded_are_live()
     ensures { BoundIsLive }
 {}
 
-/// Where no free node leaves both children live, the swept bound is at most the value.
+/// Where no free node leaves both children live, the swept bound is at most any value that the open
+/// sets don't exceed: one set for each bidder that it may still take, which together are worth at
+/// most the value if they are feasible, and at most 2^50 more in any case.
 pub fn nodes_are_there()
     ensures { NodeIsThere }
 {}
