@@ -10,7 +10,7 @@ use Rattle.ice_journal_laws.specs.declared.answer.CheckEnd.TheVariants as ending
 use Rattle.ice_journal_laws.specs.Answers.{AnswersBytes}
 use Rattle.ice_journal_laws.proofs.Answered.{one_answer_of_bytes}
 use Rattle.ice_command_parts.specs.Call.{Call, IsTold, journal_limit, OfTold, too_long, at_fault}
-use Rattle.ice_words.specs.Command.{check, best, regret, xor, run, gen, migrate, simulate, IsCommand, replay, statement, audit, fair}
+use Rattle.ice_words.specs.Command.{check, best, regret, xor, run, gen, migrate, simulate, IsCommand, replay, statement, audit, fair, gap}
 use Rattle.ice_commands.specs.CheckServed.{IsEndFault, CheckAnswers, WritesAnswer, answer_line, answer_status}
 use Rattle.ice_command_parts.specs.Lines.{refused_line}
 use Rattle.ice_command_parts.specs.Refusals.{other_kind}
@@ -56,6 +56,9 @@ check_answers call journal (answers (audit file) other answer) is faultless =
     absurd (omega (arith, letters))
 check_answers call journal (answers (fair name) other answer) is faultless =
     let lengths : 4 ≡ 5 = ap (λ (words : List (List ℕ)). length (get_or words 0 [])) (sym other.1 ∙ is.1) in
+    absurd (omega (arith, lengths))
+check_answers call journal (answers (gap name) other answer) is faultless =
+    let lengths : 3 ≡ 5 = ap (λ (words : List (List ℕ)). length (get_or words 0 [])) (sym other.1 ∙ is.1) in
     absurd (omega (arith, lengths))
 check_answers call journal (cut_short text status failed rose served front) is faultless = absurd (faultless.writes rose)
 

@@ -5,7 +5,7 @@ use Rattle.ice_edge.specs.declared.status.Status.{Status}
 use Rattle.ice_edge.specs.declared.status.Status.TheVariants.{Done, Words, Input, No, Spent, Limit, ReadFault, WriteFault, NoMemory, StillOpen}
 use Rattle.ice_branch_laws.specs.Branches.{enough_for_regret}
 use Rattle.ice_command_parts.specs.Call.{Call}
-use Rattle.ice_words.specs.Command.{check, best, regret, xor, replay, gen, run, migrate, simulate, statement, audit, fair, IsCommand}
+use Rattle.ice_words.specs.Command.{check, best, regret, xor, replay, gen, run, migrate, simulate, statement, audit, fair, gap, IsCommand}
 use Rattle.ice_commands.specs.RegretServed.{RegretAnswers}
 use Rattle.ice_cli.specs.Served.{IsServed, no_command, answers, cut_short}
 use Rattle.ice_cli.specs.Completeness.{IsFaultless, IsValidExchange, RegretCompletes}
@@ -31,6 +31,7 @@ regret_answers call exchange (answers (simulate name truths) other answer) is fa
 regret_answers call exchange (answers (statement name bidder) other answer) is faultless = let lengths : 3 ≡ 2 = ap (λ (words : List (List ℕ)). length words) (sym other.1 ∙ is.1) in absurd (omega (arith, lengths))
 regret_answers call exchange (answers (audit file) other answer) is faultless = let sizes : 5 ≡ 6 = ap size (sym other.1 ∙ is.1) in absurd (omega (arith, sizes))
 regret_answers call exchange (answers (fair name) other answer) is faultless = let sizes : 4 ≡ 6 = ap size (sym other.1 ∙ is.1) in absurd (omega (arith, sizes))
+regret_answers call exchange (answers (gap name) other answer) is faultless = let sizes : 3 ≡ 6 = ap size (sym other.1 ∙ is.1) in absurd (omega (arith, sizes))
 regret_answers call exchange (cut_short text status failed rose served front) is faultless = absurd (faultless.writes rose)
 
 ends : (call : Call) (exchange : List ℕ) (ex : Exchange) (status : Status) → IsFaultless call → IsValidExchange call exchange ex → enough_for_regret ex ≤ ex.settings.branches → RegretAnswers call exchange status → (status ≡ Done) ⊎ (status ≡ NoMemory)

@@ -8,7 +8,7 @@ use Rattle.ice_edge.specs.declared.status.Status.{Status}
 use Rattle.ice_edge.specs.declared.status.Status.TheVariants.{Done, Words, Input, No, Spent, Limit, ReadFault, WriteFault, NoMemory, StillOpen}
 use Rattle.ice_branch_laws.specs.Branches.{enough_for_session}
 use Rattle.ice_command_parts.specs.Call.{Call}
-use Rattle.ice_words.specs.Command.{check, best, regret, xor, replay, gen, run, migrate, simulate, statement, audit, fair, IsCommand}
+use Rattle.ice_words.specs.Command.{check, best, regret, xor, replay, gen, run, migrate, simulate, statement, audit, fair, gap, IsCommand}
 use Rattle.ice_session_commands.specs.RunServed.{RunAnswers, RunRefused, RunUnread}
 use Rattle.ice_session_commands.specs.RunServed as served
 use Rattle.ice_cli.specs.Served.{IsServed, no_command, answers, cut_short}
@@ -37,6 +37,7 @@ run_answers call exchange rounds (answers (simulate name truths) other answer) i
 run_answers call exchange rounds (answers (statement name bidder) other answer) is faultless = let differ : 29537 ≡ 29294 = ap letters (sym other.1 ∙ is.1) in absurd (omega (arith, differ))
 run_answers call exchange rounds (answers (audit file) other answer) is faultless = let differ : 24932 ≡ 29294 = ap letters (sym other.1 ∙ is.1) in absurd (omega (arith, differ))
 run_answers call exchange rounds (answers (fair name) other answer) is faultless = let differ : 26217 ≡ 29294 = ap letters (sym other.1 ∙ is.1) in absurd (omega (arith, differ))
+run_answers call exchange rounds (answers (gap name) other answer) is faultless = let differ : 26480 ≡ 29294 = ap letters (sym other.1 ∙ is.1) in absurd (omega (arith, differ))
 run_answers call exchange rounds (cut_short text status failed rose served front) is faultless = absurd (faultless.writes rose)
 
 -- each round file is valid

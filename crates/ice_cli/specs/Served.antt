@@ -2,8 +2,8 @@
 use Rattle.std.specs.Prelude.{◌≡◌, ℕ, List}
 use Rattle.ice_edge.specs.declared.status.Status.{Status}
 use Rattle.ice_edge.specs.declared.status.Status.TheVariants.{Words, WriteFault}
-use Rattle.ice_words.specs.Command.{Command, check, best, regret, xor, run, gen, migrate, simulate, IsCommand, IsNoCommand, replay, statement}
-use Rattle.ice_words.specs.Command.{audit, fair}
+use Rattle.ice_words.specs.Command.{Command, IsCommand, IsNoCommand}
+use Rattle.ice_words.specs.Command.{check, best, regret, xor, replay, gen, run, migrate, simulate, statement, audit, fair, gap}
 use Rattle.ice_command_parts.specs.Call.{Call, SinkFaultRose, IsPrefix}
 use Rattle.ice_command_parts.specs.Lines.{words_line}
 use Rattle.ice_commands.specs.CheckServed.{CheckAnswers}
@@ -18,6 +18,7 @@ use Rattle.ice_commands.specs.MigrateServed.{MigrateAnswers}
 use Rattle.ice_commands.specs.StatementServed.{StatementAnswers}
 use Rattle.ice_commands.specs.AuditServed.{AuditAnswers}
 use Rattle.ice_commands.specs.FairServed.{FairAnswers}
+use Rattle.ice_commands.specs.GapServed.{GapAnswers}
 
 -- the words are none of the forms; no file is fetched, so all
 -- that the shelf tells is the same, each count among it
@@ -40,6 +41,7 @@ CommandAnswers call (simulate exchange truths) = SimulateAnswers call exchange t
 CommandAnswers call (statement journal name) = StatementAnswers call journal name call.status
 CommandAnswers call (audit file) = AuditAnswers call file call.status
 CommandAnswers call (fair journal) = FairAnswers call journal call.status
+CommandAnswers call (gap journal) = GapAnswers call journal call.status
 
 -- the call refuses its words, or answers the command that they are; or
 -- the sink failed, and what it took is the front of such an answer

@@ -11,6 +11,7 @@ use ice_commands::audit::audit;
 use ice_commands::best::best;
 use ice_commands::check::check;
 use ice_commands::fair::fair;
+use ice_commands::gap::gap;
 use ice_commands::migrate::migrate;
 use ice_commands::regret::regret;
 use ice_commands::replay::replay;
@@ -39,8 +40,9 @@ fn refuse_words<K: Sink>(out: &mut K) -> Status
 /// session of a generated exchange, `migrate JOURNAL` writes a journal of version 1 in version 2,
 /// `simulate EXCHANGE TRUTHS` writes the journal of a session in which each bidder has a proxy that
 /// knows its true values, `statement JOURNAL NAME` writes what the journal of a closed session says
-/// to the bidder of this name, `audit FILE` writes the audit's answer on such a statement, and
-/// `fair JOURNAL` writes fair prices of a closed session.
+/// to the bidder of this name, `audit FILE` writes the audit's answer on such a statement,
+/// `fair JOURNAL` writes fair prices of a closed session, and `gap JOURNAL` writes how far from the
+/// best the trade may be at which a journal stops whose branches are spent.
 ///
 /// Files come from `shelf`, and output goes to `out`. Each line with its newline is one put, but of
 /// `migrate` many lines are, and of a statement's first line each part is: no clause says so. The
@@ -83,6 +85,7 @@ pub fn serve<H: Shelf, K: Sink>(
         Some(Command::Statement { journal, name }) => statement(alloc, journal, name, shelf, out),
         Some(Command::Audit { file }) => audit(alloc, file, shelf, out),
         Some(Command::Fair { journal }) => fair(alloc, journal, shelf, out),
+        Some(Command::Gap { journal }) => gap(alloc, journal, shelf, out),
         None => refuse_words(out),
     }
 }

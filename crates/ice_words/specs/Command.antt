@@ -15,6 +15,7 @@ pub data Command : Type 0 where
   statement : (journal name : List ℕ) → Command
   audit : (file : List ℕ) → Command
   fair : (journal : List ℕ) → Command
+  gap : (journal : List ℕ) → Command
 
 abbrev pub words_of : Command → List (List ℕ)
 words_of (check journal) = codes "check" ∷ journal ∷ []
@@ -29,6 +30,7 @@ words_of (simulate exchange truths) = codes "simulate" ∷ exchange ∷ truths �
 words_of (statement journal name) = codes "statement" ∷ journal ∷ name ∷ []
 words_of (audit file) = codes "audit" ∷ file ∷ []
 words_of (fair journal) = codes "fair" ∷ journal ∷ []
+words_of (gap journal) = codes "gap" ∷ journal ∷ []
 
 -- a session has at most 20 rounds, and a run as many round
 -- files; the number of a generated exchange has 32 bits

@@ -62,6 +62,10 @@ pub enum Command<'a> {
     Fair {
         journal: &'a str,
     },
+    /// `gap JOURNAL`
+    Gap {
+        journal: &'a str,
+    },
 }
 
 /// The word, where there is no other.
@@ -192,6 +196,10 @@ pub fn command_in(words: &[String]) -> Option<Command<'_>>
         "fair" => {
             let journal = one_word(names)?;
             Some(Command::Fair { journal })
+        }
+        "gap" => {
+            let journal = one_word(names)?;
+            Some(Command::Gap { journal })
         }
         _ => None,
     }

@@ -1,6 +1,6 @@
 use Rattle.std.proofs.Common.{refl, [], map, string_bytes}
 use Rattle.ice_command_parts.specs.Call.{Call}
-use Rattle.ice_words.specs.Command.{check, best, regret, xor, run, gen, migrate, simulate, replay, statement, audit, fair}
+use Rattle.ice_words.specs.Command.{check, best, regret, xor, run, gen, migrate, simulate, replay, statement, audit, fair, gap}
 use Rattle.ice_commands.specs.CheckServed.{CheckAnswers}
 use Rattle.ice_commands.specs.BestServed.{BestAnswers}
 use Rattle.ice_commands.specs.RegretServed.{RegretAnswers}
@@ -13,6 +13,7 @@ use Rattle.ice_commands.specs.MigrateServed.{MigrateAnswers}
 use Rattle.ice_commands.specs.StatementServed.{StatementAnswers}
 use Rattle.ice_commands.specs.AuditServed.{AuditAnswers}
 use Rattle.ice_commands.specs.FairServed.{FairAnswers}
+use Rattle.ice_commands.specs.GapServed.{GapAnswers}
 use Rattle.ice_session_commands.proofs.Trials.{serves_said}
 use Rattle.ice_cli.proofs.Serving.{served, refused_words}
 use Rattle.ice_cli.proofs.serve.serve.Goals as goal
@@ -204,6 +205,21 @@ returns-in-Some-Fair-clause-served g c =
     } in
     served call (fair journal) (λ one. FairAnswers one journal) (g.K.Sink.taken c.args.out.now) (g.K.Sink.taken c.fair.new.out) refl refl
     (rw c.in-Some-Fair.field-0-is at c.in-Some-Fair.ensures) (λ text status h. h) c.fair.ensures.served
+
+pub returns-in-Some-Gap-clause-served : goal.returns-in-Some-Gap-clause-served
+returns-in-Some-Gap-clause-served g c =
+    let journal = c.in-Some-Gap.journal.now in
+    let call : Call = record {
+      words = map string_bytes c.args.words.now;
+      before = g.H.Shelf.told c.args.shelf.now;
+      after = g.H.Shelf.told c.gap.new.shelf;
+      sink_faults = (g.K.Sink.taken c.args.out.now).faults;
+      sink_faults_after = (g.K.Sink.taken c.gap.new.out).faults;
+      text = [];
+      status = c.gap.result;
+    } in
+    served call (gap journal) (λ one. GapAnswers one journal) (g.K.Sink.taken c.args.out.now) (g.K.Sink.taken c.gap.new.out) refl refl
+    (rw c.in-Some-Gap.field-0-is at c.in-Some-Gap.ensures) (λ text status h. h) c.gap.ensures.served
 
 pub returns-in-None-clause-served : goal.returns-in-None-clause-served
 returns-in-None-clause-served g c =
