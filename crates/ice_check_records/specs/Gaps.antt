@@ -1,5 +1,6 @@
 -- What a checker of gaps stands for.
-use Rattle.std.specs.Prelude.{ℕ, suc, int_lt, if◌then◌else◌, ◌≡◌, ◌<◌, Bool, true, false, IsTrue, ◌↔◌, List, [], length, ℤ, Option, Some, None, Result, Ok, Err}
+use Rattle.std.specs.Prelude.{ℕ, suc, int_lt, if◌then◌else◌, ◌≡◌, ◌<◌, Bool, true, false, IsTrue, ◌↔◌, List, [], length, ℤ}
+use Rattle.std.specs.Prelude.{Option, Some, None, Result, Ok, Err}
 use Rattle.ice_defs.specs.declared.Group.{Group}
 use Rattle.ice_defs.specs.Exchange.{trees_of, exact_of}
 use Rattle.ice_journal.specs.Records.{Record}
@@ -17,7 +18,8 @@ use Rattle.ice_check_offer.specs.declared.fault.Fault.{Fault}
 use Rattle.ice_check_offer.specs.declared.fault.Fault.TheVariants.{Here}
 use Rattle.ice_gap_laws.specs.declared.answer.GapAnswer.{GapAnswer}
 use Rattle.ice_gap_laws.specs.declared.answer.GapAnswer.TheVariants as gap_answer
-use Rattle.ice_gap_laws.specs.Gap.{Gap, next_group, gap_in, with_target, GapProgress, checking, in_group, at_close, ended, no_gap, IsGapAfter}
+use Rattle.ice_gap_laws.specs.Gap.{Gap, next_group, gap_in, with_target}
+use Rattle.ice_gap_laws.specs.Gap.{GapProgress, checking, in_group, at_close, ended, no_gap, IsGapAfter}
 use Rattle.ice_check_records.specs.declared.gap.Spent.{Spent}
 use Rattle.ice_check_records.specs.declared.gap.GapStage.{GapStage}
 use Rattle.ice_check_records.specs.declared.gap.GapStage.TheVariants as gap
@@ -128,8 +130,9 @@ pub record WalksOn (target : ℤ) (g : Groups) (r : Record) (closed : Bool) (aft
       g.log.walk.sides g.log.before r after.log.walk.sides after.log.before
 
 abbrev pub StopsAt : ℤ → Groups → Record → Fault → Type 0
-StopsAt target g r fault = (y : Rule) × (fault ≡ Here y) × FailsStep (trees_of g.stated.exchange) (exact_of g.stated.exchange) g.log.weights target
-    (version_of_head g.head) g.log.walk.sides g.log.before r y
+StopsAt target g r fault = (y : Rule) × (fault ≡ Here y)
+    × FailsStep (trees_of g.stated.exchange) (exact_of g.stated.exchange) g.log.weights target (version_of_head g.head)
+      g.log.walk.sides g.log.before r y
 
 abbrev pub TakesAimed : ℤ → Groups → Record → Result Bool Fault → Groups → Type 0
 TakesAimed target g r (Ok closed) after = WalksOn target g r closed after

@@ -23,7 +23,8 @@ use Rattle.ice_trade.specs.Fault.{make_fault_number}
 abbrev pub IsProgress : ℕ → Stage → Progress → Type 0
 IsProgress line stage.Begin p = p ≡ nothing
 IsProgress line stage.OtherKind p = p ≡ other_kind
-IsProgress line (stage.Describing head section) p = p ≡ passing (section_state (version_of_head head) (kind_of_head head) line section.value)
+IsProgress line (stage.Describing head section) p =
+    p ≡ passing (section_state (version_of_head head) (kind_of_head head) line section.value)
 IsProgress line (stage.Behind groups) p = (s : State) × (p ≡ passing s) × (s.line ≡ line) × StandsFor groups.value s
 IsProgress line (stage.Failed number rule) p = p ≡ failed (record { line = number; rule = rule })
 IsProgress line stage.OutOfMemory p = p ≡ out_of_memory

@@ -24,7 +24,8 @@ with_group text Provisional = with_field text (codes "provisional")
 with_group text (Without b) = with_field (with_field text (codes "without")) (decimal b)
 
 abbrev pub gap_line : GapAnswer → List ℕ
-gap_line (answer.Gap group value bound) = with_field (with_field (with_group (codes "gap") group) (signed_decimal value)) (signed_decimal bound) ++ 10 ∷ []
+gap_line (answer.Gap group value bound) =
+    with_field (with_field (with_group (codes "gap") group) (signed_decimal value)) (signed_decimal bound) ++ 10 ∷ []
 gap_line (answer.No line rule) = no_line (record { line = line; rule = rule })
 gap_line (answer.NoGap line) = line_text (codes "no" ∷ decimal line ∷ codes "spent" ∷ [])
 

@@ -1,4 +1,5 @@
--- A `spent` record stands where the head of its group may stand, and is read as that head with its value.
+-- A `spent` record stands where the head of its group may
+-- stand, and is read as that head with its value.
 use Rattle.std.proofs.Common.{◌≡◌, ◌≢◌, ◌<◌, ◌+◌, ℕ, suc, Bool, true, false, cond, [], ℤ, refl, sym, ◌∙◌, ap, subst, arith, ◌⊎◌, inl, inr}
 use Rattle.std.specs.Prelude.{Option, Some, None, option_map, int_lt, IsSome, if◌then◌else◌}
 use Rattle.std.proofs.lemmas.Bool.{eq-eqb, false≢true}

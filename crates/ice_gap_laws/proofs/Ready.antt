@@ -1,4 +1,5 @@
--- Where the head of a group is awaited: the exchange is lawful, and whom the group leaves out is one of its bidders.
+-- Where the head of a group is awaited, the exchange is lawful, and
+-- whom the group leaves out is one of its bidders.
 use Rattle.std.proofs.Common.{◌≡◌, ◌<◌, ℕ, true, List, length, refl, ◌∙◌, subst}
 use Rattle.std.specs.Prelude.{Some}
 use Rattle.std.specs.List.{AllByRecursion}

@@ -98,8 +98,8 @@ OneGapAnswer = (bytes : List ℕ) (one other : Result GapAnswer CheckEnd) → An
 
 -- what is answered where the records end is the answer to their bytes
 abbrev pub GapEndIsAnswer : Type 0
-GapEndIsAnswer = (bytes : List ℕ) (journal : List Record) (p : GapProgress) → IsJournal bytes journal → GapLeads (checking nothing) journal p
-    → AnswersGap bytes (gap_answer p)
+GapEndIsAnswer = (bytes : List ℕ) (journal : List Record) (p : GapProgress) → IsJournal bytes journal
+    → GapLeads (checking nothing) journal p → AnswersGap bytes (gap_answer p)
 
 -- ---- what a writer writes
 
@@ -120,7 +120,8 @@ EndsThere s place = Unit {0}
 
 -- the records of a gap
 abbrev pub gap_records : State → Proved → ℤ → List Record
-gap_records s p bound = line.spent p.value bound ∷ (map line.set p.sets ++ (step_records s.version (all_zero (goods_at s)) p.log ++ line.end spent_end ∷ []))
+gap_records s p bound = line.spent p.value bound
+    ∷ (map line.set p.sets ++ (step_records s.version (all_zero (goods_at s)) p.log ++ line.end spent_end ∷ []))
 
 -- where records lead to the head of a group, and a gap stands in its place, the gap is answered
 abbrev pub GapIsWritten : Type 0
