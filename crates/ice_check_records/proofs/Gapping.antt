@@ -1,12 +1,11 @@
 -- What the stages of a checker of gaps stand for.
-use Rattle.std.proofs.Common.{◌≡◌, ◌<◌, ℕ, suc, Bool, true, false, cond, List, [], ◌∷◌, length, ℤ, refl, sym, ◌∙◌, ap, subst, arith, ◌⊎◌, inl, inr}
-use Rattle.std.specs.Prelude.{◌≢◌, int_lt, Option, Some, None, option_map, Result, Ok, Err, IsTrue, ◌↔◌}
+use Rattle.std.proofs.Common.{◌≡◌, ◌<◌, ℕ, suc, Bool, true, false, cond, List, [], ◌∷◌, length, ℤ, refl, sym, ◌∙◌, ap, subst, arith, inl, inr}
+use Rattle.std.specs.Prelude.{◌≢◌, int_lt, Option, Some, None, Result, Ok, Err}
 use Rattle.std.proofs.lemmas.Bool.{true≢false, false≢true}
 use Rattle.std.proofs.lemmas.Option.{none-some, same_Some}
 use Rattle.ice_defs.specs.declared.Group.{Group}
 use Rattle.ice_defs.specs.declared.Group.TheVariants.{Assign, Final, Rival, Provisional, Without}
 use Rattle.ice_defs.specs.Set.{Weights}
-use Rattle.ice_defs.specs.Bound.{Multipliers}
 use Rattle.ice_defs.specs.Steps.{Side}
 use Rattle.ice_defs.specs.Exchange.{trees_of, exact_of}
 use Rattle.std.proofs.Common.{eqb}
@@ -17,19 +16,16 @@ use Rattle.ice_journal_laws.specs.declared.answer.Answer.TheVariants as answer
 use Rattle.ice_journal_laws.specs.declared.answer.CheckEnd.{CheckEnd}
 use Rattle.ice_journal_laws.specs.declared.rule.Rule.{Rule}
 use Rattle.ice_journal_laws.specs.declared.rule.Rule.TheVariants as rule
-use Rattle.ice_journal_laws.specs.State.{Stated, Place, at_section, at_group, at_sets, at_log, done, State, trees_at, weights_at}
-use Rattle.ice_journal_laws.specs.Fields.{set_in}
+use Rattle.ice_journal_laws.specs.State.{Stated, Place, at_section, at_group, at_sets, at_log, done, State, weights_at}
 use Rattle.ice_journal_laws.specs.Next.{next, to_line, go_to, with_set, after_sets, after_log, after_step, bidder_count}
 use Rattle.ice_journal_laws.specs.Tests.{is_valued}
-use Rattle.ice_journal_laws.specs.Checks.{Failure}
-use Rattle.ice_journal_laws.specs.Progress.{Progress, nothing, other_kind, passing, failed, out_of_memory, TakesOn, passes_on, fails_at, list_fails_at, IsAfter}
+use Rattle.ice_journal_laws.specs.Progress.{Progress, nothing, other_kind, passing, failed, out_of_memory, TakesOn, passes_on}
 use Rattle.ice_journal_laws.specs.Answers.{EndsWith}
 use Rattle.ice_journal_laws.specs.Showing.{head_of_group}
 use Rattle.ice_journal_laws.specs.Stepping.{PassesStep, FailsStep}
 use Rattle.ice_journal_laws.specs.Assigning.{section_state}
 use Rattle.ice_journal_laws.proofs.Walking.{record_fails, record_passes}
 use Rattle.ice_check_offer.specs.declared.fault.Fault.{Fault}
-use Rattle.ice_check_offer.specs.declared.fault.Fault.TheVariants.{Here}
 use Rattle.ice_defs.specs.Rows.{Row}
 use Rattle.ice_defs.specs.Exchange.{Exchange}
 use Rattle.ice_check_offer.specs.declared.offer.Offer.{Offer}
@@ -40,13 +36,12 @@ use Rattle.ice_check_offer.specs.declared.place.CertificateList.TheVariants as l
 use Rattle.ice_check_offer.specs.Offers as offers
 use Rattle.ice_gap_laws.specs.declared.answer.GapAnswer.{GapAnswer}
 use Rattle.ice_gap_laws.specs.declared.answer.GapAnswer.TheVariants as gap_is
-use Rattle.ice_gap_laws.specs.Gap.{Gap, next_group, gap_in, at_gap_sets, is_in_group, aimed_place, with_target, GapProgress, checking, in_group, at_close, ended, no_gap, in_its_group, is_closed, IsGapAfter}
+use Rattle.ice_gap_laws.specs.Gap.{next_group, at_gap_sets, is_in_group, aimed_place, with_target, GapProgress, checking, in_group, at_close, no_gap, in_its_group, is_closed, IsGapAfter}
 use Rattle.ice_gap_laws.specs.Answers.{ended_at, gap_answer}
 use Rattle.ice_gap_laws.proofs.Right.{log_leaves}
 use Rattle.ice_gap_laws.proofs.Heading as heading
 use Rattle.ice_gap_laws.proofs.Heading.{is_stopped, usual, usual_on, AsHead, read_as_head, order_at}
 use Rattle.ice_check_records.specs.declared.gap.Spent.{Spent}
-use Rattle.ice_check_records.specs.declared.gap.GapStage.{GapStage}
 use Rattle.ice_check_records.specs.declared.gap.GapStage.TheVariants as gap
 use Rattle.ice_check_records.specs.declared.groups.Groups.{Groups}
 use Rattle.ice_check_records.specs.declared.log.LogWalk.{LogWalk}

@@ -1,6 +1,6 @@
 -- What a checker of gaps stands for.
-use Rattle.std.specs.Prelude.{ℕ, suc, int_lt, if◌then◌else◌, ◌≡◌, ◌<◌, Bool, true, false, IsTrue, ◌↔◌, List, [], length, ℤ}
-use Rattle.std.specs.Prelude.{Option, Some, None, Result, Ok, Err}
+use Rattle.std.specs.Prelude.{ℕ, suc, int_lt, if◌then◌else◌, ◌≡◌, Bool, true, false, IsTrue, ◌↔◌, [], ℤ}
+use Rattle.std.specs.Prelude.{Option, None, Result, Ok, Err}
 use Rattle.ice_defs.specs.declared.Group.{Group}
 use Rattle.ice_defs.specs.Exchange.{trees_of, exact_of}
 use Rattle.ice_journal.specs.Records.{Record}

@@ -1,7 +1,6 @@
 //! How far the records of a journal have come, where they may stop at a search that spent its
 //! branches, and go on with what it found.
-ghost use Rattle.std.specs.Prelude.{◌≡◌, ◌<◌, ℕ, suc, length, int_lt, Ok, Some, IfOk, IfSome};
-ghost use Rattle.ice_defs.specs.Exchange.{trees_of};
+ghost use Rattle.std.specs.Prelude.{◌≡◌, ◌<◌, ℕ, suc, length, int_lt, Some, IfOk, IfSome};
 ghost use Rattle.ice_journal.specs.Lines.{record_of};
 ghost use Rattle.ice_journal.specs.Records as records;
 ghost use Rattle.ice_journal.specs.Ranges.{IsRecord};

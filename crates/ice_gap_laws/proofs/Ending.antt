@@ -1,19 +1,16 @@
 -- What is answered where the records end.
 use Rattle.std.proofs.Common.{◌≡◌, ℕ, Bool, true, false, cond, List, [], ◌∷◌, refl, sym, ◌∙◌, ap, subst}
-use Rattle.std.specs.Prelude.{int_lt, Option, Some, None, Result, Ok, Err}
-use Rattle.ice_journal.specs.Records.{Record, spent_end, Version, Kind}
+use Rattle.std.specs.Prelude.{int_lt, Option, Some, None}
+use Rattle.ice_journal.specs.Records.{Record, spent_end}
 use Rattle.ice_journal.specs.Records as line
 use Rattle.ice_journal.specs.Journal.{IsJournal}
-use Rattle.ice_journal_laws.specs.declared.answer.CheckEnd.{CheckEnd}
-use Rattle.ice_journal_laws.specs.declared.answer.CheckEnd.TheVariants.{OtherKind, NoMemory}
 use Rattle.ice_journal_laws.specs.declared.rule.Rule.{Rule}
 use Rattle.ice_journal_laws.specs.declared.rule.Rule.TheVariants as rule
 use Rattle.ice_journal_laws.specs.Fields.{is_end}
 use Rattle.ice_journal_laws.specs.State.{State, begun}
 use Rattle.ice_journal_laws.specs.Checks.{is_checked, IsChecked}
-use Rattle.ice_journal_laws.specs.Progress.{Progress, nothing, other_kind, passing, failed, out_of_memory, after_head, TakesOn, passes_on, fails_at, list_fails_at, IsAfter}
-use Rattle.ice_gap_laws.specs.declared.answer.GapAnswer.{GapAnswer}
-use Rattle.ice_gap_laws.specs.Gap.{Gap, gap_in, at_gap_sets, with_target, is_in_group, GapProgress, checking, in_group, at_close, ended, no_gap, is_closed, from_stop, unless_stopped, in_its_group, out_of_order, IsGapAfter, GapLeads, stays, goes}
+use Rattle.ice_journal_laws.specs.Progress.{Progress, nothing, other_kind, passing, failed, out_of_memory, TakesOn, passes_on, fails_at, list_fails_at}
+use Rattle.ice_gap_laws.specs.Gap.{Gap, gap_in, at_gap_sets, with_target, is_in_group, GapProgress, checking, in_group, at_close, ended, no_gap, from_stop, unless_stopped, in_its_group, out_of_order, IsGapAfter, GapLeads, stays, goes}
 use Rattle.ice_gap_laws.specs.Answers.{gap_answer, AnswersGap}
 use Rattle.ice_gap_laws.specs.Laws.{GapEndIsAnswer}
 

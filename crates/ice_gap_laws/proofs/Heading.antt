@@ -1,12 +1,12 @@
 -- A `spent` record stands where the head of its group may
 -- stand, and is read as that head with its value.
-use Rattle.std.proofs.Common.{◌≡◌, ◌≢◌, ◌<◌, ◌+◌, ℕ, suc, Bool, true, false, cond, [], ℤ, refl, sym, ◌∙◌, ap, subst, arith, ◌⊎◌, inl, inr}
+use Rattle.std.proofs.Common.{◌≡◌, suc, Bool, true, false, cond, ℤ, refl, sym, ◌∙◌, ap, subst, arith, ◌⊎◌, inl, inr}
 use Rattle.std.specs.Prelude.{Option, Some, None, option_map, int_lt, IsSome, if◌then◌else◌}
 use Rattle.std.proofs.lemmas.Bool.{eq-eqb, false≢true}
 use Rattle.std.proofs.lemmas.Option.{none-some, same_Some}
 use Rattle.ice_defs.specs.declared.Group.{Group}
 use Rattle.ice_defs.specs.declared.Group.TheVariants.{Assign, Final, Rival, Provisional, Without}
-use Rattle.ice_journal.specs.Records.{Record, Kind, assign_kind, regret_kind, session_kind, exchange_kind, prices_kind}
+use Rattle.ice_journal.specs.Records.{Record, Kind, regret_kind}
 use Rattle.ice_journal.specs.Records as line
 use Rattle.ice_section.specs.Section.{may_end}
 use Rattle.ice_journal_laws.specs.declared.rule.Rule.{Rule}
@@ -14,8 +14,8 @@ use Rattle.ice_journal_laws.specs.declared.rule.Rule.TheVariants as rule
 use Rattle.ice_journal_laws.specs.Fields.{head_value}
 use Rattle.ice_journal_laws.specs.State.{Place, at_section, at_group, State, begun}
 use Rattle.ice_journal_laws.specs.Checks.{is_checked}
-use Rattle.ice_journal_laws.specs.Next.{next, to_line, go_to, after_section, past_section}
-use Rattle.ice_journal_laws.specs.Tests.{Fails, place_of, is_valued}
+use Rattle.ice_journal_laws.specs.Next.{next, to_line, after_section, past_section}
+use Rattle.ice_journal_laws.specs.Tests.{Fails, is_valued}
 use Rattle.ice_journal_laws.specs.Progress.{Progress, nothing, other_kind, passing, failed, out_of_memory, after_head, TakesOn, passes_on, fails_at, list_fails_at, IsAfter}
 use Rattle.ice_journal_laws.specs.Showing.{head_of_group}
 use Rattle.ice_journal_laws.proofs.Places.{fails_order}

@@ -19,7 +19,6 @@ use Rattle.ice_journal_laws.proofs.Past.{IsPast}
 use Rattle.ice_journal_laws.proofs.Grouping.{so_far}
 use Rattle.ice_journal.specs.Records.{Record, Version, version_1, version_2, Kind, assign_kind, regret_kind, session_kind, exchange_kind, prices_kind}
 use Rattle.ice_journal.specs.Ranges.{IsRecord}
-use Rattle.ice_section.specs.Section.{may_end}
 use Rattle.ice_section.proofs.Whole.{section_is_lawful, section_records_are}
 use Rattle.ice_refute.proofs.Refutes.{log_refutes}
 use Rattle.ice_journal_laws.specs.State.{Place, at_section, at_group, State, begun, exchange_at, trees_at}

@@ -18,7 +18,7 @@ use Rattle.ice_defs.specs.declared.Group.{Group}
 use Rattle.ice_defs.specs.declared.Group.TheVariants.{Assign, Final, Rival, Provisional, Without}
 use Rattle.ice_defs.specs.Group.{start_of}
 use Rattle.ice_defs.specs.Exchange.{Bidder}
-use Rattle.ice_journal.specs.Records.{Record, Version, version_1, version_2, EndWord, assign_end, exchange_end, prices_end, regret_end, closed_end, open_end, spent_end, limit_end}
+use Rattle.ice_journal.specs.Records.{Record, Version, version_1, version_2, assign_end, exchange_end, prices_end, regret_end, closed_end, open_end, spent_end, limit_end}
 use Rattle.ice_journal.specs.Records as line
 use Rattle.ice_journal.specs.Plain.{all_zero, after_changes}
 use Rattle.ice_journal.specs.Ranges.{IsRecord}
@@ -34,7 +34,7 @@ use Rattle.ice_journal_laws.specs.Fields.{is_end, row_in, counted_step, unchange
 use Rattle.ice_journal_laws.specs.State.{Stated, Place, at_section, at_group, at_threshold, at_sets, at_log, at_accuracy_rows, at_balance_rows, done, State, exchange_at, trees_at, exact_at, goods_at, weights_at}
 use Rattle.ice_journal_laws.specs.Next.{next, next_at, may_have_row, go_to, to_line, bidder_count, with_set, after_sets, after_log, after_step, after_section, past_section}
 use Rattle.ice_journal_laws.specs.Tests.{Fails, Complete, is_valued, Taken, IsClosing, HasSign, IsFixed, IsAlive, IsStop, ended_list, Holds}
-use Rattle.ice_journal_laws.specs.Progress.{Progress, nothing, other_kind, passing, failed, out_of_memory, after_head, TakesOn, passes_on, fails_at, list_fails_at, IsAfter, Leads}
+use Rattle.ice_journal_laws.specs.Progress.{Progress, nothing, other_kind, passing, failed, out_of_memory, TakesOn, passes_on, fails_at, list_fails_at, IsAfter, Leads}
 use Rattle.ice_journal_laws.specs.Progress as progress
 use Rattle.ice_journal_laws.proofs.Assigning.{AreSatisfied, set_passes}
 use Rattle.ice_journal_laws.proofs.Faultless.{covered}

@@ -1,7 +1,7 @@
 -- A journal has one answer.
 use Rattle.std.proofs.Common.{◌≡◌, ℕ, Bool, true, false, cond, List, [], ◌∷◌, refl, sym, ◌∙◌, ap, subst}
 use Rattle.std.specs.Prelude.{◌-◌, Result, Ok, Err}
-use Rattle.ice_journal.specs.Records.{Record, Version, Kind}
+use Rattle.ice_journal.specs.Records.{Record}
 use Rattle.ice_journal.specs.Records as line
 use Rattle.ice_journal.specs.Journal.{LinesFault, grammar, unended, IsJournal, IsLinesFault}
 use Rattle.ice_journal.proofs.Journals.{one_answer as bytes_tell}

@@ -1,8 +1,7 @@
 -- What a writer writes where a search spent its branches is a gap.
-use Rattle.std.proofs.Common.{◌≡◌, ◌+◌, ◌<◌, ℕ, suc, Bool, true, false, cond, List, [], ◌∷◌, ◌++◌, length, map, ℤ, refl, sym, ◌∙◌, ap, subst, arith, length-append, append_assoc, ◌⊎◌, inl, inr, Result, Ok}
-use Rattle.std.specs.Prelude.{int_lt, ◌<ℤ◌, Option, Some, None, option_map, IsSome, IsTrue}
+use Rattle.std.proofs.Common.{◌≡◌, ◌<◌, ℕ, suc, Bool, true, false, cond, List, [], ◌∷◌, ◌++◌, length, map, ℤ, refl, sym, ◌∙◌, ap, subst, arith, append_assoc, inl, inr, Result, Ok}
+use Rattle.std.specs.Prelude.{int_lt, ◌<ℤ◌, Option, Some, None, option_map, IsSome}
 use Rattle.std.specs.List.{AllByRecursion}
-use Rattle.std.proofs.lemmas.Bool.{false≢true}
 use Rattle.std.proofs.lemmas.Option.{none-some, same_Some}
 use Rattle.std.proofs.lemmas.Int.{ints}
 use Rattle.std.proofs.lemmas.List.{length-replicate}
@@ -10,26 +9,24 @@ use Rattle.ice_defs.specs.declared.Group.{Group}
 use Rattle.ice_defs.specs.declared.Group.TheVariants.{Assign, Final, Rival, Provisional, Without}
 use Rattle.ice_defs.specs.declared.Mark.TheVariants.{Never}
 use Rattle.ice_defs.specs.Set.{NodeSet}
-use Rattle.ice_defs.specs.Trade.{Assignment, IsFeasible, total_value}
+use Rattle.ice_defs.specs.Trade.{Assignment, total_value}
 use Rattle.ice_defs.specs.Bound.{Multipliers}
 use Rattle.ice_defs.specs.Steps.{Step, branch, leaf, dead, Side, with_mark, sides_after}
-use Rattle.ice_defs.specs.Log.{Fault, Reads, ends, branches, stops, is_fixed, has_sign, is_dead_leaf, closes, is_above, is_dead, is_alive, Passes}
+use Rattle.ice_defs.specs.Log.{Fault, Reads, ends, branches, stops, is_fixed, has_sign, is_dead_leaf, closes, is_above, is_dead, is_alive}
 use Rattle.ice_defs.specs.Group.{start_of}
 use Rattle.ice_defs.specs.Session.{Proved}
 use Rattle.ice_refute.specs.Code.{CountsGoods}
 use Rattle.ice_refute.specs.Passing.{PassesAt}
-use Rattle.ice_section.specs.Section.{may_end}
 use Rattle.ice_journal.specs.Records.{Record, Version, Kind, regret_kind, spent_end}
 use Rattle.ice_journal.specs.Records as line
 use Rattle.ice_journal.specs.Plain.{all_zero}
-use Rattle.ice_journal_laws.specs.declared.rule.Rule.TheVariants as rule
 use Rattle.ice_journal_laws.specs.Fields.{multipliers_after}
 use Rattle.ice_journal_laws.specs.State.{Stated, Place, at_section, at_group, at_sets, at_log, State, begun, exchange_at, trees_at, exact_at, goods_at, weights_at}
 use Rattle.ice_journal_laws.specs.Next.{to_line, go_to, after_section, past_section, after_sets, after_log, after_step}
 use Rattle.ice_journal_laws.specs.Tests.{is_valued}
 use Rattle.ice_journal_laws.specs.Assigning.{IsBalanced}
 use Rattle.ice_journal_laws.specs.Checks.{is_checked}
-use Rattle.ice_journal_laws.specs.Progress.{Progress, nothing, other_kind, passing, failed, after_head, TakesOn, passes_on, fails_at, list_fails_at, Leads}
+use Rattle.ice_journal_laws.specs.Progress.{other_kind, passing, after_head, TakesOn, passes_on, fails_at, list_fails_at, Leads}
 use Rattle.ice_journal_laws.specs.Progress as progress
 use Rattle.ice_journal_laws.specs.Showing.{step_record, step_records}
 use Rattle.ice_journal_laws.proofs.Leading.{failed_passes}
@@ -37,8 +34,7 @@ use Rattle.ice_journal_laws.proofs.Settling.{head_spent}
 use Rattle.ice_journal_laws.proofs.Sets.{set_on, sets_complete}
 use Rattle.ice_journal_laws.proofs.CarriedSets.{count_there, fit}
 use Rattle.ice_journal_laws.proofs.CarriedLog.{step_takes}
-use Rattle.ice_gap_laws.specs.declared.answer.GapAnswer.TheVariants as answer
-use Rattle.ice_gap_laws.specs.Gap.{Gap, next_group, gap_in, before_head, at_gap_sets, is_in_group, with_target, GapProgress, checking, in_group, at_close, ended, no_gap, from_stop, in_its_group, IsGapAfter, GapLeads, stays, goes}
+use Rattle.ice_gap_laws.specs.Gap.{Gap, next_group, before_head, at_gap_sets, with_target, GapProgress, checking, in_group, at_close, ended, no_gap, from_stop, in_its_group, IsGapAfter, GapLeads, stays, goes}
 use Rattle.ice_gap_laws.specs.Laws.{EndsThere, IsShownGap, gap_records, GapIsWritten}
 use Rattle.ice_gap_laws.proofs.Right.{log_follows, log_leaves}
 use Rattle.ice_gap_laws.proofs.Heading.{gap_of, closed_at}

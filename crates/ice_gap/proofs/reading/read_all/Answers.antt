@@ -1,4 +1,4 @@
-use Rattle.std.proofs.Common.{◌∷◌, length, refl, ap, arith, length-append}
+use Rattle.std.proofs.Common.{◌∷◌, length, ap, arith, length-append}
 use Rattle.ice_journal.specs.Lines.{record_of}
 use Rattle.ice_gap.proofs.Taken.{none_read, one_read, few_read}
 use Rattle.ice_gap.proofs.reading.read_all.Goals as goal

@@ -1,6 +1,6 @@
 use Rattle.std.proofs.Common.{suc, Bool, cond, refl, sym, ◌∙◌, ap, subst}
 use Rattle.ice_journal.specs.Lines.{record_of}
-use Rattle.ice_gap_laws.specs.Gap.{GapProgress, checking, ended, out_of_order, IsGapAfter}
+use Rattle.ice_gap_laws.specs.Gap.{GapProgress, ended, out_of_order, IsGapAfter}
 use Rattle.ice_check_records.specs.declared.gap.GapStage.{GapStage}
 use Rattle.ice_check_records.specs.Gaps.{gap_of, TakesGapFurther}
 use Rattle.ice_check_records.proofs.gap.GapStage.close.Goals as goal

@@ -1,6 +1,5 @@
 use Rattle.std.proofs.Common.{rules, ◌≡◌, sym, subst}
 use Rattle.ice_journal.specs.Lines.{record_of}
-use Rattle.ice_check_records.specs.declared.gap.GapStage.{GapStage}
 use Rattle.ice_check_records.specs.declared.groups.Groups.{Groups}
 use Rattle.ice_check_records.specs.Taking.{IsTaken, Fails}
 use Rattle.ice_check_records.specs.Gaps.{LeadsInside}

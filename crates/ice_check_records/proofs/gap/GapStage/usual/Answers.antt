@@ -1,6 +1,5 @@
-use Rattle.std.proofs.Common.{rules, sym, subst}
+use Rattle.std.proofs.Common.{sym, subst}
 use Rattle.ice_journal.specs.Lines.{record_of}
-use Rattle.ice_check_records.specs.declared.gap.GapStage.{GapStage}
 use Rattle.ice_check_records.specs.Gaps.{LeadsFrom}
 use Rattle.ice_check_records.proofs.Gapping.{usual_leads}
 use Rattle.ice_check_records.proofs.gap.GapStage.usual.Goals as goal
