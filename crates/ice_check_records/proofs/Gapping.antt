@@ -9,14 +9,14 @@ use Rattle.ice_defs.specs.Set.{Weights}
 use Rattle.ice_defs.specs.Steps.{Side}
 use Rattle.ice_defs.specs.Exchange.{trees_of, exact_of}
 use Rattle.std.proofs.Common.{eqb}
-use Rattle.ice_journal.specs.Records.{Record, Kind, regret_kind}
+use Rattle.ice_journal.specs.Records.{Record}
 use Rattle.ice_journal.specs.Records as line
 use Rattle.ice_journal_laws.specs.declared.answer.Answer.{Answer}
 use Rattle.ice_journal_laws.specs.declared.answer.Answer.TheVariants as answer
 use Rattle.ice_journal_laws.specs.declared.answer.CheckEnd.{CheckEnd}
 use Rattle.ice_journal_laws.specs.declared.rule.Rule.{Rule}
 use Rattle.ice_journal_laws.specs.declared.rule.Rule.TheVariants as rule
-use Rattle.ice_journal_laws.specs.State.{Stated, Place, at_section, at_group, at_sets, at_log, done, State, weights_at}
+use Rattle.ice_journal_laws.specs.State.{Stated, Place, at_sets, at_log, done, State, weights_at}
 use Rattle.ice_journal_laws.specs.Next.{next, to_line, go_to, with_set, after_sets, after_log, after_step, bidder_count}
 use Rattle.ice_journal_laws.specs.Tests.{is_valued}
 use Rattle.ice_journal_laws.specs.Progress.{Progress, nothing, other_kind, passing, failed, out_of_memory, TakesOn, passes_on}
@@ -36,10 +36,10 @@ use Rattle.ice_check_offer.specs.declared.place.CertificateList.TheVariants as l
 use Rattle.ice_check_offer.specs.Offers as offers
 use Rattle.ice_gap_laws.specs.declared.answer.GapAnswer.{GapAnswer}
 use Rattle.ice_gap_laws.specs.declared.answer.GapAnswer.TheVariants as gap_is
-use Rattle.ice_gap_laws.specs.Gap.{next_group, at_gap_sets, is_in_group, aimed_place, with_target, GapProgress, checking, in_group, at_close, no_gap, in_its_group, is_closed, IsGapAfter}
+use Rattle.ice_gap_laws.specs.Gap.{at_gap_sets, is_in_group, aimed_place, with_target, GapProgress, checking, in_group, at_close, no_gap, in_its_group, is_closed, IsGapAfter, StatesNone, IsThere}
 use Rattle.ice_gap_laws.specs.Answers.{ended_at, gap_answer}
 use Rattle.ice_gap_laws.proofs.Right.{log_leaves}
-use Rattle.ice_gap_laws.proofs.Heading as heading
+use Rattle.ice_gap_laws.proofs.Written.{awaited_valued}
 use Rattle.ice_gap_laws.proofs.Heading.{is_stopped, usual, usual_on, AsHead, read_as_head, order_at}
 use Rattle.ice_check_records.specs.declared.gap.Spent.{Spent}
 use Rattle.ice_check_records.specs.declared.gap.GapStage.TheVariants as gap
@@ -49,12 +49,12 @@ use Rattle.ice_check_records.specs.declared.next.Next.{Next}
 use Rattle.ice_check_records.specs.declared.next.Next.TheVariants as coming
 use Rattle.ice_check_records.specs.declared.stage.Stage.{Stage}
 use Rattle.ice_check_records.specs.declared.stage.Stage.TheVariants as stage
-use Rattle.ice_check_records.specs.Heads.{version_of_head, kind_of_head, HasLog, IsThere}
+use Rattle.ice_check_records.specs.Heads.{version_of_head, kind_of_head, HasLog}
 use Rattle.ice_journal.specs.Ranges.{IsRecord}
 use Rattle.ice_check_records.specs.Groups.{at_hand, place_at, known_in, IsOffering, StandsFor, weights_for, AreKept, HasOpen, IsReady}
 use Rattle.ice_check_records.specs.Taking.{failure_at, Goes, IsTaken, Fails}
 use Rattle.ice_check_records.specs.Stages.{IsProgress, TakesFurther}
-use Rattle.ice_check_records.specs.Gaps.{gap_of, TellsAwaited, AwaitsGroup, StatesNone, IsInGroup, IsInside, IsGapProgress, is_no_stop, IsOpen, gap_stage, opened_stage, failed_gap, found_of, TakesGapFurther, LeadsFrom, LeadsInside, WalksOn}
+use Rattle.ice_check_records.specs.Gaps.{gap_of, TellsAwaited, AwaitsGroup, IsInGroup, IsInside, IsGapProgress, is_no_stop, IsOpen, gap_stage, opened_stage, failed_gap, found_of, TakesGapFurther, LeadsFrom, LeadsInside, WalksOn}
 use Rattle.ice_check_records.proofs.Knowing.{IsQuiet, stands_known, stands_goes, stands_fails}
 
 -- ---- before a stop
@@ -80,30 +80,17 @@ usual_stands n (stage.Failed there rule.Closed) q is = ap usual is
 usual_stands n (stage.Failed there other) q is = (failed (record { line = there; rule = other }), ap usual is, refl)
 usual_stands n stage.OutOfMemory q is = (out_of_memory, ap usual is, refl)
 
-none_there : (p : Progress) (r : Record) → StatesNone p r → heading.StatesNone p r
-none_there (passing s) r h = h
-none_there other r h = tt
-
 pub usual_leads : (n : ℕ) (before after : Stage) (r : Record) → IsOpen before → ((m : ℕ) (p : Progress) → IsProgress m before p → StatesNone p r)
     → ((p : Progress) → IsProgress n before p → TakesFurther n after p r) → LeadsFrom n before r (gap_stage after)
 usual_leads n before after r open_end none takes p is =
     let x = takes p is in
     record {
       after = usual x.after;
-      leads = usual_on p r x.after x.leads (open_progress n before p open_end is) (none_there p r (none n p is));
+      leads = usual_on p r x.after x.leads (open_progress n before p open_end is) (none n p is);
       stands = usual_stands (suc n) after x.after x.stands;
     }
 
 -- ---- at a stop
-
-awaited_valued : (kind : Kind) (place : Place) (g : Group) → next_group kind place ≡ Some g → is_valued g ≡ true
-awaited_valued kind (at_group Assign) g e = absurd (none-some g e)
-awaited_valued kind (at_group Final) g e = ap is_valued (sym (same_Some Final g e))
-awaited_valued kind (at_group Rival) g e = ap is_valued (sym (same_Some Rival g e))
-awaited_valued kind (at_group Provisional) g e = ap is_valued (sym (same_Some Provisional g e))
-awaited_valued kind (at_group (Without b)) g e = ap is_valued (sym (same_Some (Without b) g e))
-awaited_valued regret_kind at_section g e = ap is_valued (sym (same_Some Final g e))
-awaited_valued kind other g e = absurd (none-some g e)
 
 same_passing : (s t : State) → passing s ≡ passing t → s ≡ t
 same_passing s t e = cc

@@ -18,8 +18,8 @@ use Rattle.ice_defs.specs.Conditions.{AreBoundsOf, AreWeightsOf}
 use Rattle.ice_bound.proofs.Fixings.{free_fixings}
 use Rattle.ice_bound.proofs.Modest.{lower_modest, weighted_modest, perturbed_modest}
 use Rattle.ice_trade.proofs.Weighted.{length-trees}
+use Rattle.ice_gap_laws.specs.Gap.{IsThere}
 use Rattle.ice_check_records.specs.declared.log.LogWalk.{LogWalk}
-use Rattle.ice_check_records.specs.Heads.{IsThere}
 use Rattle.ice_check_records.specs.Logs.{IsWalkOf, start_side, CanStart}
 
 -- ---- the bidders of an exchange

@@ -18,7 +18,7 @@ use Rattle.ice_check_offer.specs.declared.fault.Fault.{Fault}
 use Rattle.ice_check_offer.specs.declared.fault.Fault.TheVariants.{Here}
 use Rattle.ice_gap_laws.specs.declared.answer.GapAnswer.{GapAnswer}
 use Rattle.ice_gap_laws.specs.declared.answer.GapAnswer.TheVariants as gap_answer
-use Rattle.ice_gap_laws.specs.Gap.{Gap, next_group, gap_in, with_target}
+use Rattle.ice_gap_laws.specs.Gap.{Gap, next_group, with_target}
 use Rattle.ice_gap_laws.specs.Gap.{GapProgress, checking, in_group, at_close, ended, no_gap, IsGapAfter}
 use Rattle.ice_check_records.specs.declared.gap.Spent.{Spent}
 use Rattle.ice_check_records.specs.declared.gap.GapStage.{GapStage}
@@ -44,11 +44,6 @@ TellsAwaited found p = found ≡ None
 
 abbrev pub AwaitsGroup : Stage → Option Group → Type 0
 AwaitsGroup s found = (n : ℕ) (p : Progress) → IsProgress n s p → TellsAwaited found p
-
--- a record states no gap there
-abbrev pub StatesNone : Progress → Record → Type 0
-StatesNone (passing s) r = gap_in s r ≡ None
-StatesNone p r = Unit {0}
 
 -- ---- the stages
 

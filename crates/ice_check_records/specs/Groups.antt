@@ -10,12 +10,13 @@ use Rattle.ice_defs.specs.Lawful.{IsExchange}
 use Rattle.ice_tree.specs.Alike.{HasSetPerTree}
 use Rattle.ice_journal_laws.specs.State.{Stated, Place, at_group, at_sets, at_log, at_regret, at_threshold, at_payment, at_end, done, State}
 use Rattle.ice_journal_laws.specs.Assigning.{section_of}
+use Rattle.ice_gap_laws.specs.Gap.{IsThere}
 use Rattle.ice_check_offer.specs.Offers as offers
 use Rattle.ice_check_records.specs.declared.next.Next.{Next}
 use Rattle.ice_check_records.specs.declared.next.Next.TheVariants as next
 use Rattle.ice_check_records.specs.declared.groups.Groups.{Groups}
 use Rattle.ice_check_records.specs.Heads.{version_of_head, kind_of_head, end_of}
-use Rattle.ice_check_records.specs.Heads.{HasRegret, IsSession, IsGroupOf, HasLog, IsThere, withouts_before}
+use Rattle.ice_check_records.specs.Heads.{HasRegret, IsSession, IsGroupOf, HasLog, withouts_before}
 use Rattle.ice_check_records.specs.Logs.{IsWalkOf}
 
 -- the value and the sets of the group at hand

@@ -1,5 +1,5 @@
 -- The heads of journals that are checked, and the groups of each.
-use Rattle.std.specs.Prelude.{ℕ, ◌==◌, ◌<◌, Bool, false}
+use Rattle.std.specs.Prelude.{ℕ, ◌==◌, Bool, false}
 use Rattle.ice_defs.specs.declared.Group.{Group}
 use Rattle.ice_defs.specs.declared.Group.TheVariants as group
 use Rattle.ice_journal.specs.Records.{Record, Version, version_1, Kind, assign_kind, regret_kind, session_kind}
@@ -54,11 +54,6 @@ IsGroupOf head other = ⊥
 abbrev pub HasLog : Group → Type 0
 HasLog group.Assign = ⊥
 HasLog other = Unit {0}
-
--- the bidder that a group leaves out is one of so many
-abbrev pub IsThere : ℕ → Group → Type 0
-IsThere bidders (group.Without b) = b < bidders
-IsThere bidders other = Unit {0}
 
 -- how many values without a bidder are complete before a group
 abbrev pub withouts_before : Group → ℕ

@@ -8,13 +8,12 @@ ghost use Rattle.ice_journal_laws.specs.State.{State};
 ghost use Rattle.ice_journal_laws.specs.Fields.{is_end};
 ghost use Rattle.ice_journal_laws.specs.Showing.{head_of_group};
 ghost use Rattle.ice_journal_laws.specs.Progress.{Progress};
-ghost use Rattle.ice_gap_laws.specs.Gap.{GapProgress, next_group};
+ghost use Rattle.ice_gap_laws.specs.Gap.{GapProgress, next_group, StatesNone, IsThere};
 ghost use Rattle.ice_gap_laws.specs.Answers.{gap_answer};
 ghost use Rattle.ice_check_records.specs.Groups.{AreKept, IsReady, StandsFor};
 ghost use Rattle.ice_check_records.specs.Taking.{failure_at};
-ghost use Rattle.ice_check_records.specs.Heads.{IsThere};
 ghost use Rattle.ice_check_records.specs.Stages.{IsProgress, IsAtLine, IsKept};
-ghost use Rattle.ice_check_records.specs.Gaps.{AwaitsGroup, StatesNone, IsOpen, IsGapProgress, IsGapKept, gap_stage, opened_stage, failed_gap, found_of, LeadsInside, LeadsGapOn, LeadsFrom, TakesAimed};
+ghost use Rattle.ice_check_records.specs.Gaps.{AwaitsGroup, IsOpen, IsGapProgress, IsGapKept, gap_stage, opened_stage, failed_gap, found_of, LeadsInside, LeadsGapOn, LeadsFrom, TakesAimed};
 
 use crate::groups::Groups;
 use crate::head::Head;

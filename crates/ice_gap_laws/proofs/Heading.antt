@@ -20,7 +20,7 @@ use Rattle.ice_journal_laws.specs.Progress.{Progress, nothing, other_kind, passi
 use Rattle.ice_journal_laws.specs.Showing.{head_of_group}
 use Rattle.ice_journal_laws.proofs.Places.{fails_order}
 use Rattle.ice_journal_laws.proofs.Settling.{head_opens, head_spent}
-use Rattle.ice_gap_laws.specs.Gap.{Gap, next_group, gap_in, at_gap_sets, GapProgress, checking, in_group, no_gap, is_closed, from_stop, unless_stopped, IsGapAfter}
+use Rattle.ice_gap_laws.specs.Gap.{Gap, next_group, gap_in, at_gap_sets, GapProgress, checking, in_group, no_gap, is_closed, from_stop, unless_stopped, IsGapAfter, StatesNone}
 use Rattle.ice_gap_laws.proofs.Single.{takes_same}
 use Rattle.ice_gap_laws.proofs.Right.{no_list}
 
@@ -117,10 +117,6 @@ is_stopped p = false
 abbrev pub usual : Progress → GapProgress
 usual (failed failure) = if is_closed failure.rule then no_gap failure.line else checking (failed failure)
 usual p = checking p
-
-abbrev pub StatesNone : Progress → Record → Type 0
-StatesNone (passing s) r = gap_in s r ≡ None
-StatesNone p r = Unit {0}
 
 first_usual : (r : Record) → checking (after_head r) ≡ usual (after_head r)
 first_usual (line.head version kind) = by (is_checked version kind)

@@ -1,6 +1,6 @@
 -- Where the head of a group is awaited, the exchange is lawful, and
 -- whom the group leaves out is one of its bidders.
-use Rattle.std.proofs.Common.{◌≡◌, ◌<◌, ℕ, true, List, length, refl, ◌∙◌, subst}
+use Rattle.std.proofs.Common.{◌≡◌, ℕ, true, List, length, refl, ◌∙◌, subst}
 use Rattle.std.specs.Prelude.{Some}
 use Rattle.std.specs.List.{AllByRecursion}
 use Rattle.std.proofs.lemmas.Bool.{false≢true}
@@ -33,13 +33,8 @@ use Rattle.ice_journal_laws.proofs.Regretting.{section_told}
 use Rattle.ice_journal_laws.proofs.Regretted.{regret_stands}
 use Rattle.ice_journal_laws.proofs.Sessions as sessions
 use Rattle.ice_journal_laws.proofs.SessionRight.{session_stands}
-use Rattle.ice_gap_laws.specs.Gap.{next_group, before_head}
+use Rattle.ice_gap_laws.specs.Gap.{next_group, before_head, IsThere}
 use Rattle.ice_gap_laws.specs.Laws.{EndsThere, HasFinal, IsReached, IsReachedAt}
-
--- a group that leaves out a bidder leaves out one that is there
-abbrev pub IsThere : ℕ → Group → Type 0
-IsThere bidders (Without b) = b < bidders
-IsThere bidders other = Unit {0}
 
 pub record IsAwaited (g : Group) (now : State) : Type 0 where
   pub exchange : IsExchange (exchange_at now)

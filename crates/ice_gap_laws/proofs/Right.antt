@@ -44,10 +44,10 @@ use Rattle.ice_journal_laws.proofs.Plaining.{length_after, changed_length}
 use Rattle.ice_journal_laws.proofs.Heads.{all_left}
 use Rattle.ice_gap_laws.specs.declared.answer.GapAnswer.{GapAnswer}
 use Rattle.ice_gap_laws.specs.declared.answer.GapAnswer.TheVariants as answer
-use Rattle.ice_gap_laws.specs.Gap.{Gap, next_group, gap_in, before_head, at_gap_sets, is_in_group, with_target, GapProgress, checking, in_group, at_close, ended, no_gap, from_stop, unless_stopped, in_its_group, out_of_order, IsGapAfter, GapLeads, stays, goes}
+use Rattle.ice_gap_laws.specs.Gap.{Gap, next_group, gap_in, before_head, at_gap_sets, is_in_group, with_target, GapProgress, checking, in_group, at_close, ended, no_gap, from_stop, unless_stopped, in_its_group, out_of_order, IsGapAfter, GapLeads, stays, goes, IsThere}
 use Rattle.ice_gap_laws.specs.Answers.{ended_at, gap_answer}
 use Rattle.ice_gap_laws.specs.Laws.{EndsThere, IsGap, StatesGap, GapIsRight}
-use Rattle.ice_gap_laws.proofs.Ready.{IsThere, IsAwaited, is_awaited}
+use Rattle.ice_gap_laws.proofs.Ready.{IsAwaited, is_awaited}
 
 abbrev spent_record : Gap → Record
 spent_record gap = line.spent gap.value gap.bound

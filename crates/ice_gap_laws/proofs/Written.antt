@@ -202,7 +202,7 @@ module _ (now : State) (g : Group) (p : Proved) (bound : ℤ) (valued : is_value
 
 -- ---- the whole journal
 
-awaited_valued : (kind : Kind) (place : Place) (g : Group) → next_group kind place ≡ Some g → is_valued g ≡ true
+pub awaited_valued : (kind : Kind) (place : Place) (g : Group) → next_group kind place ≡ Some g → is_valued g ≡ true
 awaited_valued kind (at_group Assign) g e = absurd (none-some g e)
 awaited_valued kind (at_group Final) g e = ap is_valued (sym (same_Some Final g e))
 awaited_valued kind (at_group Rival) g e = ap is_valued (sym (same_Some Rival g e))

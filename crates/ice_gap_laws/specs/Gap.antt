@@ -1,9 +1,9 @@
 -- A journal that stops at a search that spent its branches: how far the tests have come, where
 -- they go on behind the `spent` record. Its sets and its log are tested as those of the group in
 -- whose place it stands, but for the target of the log, which is the stated bound.
-use Rattle.std.specs.Prelude.{ℕ, suc, Bool, true, false, if◌then◌else◌, int_lt, ◌≡◌, List, [], ◌∷◌, ℤ, Option, Some, None, option_map}
+use Rattle.std.specs.Prelude.{ℕ, suc, ◌<◌, Bool, true, false, if◌then◌else◌, int_lt, ◌≡◌, List, [], ◌∷◌, ℤ, Option, Some, None, option_map}
 use Rattle.ice_defs.specs.declared.Group.{Group}
-use Rattle.ice_defs.specs.declared.Group.TheVariants.{Assign, Final}
+use Rattle.ice_defs.specs.declared.Group.TheVariants.{Assign, Final, Without}
 use Rattle.ice_journal.specs.Records.{Record, Kind, regret_kind, spent_end}
 use Rattle.ice_journal.specs.Records as line
 use Rattle.ice_journal_laws.specs.declared.rule.Rule.{Rule}
@@ -30,6 +30,16 @@ next_group kind place = None
 abbrev pub gap_in : State → Record → Option Gap
 gap_in s (line.spent value bound) = option_map (λ g. record { group = g; value = value; bound = bound }) (next_group s.kind s.place)
 gap_in s other = None
+
+-- a record states no gap there
+abbrev pub StatesNone : Progress → Record → Type 0
+StatesNone (passing s) r = gap_in s r ≡ None
+StatesNone p r = Unit {0}
+
+-- a group that leaves out a bidder leaves out one of so many
+abbrev pub IsThere : ℕ → Group → Type 0
+IsThere bidders (Without b) = b < bidders
+IsThere bidders other = Unit {0}
 
 -- the state in which that head is awaited
 abbrev pub before_head : Place → State → State
