@@ -14,25 +14,27 @@ use Rattle.ice_journal_laws.specs.Checks.{Failure, IsChecked, FirstFailure, Chec
 use Rattle.ice_journal_laws.specs.Theorems.{Yes, of_assigned, of_regret, of_session, IsYes}
 use Rattle.ice_journal_laws.specs.Progress.{Progress, nothing, other_kind, passing, failed, out_of_memory, Leads}
 
--- these records are those of the bytes, and this holds of them
+-- the bytes are a journal, and P holds of its records
 abbrev pub OfJournal : List ℕ → (List Record → Type 0) → Type 0
 OfJournal bytes P = (journal : List Record) × IsJournal bytes journal × P journal
 
--- a journal passes every test, and its yes says this; or this is its first failed test
+-- the journal passes every test, and its yes says this
 abbrev pub HasYes : List Record → Yes → Type 0
 HasYes journal said = Checks journal × IsYes journal said
 
+-- the journal is of a kind that is checked, and this is its first failed test
 abbrev pub HasNo : List Record → Failure → Type 0
 HasNo journal failure = IsChecked journal × FirstFailure journal (Some failure)
 
+-- the answer to a journal: its yes, or its first failed test
 abbrev pub AnswersJournal : List Record → Answer → Type 0
 AnswersJournal journal (Assign value) = HasYes journal (of_assigned value)
 AnswersJournal journal (Regret amount) = HasYes journal (of_regret amount)
 AnswersJournal journal (Closed regret surplus) = HasYes journal (of_session regret surplus)
 AnswersJournal journal (No line test) = HasNo journal (record { line = line; rule = test })
 
--- the least line at fault comes first, then another kind, then the first failed test or the yes;
--- want of memory is free
+-- the answer to bytes: the least line at fault comes first, then another kind, then the first
+-- failed test or the yes; want of memory may be answered to any bytes
 abbrev pub AnswersBytes : List ℕ → Result Answer CheckEnd → Type 0
 AnswersBytes bytes (Ok answer) = OfJournal bytes (λ journal. AnswersJournal journal answer)
 AnswersBytes bytes (Err (Grammar line)) = IsLinesFault bytes (grammar line)
@@ -58,11 +60,11 @@ abbrev pub EndIsAnswer : Type 0
 EndIsAnswer = (bytes : List ℕ) (journal : List Record) (p : Progress) (answer : Result Answer CheckEnd)
     → IsJournal bytes journal → Leads nothing journal p → EndsWith p answer → AnswersBytes bytes answer
 
--- the records of the bytes lead here
+-- the tests of the journal that the bytes are have come this far
 abbrev pub HoldsJournal : List ℕ → Progress → Type 0
 HoldsJournal bytes p = OfJournal bytes (λ journal. Leads nothing journal p)
 
--- but for want of memory, bytes have one answer
+-- two answers to the same bytes are one, unless either is want of memory
 abbrev pub OneAnswer : Type 0
 OneAnswer = (bytes : List ℕ) (one other : Result Answer CheckEnd) → AnswersBytes bytes one → AnswersBytes bytes other → one ≢ Err NoMemory
     → other ≢ Err NoMemory → one ≡ other

@@ -18,7 +18,7 @@ section_state version kind line section = record (begun version kind) { line = l
 abbrev pub section_of : Exchange → Section
 section_of ex = record { settings = Some ex.settings; goods = ex.goods; bidders = ex.bidders; draft = None }
 
--- this exchange is described
+-- the records that describe this exchange are read, and this line is next
 abbrev pub exchange_state : Version → Kind → ℕ → Exchange → State
 exchange_state version kind line ex = record (section_state version kind line (section_of ex)) { bounds = opening_bounds ex }
 
@@ -32,6 +32,7 @@ rule_of Many = rule.Many
 abbrev pub IsBalanced : Exchange → Assignment → ℕ → Type 0
 IsBalanced ex sets g = IsCovered (is_exact (exact_of ex) g) (total_units (trees_of ex) sets g) (pos 0)
 
+-- each good is covered
 abbrev pub AreBalanced : Exchange → Assignment → Type 0
 AreBalanced ex sets = (g : ℕ) → g < length (exact_of ex) → IsBalanced ex sets g
 

@@ -8,6 +8,7 @@ use Rattle.ice_journal_laws.specs.State.{done, State, begun}
 use Rattle.ice_journal_laws.specs.Next.{next}
 use Rattle.ice_journal_laws.specs.Tests.{Fails, FailsFirst, Holds, ended_list, ListHolds}
 
+-- a failed test: its line and its rule
 pub record Failure : Type 0 where
   pub line : ℕ
   pub rule : Rule
@@ -33,6 +34,7 @@ is_checked version regret_kind = true
 is_checked version session_kind = true
 is_checked version other = false
 
+-- the journal begins with a head that is checked
 abbrev pub IsChecked : List Record → Type 0
 IsChecked (line.head version kind ∷ rest) = IsTrue (is_checked version kind)
 IsChecked other = ⊥

@@ -33,20 +33,25 @@ module _ (E : Earning) where
     abbrev pub EarnsLog : List Weights → Group → Assignment → List Step → Type 0
     EarnsLog ws g first log = AllByRecursion (λ p. E ts exact ws (start_of ts g) first p.0 p.1) (steps_with_sides (start_of ts g ∷ []) log)
 
+    -- each step of the logs without a bidder is earned, from bidder b on
     abbrev pub EarnsWithouts : List Weights → ℕ → List Proved → Type 0
     EarnsWithouts ws b [] = Unit {0}
     EarnsWithouts ws b (p ∷ later) = EarnsLog ws (Without b) (empty_sets ts) p.log × EarnsWithouts ws (suc b) later
 
   module _ (ex : Exchange) where
+    -- each step of the two logs of a settlement is earned
     pub record EarnsSettlement (bounds : List Bounds) (x : Settlement) : Type 0 where
       pub final : EarnsLog (trees_of ex) (exact_of ex) (lower_weights bounds) Final (empty_sets (trees_of ex)) x.final.log
       pub rival : EarnsLog (trees_of ex) (exact_of ex) (perturbed_weights x.final.sets bounds) Rival x.final.sets x.rival.log
 
+    -- each step of the three logs of a settlement that goes on is earned
     pub record EarnsGoing (bounds : List Bounds) (g : Going) : Type 0 where
       pub settlement : EarnsSettlement bounds g.settlement
       pub provisional : EarnsLog (trees_of ex) (exact_of ex) (weighted_weights ex.settings.weight bounds) Provisional
           (empty_sets (trees_of ex)) g.provisional.log
 
+    -- each step of all logs of these settlements is earned, each at the bounds that the rounds
+    -- before it leave
     abbrev pub EarnGoings : List Bounds → List Going → Type 0
     EarnGoings bounds [] = Unit {0}
     EarnGoings bounds (g ∷ later) = EarnsGoing bounds g × EarnGoings (bounds_after_round ex bounds g) later

@@ -24,30 +24,34 @@ use Rattle.ice_journal_laws.specs.State.{Stated, Place, at_section, at_group, at
 use Rattle.ice_journal_laws.specs.State.{at_accuracy_rows, at_balance_rows, at_round, at_verdict, at_threshold, at_payment, at_spent_sets}
 use Rattle.ice_journal_laws.specs.State.{at_spent_log, at_pool, at_end, done, State, exchange_at, settings_at, trees_at, goods_at}
 
+-- the state at another place
 abbrev pub go_to : Place → State → State
 go_to place s = record s { place = place }
 
+-- the number of bidders
 abbrev pub bidder_count : State → ℕ
 bidder_count s = length (trees_at s)
 
+-- a thing where the test is true, and else nothing
 abbrev pub if_true : {X : Type 0} → Bool → X → Option X
 if_true {X} test x = if test then Some x else None
 
--- a list of rows has at most 200
+-- one more row may stand in a list: it has at most 200
 abbrev pub may_have_row : List Row → Bool
 may_have_row rows = nat_lt (length rows) 200
 
 -- ---- groups
 
--- the head of a group, or a stop in its place
+-- the sets of a group follow its head; in the place of the head a stop may stand
 abbrev pub from_head : State → Group → Record → Option ℤ → Option State
 from_head s g r (Some value) = Some (go_to (at_sets g (record { value = value; sets = [] })) s)
 from_head s g r None = if_true (is_spent r) (go_to (at_spent_sets 0) s)
 
+-- the record that stands where the head of a group is due
 abbrev pub from_group : State → Group → Record → Option State
 from_group s g r = from_head s g r (head_value g r)
 
--- the sets of a group are all there: a log follows
+-- the sets of a group are all there: its log follows, and in an assign journal the end
 abbrev pub after_sets : State → Group → Stated → State
 after_sets s Assign found = go_to (at_end assign_end) (record s { final = found })
 after_sets s Final found = go_to (at_log Final found (start_of (trees_at s) Final ∷ []) (all_zero (goods_at s))) s
@@ -55,15 +59,17 @@ after_sets s Rival found = go_to (at_log Rival found (start_of (trees_at s) Riva
 after_sets s Provisional found = go_to (at_log Provisional found (start_of (trees_at s) Provisional ∷ []) (all_zero (goods_at s))) s
 after_sets s (Without b) found = go_to (at_log (Without b) found (start_of (trees_at s) (Without b) ∷ []) (all_zero (goods_at s))) s
 
+-- one more set of a group
 abbrev pub with_set : Stated → NodeSet → Stated
 with_set found x = record { value = found.value; sets = found.sets ++ x ∷ [] }
 
+-- the record that stands where a set of a group is due
 abbrev pub from_sets : State → Group → Stated → Record → Option State
 from_sets s g found r =
     option_map (λ x. if suc (length found.sets) == bidder_count s then after_sets s g (with_set found x)
     else go_to (at_sets g (with_set found x)) s) (set_in r)
 
--- a group is complete
+-- a group is complete: what the tests look back at is kept of it, and this is due next
 abbrev pub after_log : State → Group → Stated → State
 after_log s Assign found = s
 after_log s Final found = go_to (at_group Rival) (record s { final = found })
@@ -73,41 +79,51 @@ after_log s (Without b) found =
     go_to (if suc b == bidder_count s then at_threshold else at_group (Without (suc b)))
     (record s { withouts = s.withouts ++ found.value ∷ [] })
 
+-- a step follows while sides are open, and else the group is complete
 abbrev pub after_step : State → Group → Stated → List Side → Multipliers → State
 after_step s g found [] m = after_log s g found
 after_step s g found (side ∷ open_sides) m = go_to (at_log g found (side ∷ open_sides) m) s
 
+-- the record that stands where a step of a log is due
 abbrev pub from_log : State → Group → Stated → List Side → Multipliers → Record → Option State
 from_log s g found open_sides m r =
     option_map (λ x. after_step s g found (sides_after open_sides x) (multipliers_after m x)) (step_in s.version (goods_at s) m r)
 
 -- ---- settlements
 
+-- the close test decides how a session goes on after a regret; a regret journal ends
 abbrev pub after_regret : State → Kind → State
 after_regret s session_kind = go_to (if closes (settings_at s) s.number s.regret then at_group (Without 0) else at_group Provisional) s
 after_regret s other = go_to (at_end regret_end) s
 
+-- the record that stands where the regret is due
 abbrev pub from_regret : State → Record → Option State
 from_regret s r = option_map (λ amount. after_regret (record s { regret = amount }) s.kind) (amount_in r)
 
+-- the state that follows, and where none does the stop's, if the record is one
 abbrev pub or_stop : Bool → State → Option State → Option State
 or_stop is_stop stopped (Some s) = Some s
 or_stop is_stop stopped None = if_true is_stop stopped
 
+-- the record that stands where prices are due, or the limit in their place
 abbrev pub from_prices : State → Record → Option State
 from_prices s r =
     or_stop (is_limit r) (go_to at_pool s) (option_map (λ p. go_to at_accuracy (record s { prices = p })) (prices_in (goods_at s) r))
 
+-- the record that stands where the violation is due
 abbrev pub from_accuracy : State → Record → Option State
 from_accuracy s r = option_map (λ a. go_to (at_accuracy_rows a.den []) (record s { violation = a.violation })) (accuracy_in r)
 
+-- a `balance` record ends the rows of accuracy
 abbrev pub to_balance : State → Record → Option State
 to_balance s r = option_map (λ den. go_to (at_balance_rows den []) s) (balance_in r)
 
+-- the state that follows, and where none does the one with one more row, if the record is one
 abbrev pub with_row : List Row → (List Row → Place) → State → Record → Option State → Option State
 with_row rows place s r (Some after) = Some after
 with_row rows place s r None = option_and_then (λ row. if_true (may_have_row rows) (go_to (place (rows ++ row ∷ [])) s)) (row_in r)
 
+-- the record that stands after the rows of accuracy so far: `balance` or one more row
 abbrev pub from_accuracy_rows : State → ℕ → List Row → Record → Option State
 from_accuracy_rows s den rows r = with_row rows (at_accuracy_rows den) s r (to_balance s r)
 
@@ -121,6 +137,7 @@ next_settlement s = go_to (at_group Final)
       withouts = [];
     })
 
+-- a `settle` record of the next number ends the round
 abbrev pub to_settlement : State → Record → Option State
 to_settlement s r = option_and_then (λ number. if_true (number == suc s.number) (next_settlement s)) (settlement_in r)
 
@@ -132,29 +149,36 @@ from_round s r = submitted (submission_in r)
     submitted (Some x) = Some (go_to (at_verdict x) s)
     submitted None = to_settlement s r
 
+-- the record that stands where the verdict on a submission is due
 abbrev pub from_verdict : State → Submission → Record → Option State
 from_verdict s x r =
     option_map (λ v. go_to at_round (record s { judged = s.judged ++ record { submission = x; verdict = v } ∷ [] })) (verdict_in r)
 
+-- the record that stands after the rows of balance so far: one more row, the first record of the
+-- round, the next settlement, or a stop for want of a round file
 abbrev pub from_balance_rows : State → ℕ → List Row → Record → Option State
 from_balance_rows s den rows r =
     or_stop (is_round_stop (s.number + 2) r) (go_to done s) (with_row rows (at_balance_rows den) s r (from_round s r))
 
 -- ---- the closing
 
+-- the record that stands where the cut and the surplus are due
 abbrev pub from_threshold : State → Record → Option State
 from_threshold s r = option_map (λ c. go_to (at_payment 0) (record s { cut = c.cut; surplus = c.surplus })) (threshold_in r)
 
+-- the record that stands where the payment of bidder b is due, under its name
 abbrev pub from_payment : State → ℕ → Record → Option State
 from_payment s b r =
     option_and_then (λ p. if_true (bytes_eq p.name (slice_index_or (names_of (exchange_at s)) b []))
     (go_to (if suc b == bidder_count s then at_end closed_end else at_payment (suc b)) s)) (payment_in r)
 
+-- the record that stands where `end` is due with this word
 abbrev pub from_end : State → EndWord → Record → Option State
 from_end s word r = if_true (is_end word r) (go_to done s)
 
 -- ---- stops
 
+-- the record that stands where a set of a spent search is due
 abbrev pub from_spent_sets : State → ℕ → Record → Option State
 from_spent_sets s taken r =
     option_map (λ x. go_to (if suc taken == bidder_count s then at_spent_log 1 else at_spent_sets (suc taken)) s) (set_in r)
@@ -165,16 +189,19 @@ open_after (branch b n) open_sides = suc open_sides
 open_after (leaf m) open_sides = open_sides - 1
 open_after (dead b) open_sides = open_sides - 1
 
+-- the record that stands where a step of a spent search is due
 abbrev pub from_spent_log : State → ℕ → Record → Option State
 from_spent_log s open_sides r =
     option_map (λ x. go_to (if open_after x open_sides == 0 then at_end spent_end else at_spent_log (open_after x open_sides)) s)
     (step_in s.version (goods_at s) (all_zero (goods_at s)) r)
 
+-- the record that stands after the pool so far: one more set, or the end
 abbrev pub from_pool : State → Record → Option State
 from_pool s r = if is_pool r then Some s else from_end s limit_end r
 
 -- ---- the section of the exchange, and what comes after it
 
+-- the first record behind the section of the exchange, by the kind of the journal
 abbrev pub after_section : State → Kind → Record → Option State
 after_section s assign_kind r = if_true (is_assign r) (go_to (at_sets Assign (record { value = pos 0; sets = [] })) s)
 after_section s regret_kind r = from_group s Final r
@@ -186,7 +213,8 @@ after_section s prices_kind r = None
 abbrev pub past_section : State → State
 past_section s = record s { bounds = opening_bounds (exchange_at s) }
 
--- where a maker refuses, the order is not at fault
+-- the record that stands in the section of the exchange or ends it; where a maker refuses, the
+-- order is not at fault
 abbrev pub from_section : State → Record → Result Section SectionFault → Option State
 from_section s r (Ok section) = Some (record s { section = section })
 from_section s r (Err order) = if may_end s.section then after_section (past_section s) s.kind r else None
@@ -194,6 +222,7 @@ from_section s r (Err count) = Some s
 from_section s r (Err no_good) = Some s
 from_section s r (Err (maker number)) = Some s
 
+-- what a record makes of the state at this place, but for the line
 abbrev pub next_at : State → Place → Record → Option State
 next_at s at_section r = from_section s r (take_record s.section r)
 next_at s (at_group g) r = from_group s g r
@@ -214,6 +243,7 @@ next_at s at_pool r = from_pool s r
 next_at s (at_end word) r = from_end s word r
 next_at s done r = None
 
+-- the state with this line as the next one
 abbrev pub to_line : ℕ → State → State
 to_line n s = record s { line = n }
 

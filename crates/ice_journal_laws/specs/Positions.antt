@@ -15,13 +15,14 @@ use Rattle.ice_journal_laws.specs.Showing.{group_records, regret_group_records, 
 use Rattle.ice_journal_laws.specs.ShowingSession.{without_group_records, AreShownWithout}
 use Rattle.ice_journal_laws.specs.Earning.{Earning, EarnsLog, EarnsWithouts, EarnsSettlement}
 
+-- a search of a settlement, with the groups that stand before it
 pub data Position : Type 0 where
   before_final : Position
   before_rival : Proved → Position
   before_provisional : Settlement → Position
   before_without : Settlement → List Proved → Position
 
--- the group whose search it is
+-- the group that the search is of
 abbrev pub group_at : Position → Group
 group_at before_final = Final
 group_at (before_rival final) = Rival
@@ -35,6 +36,7 @@ first_at ex (before_rival final) = final.sets
 first_at ex (before_provisional x) = empty_sets (trees_of ex)
 first_at ex (before_without x withouts) = empty_sets (trees_of ex)
 
+-- the records of the settlement before this search
 abbrev pub position_records : Version → ℕ → ℕ → Position → List Record
 position_records version goods number before_final = line.settle number ∷ []
 position_records version goods number (before_rival final) = line.settle number ∷ group_records version goods (line.final final.value) final
@@ -42,7 +44,7 @@ position_records version goods number (before_provisional x) = line.settle numbe
 position_records version goods number (before_without x withouts) = line.settle number ∷ regret_group_records version goods x
     ++ without_group_records version goods 0 withouts
 
--- the groups before it are shown, and the close test comes out so
+-- the groups before the search are shown, and the close test comes out so that the search follows
 abbrev pub IsShownPosition : Exchange → ℕ → List Bounds → Position → Type 0
 IsShownPosition ex number bounds before_final = Unit {0}
 IsShownPosition ex number bounds (before_rival final) = IsShown (trees_of ex) (exact_of ex) (lower_weights bounds) Final final
@@ -51,7 +53,7 @@ IsShownPosition ex number bounds (before_without x withouts) =
     (closes ex.settings number x.regret ≡ true) × IsShownSettlement ex bounds x × (length withouts < length (trees_of ex))
     × AreShownWithout (trees_of ex) (exact_of ex) (lower_weights bounds) 0 withouts
 
--- and their steps are earned
+-- each step of the groups before the search is earned
 abbrev pub EarnsPosition : Earning → Exchange → List Bounds → Position → Type 0
 EarnsPosition E ex bounds before_final = Unit {0}
 EarnsPosition E ex bounds (before_rival final) =
@@ -60,18 +62,21 @@ EarnsPosition E ex bounds (before_provisional x) = EarnsSettlement E ex bounds x
 EarnsPosition E ex bounds (before_without x withouts) = EarnsSettlement E ex bounds x
     × EarnsWithouts E (trees_of ex) (exact_of ex) (lower_weights bounds) 0 withouts
 
--- how many branch steps the groups have
+-- how many branch steps the two groups of a settlement have
 abbrev pub settlement_branches : Settlement → ℕ
 settlement_branches x = branch_count x.final.log + branch_count x.rival.log
 
+-- how many branch steps these groups have
 abbrev pub group_branches : List Proved → ℕ
 group_branches [] = 0
 group_branches (p ∷ later) = branch_count p.log + group_branches later
 
+-- how many branch steps settlements that go on have
 abbrev pub going_branches : List Going → ℕ
 going_branches [] = 0
 going_branches (g ∷ later) = settlement_branches g.settlement + branch_count g.provisional.log + going_branches later
 
+-- how many branch steps the groups before a search have
 abbrev pub position_branches : Position → ℕ
 position_branches before_final = 0
 position_branches (before_rival final) = branch_count final.log

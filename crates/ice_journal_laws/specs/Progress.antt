@@ -19,6 +19,7 @@ pub data Progress : Type 0 where
   failed : Failure → Progress
   out_of_memory : Progress
 
+-- the progress after the first record
 abbrev pub after_head : Record → Progress
 after_head (line.head version kind) = if is_checked version kind then passing (begun version kind) else other_kind
 after_head other = other_kind
@@ -36,8 +37,8 @@ pub data TakesOn (s : State) (r : Record) : Progress → Type 0 where
   list_fails_at : {x : Rule} → ended_list s.place r ≡ Some x → ¬ ListHolds s.place s
       → TakesOn s r (failed (record { line = s.line - 1; rule = x }))
 
--- what the next record makes of it; a failed test stays the first one, and nothing follows where no
--- memory was left
+-- what the next record makes of the progress; a failed test stays the first one, and nothing
+-- follows where no memory was left
 abbrev pub IsAfter : Progress → Record → Progress → Type 0
 IsAfter nothing r after = after ≡ after_head r
 IsAfter other_kind r after = after ≡ other_kind
@@ -45,11 +46,12 @@ IsAfter (passing s) r after = TakesOn s r after
 IsAfter (failed failure) r after = after ≡ failed failure
 IsAfter out_of_memory r after = ⊥
 
--- the exchange and the record after it are read, or no record matters any more
+-- the place is behind the section of the exchange
 abbrev pub is_ready_at : Place → Bool
 is_ready_at at_section = false
 is_ready_at other = true
 
+-- the section of the exchange and the record behind it are read, or no record matters any more
 abbrev pub is_ready : Progress → Bool
 is_ready nothing = false
 is_ready other_kind = true
@@ -65,7 +67,7 @@ next_line (passing s) = s.line
 next_line (failed failure) = 0
 next_line out_of_memory = 0
 
--- these records lead from one to the other
+-- the records lead the tests from one progress to another
 pub data Leads : Progress → List Record → Progress → Type 0 where
   stays : {p : Progress} → Leads p [] p
   goes : {p q end : Progress} {r : Record} {rest : List Record} → IsAfter p r q → Leads q rest end → Leads p (r ∷ rest) end
@@ -75,7 +77,7 @@ abbrev pub RecordsLeadOn : Type 0
 RecordsLeadOn = (p q end : Progress) (records : List Record) (r : Record) → Leads p records q → IsAfter q r end
     → Leads p (records ++ r ∷ []) end
 
--- where these records are the whole journal: what the tests find of it
+-- what the tests find of a journal whose records have led so far and end here
 abbrev pub Finds : List Record → Progress → Type 0
 Finds journal nothing = ¬ IsChecked journal
 Finds journal out_of_memory = ⊥
@@ -85,5 +87,6 @@ Finds journal (passing s) =
     IsChecked journal × (s.place ≡ done → FirstFailure journal None)
     × (s.place ≢ done → FirstFailure journal (Some (record { line = s.line; rule = rule.Short })))
 
+-- what the records of a journal lead to tells its first failed test, or that it has none
 abbrev pub ProgressFindsTheFirstFailure : Type 0
 ProgressFindsTheFirstFailure = (journal : List Record) (p : Progress) → Leads nothing journal p → Finds journal p

@@ -19,6 +19,6 @@ pub data Reordered : List Record → List Record → Type 0 where
 abbrev pub OrderOfRoundsIsFree : Type 0
 OrderOfRoundsIsFree = (one other : List Record) → HasKind session_kind one → Reordered one other → Checks one → Checks other
 
--- either is reordered from the other
+-- where one journal is reordered from another, the other is reordered from the one
 abbrev pub ReorderedIsMutual : Type 0
 ReorderedIsMutual = (one other : List Record) → Reordered one other → Reordered other one

@@ -39,6 +39,7 @@ step_record version_2 m (branch b n) = line.step (branch b n)
 step_record version_2 m (leaf new) = line.near (changes_from 0 m new)
 step_record version_2 m (dead b) = line.step (dead b)
 
+-- the records of a log, where the leaf before it had these multipliers
 abbrev pub step_records : Version → Multipliers → List Step → List Record
 step_records version m [] = []
 step_records version m (x ∷ log) = step_record version m x ∷ step_records version (multipliers_after m x) log
@@ -47,6 +48,7 @@ step_records version m (x ∷ log) = step_record version m x ∷ step_records ve
 abbrev pub group_records : Version → ℕ → Record → Proved → List Record
 group_records version goods first p = first ∷ map line.set p.sets ++ step_records version (all_zero goods) p.log
 
+-- the value and the sets of a search, without its log
 abbrev pub stated_of : Proved → Stated
 stated_of p = record { value = p.value; sets = p.sets }
 
@@ -71,7 +73,7 @@ abbrev pub regret_group_records : Version → ℕ → Settlement → List Record
 regret_group_records version goods x = group_records version goods (line.final x.final.value) x.final
     ++ group_records version goods (line.rival x.rival.value) x.rival ++ line.regret x.regret ∷ []
 
--- both groups are shown, and the regret is the difference of their values
+-- the final group and the rival's are shown, and the regret is the difference of their values
 pub record IsShownSettlement (ex : Exchange) (bounds : List Bounds) (x : Settlement) : Type 0 where
   pub final : IsShown (trees_of ex) (exact_of ex) (lower_weights bounds) Final x.final
   pub rival : IsShown (trees_of ex) (exact_of ex) (perturbed_weights x.final.sets bounds) Rival x.rival
@@ -82,6 +84,7 @@ abbrev pub regretted_in : Version → Regretted → List Record
 regretted_in version r = line.head version regret_kind ∷ section_records r.exchange
     ++ regret_group_records version (length (exact_of r.exchange)) r.settlement ++ line.end regret_end ∷ []
 
+-- the exchange is lawful, and its one settlement is shown at the opening bounds
 pub record IsShownRegretted (r : Regretted) : Type 0 where
   pub exchange : IsExchange r.exchange
   pub settlement : IsShownSettlement r.exchange (opening_bounds r.exchange) r.settlement

@@ -27,17 +27,19 @@ use Rattle.ice_journal_laws.specs.Showing.{group_records, regret_group_records, 
 
 -- ---- the closing
 
+-- the groups without a bidder, from bidder b on
 abbrev pub without_group_records : Version → ℕ → ℕ → List Proved → List Record
 without_group_records version goods b [] = []
 without_group_records version goods b (p ∷ later) = group_records version goods (line.without b p.value) p
     ++ without_group_records version goods (suc b) later
 
+-- the records of the last settlement
 abbrev pub closed_in : Version → ℕ → ℕ → Closed → List Record
 closed_in version goods number c =
     line.settle number ∷ regret_group_records version goods c.settlement ++ without_group_records version goods 0 c.withouts
     ++ line.threshold c.cut c.surplus ∷ map payment_record c.payments ++ line.end closed_end ∷ []
 
--- each group is shown, from this bidder on
+-- each group without a bidder is shown, from bidder b on
 abbrev pub AreShownWithout : List Tree → List Bool → List Weights → ℕ → List Proved → Type 0
 AreShownWithout ts exact ws b [] = Unit {0}
 AreShownWithout ts exact ws b (p ∷ later) = IsShown ts exact ws (Without b) p × AreShownWithout ts exact ws (suc b) later
@@ -57,6 +59,8 @@ AreShownPayments names vickreys worth cut b (p ∷ later) =
     (p.name ≡ slice_index_or names b []) × IsPaymentLine (slice_index_or vickreys b (pos 0)) (worth b) cut p
     × AreShownPayments names vickreys worth cut (suc b) later
 
+-- the last settlement is shown: its groups, and the cut, the surplus and the payments that follow
+-- from their values
 pub record IsShownClosed (ex : Exchange) (bounds : List Bounds) (c : Closed) : Type 0 where
   pub settlement : IsShownSettlement ex bounds c.settlement
   pub withouts_count : length c.withouts ≡ length (trees_of ex)
@@ -69,17 +73,19 @@ pub record IsShownClosed (ex : Exchange) (bounds : List Bounds) (c : Closed) : T
 
 -- ---- a settlement that goes on
 
+-- the provisional group, and the prices with their certificates
 abbrev pub opening_in : Version → ℕ → Going → List Record
 opening_in version goods g =
     group_records version goods (line.provisional g.provisional.value) g.provisional
     ++ line.prices g.prices ∷ line.accuracy g.violation g.accuracy.den ∷ map row_record g.accuracy.rows
     ++ line.balance g.balance.den ∷ map row_record g.balance.rows
 
+-- the records of a settlement that goes on
 abbrev pub going_in : Version → ℕ → ℕ → Going → List Record
 going_in version goods number g = line.settle number ∷ regret_group_records version goods g.settlement ++ opening_in version goods g
     ++ flat_map judged_records g.judged
 
--- within the cap, and in lowest terms
+-- prices within the cap, one per good and in lowest terms
 pub record AreShownPrices (goods : ℕ) (cap : ℤ) (p : Prices) : Type 0 where
   pub count : length p.nums ≡ goods
   pub high : (g : ℕ) → g < goods → price_of p g ≤ℤ (cap *ℤ pos p.den)
@@ -101,6 +107,7 @@ pub record IsShownPricing (ts : List Tree) (ws : List Weights) (goods : ℕ) (ca
   pub balance : PassesBalance ts ws g.provisional.sets goods g.prices g.violation g.balance
   pub balance_few : length g.balance.rows ≤ 200
 
+-- a settlement that goes on is shown: its groups, its prices and its verdicts
 pub record IsShownGoing (ex : Exchange) (bounds : List Bounds) (g : Going) : Type 0 where
   pub settlement : IsShownSettlement ex bounds g.settlement
   pub provisional : IsShown (trees_of ex) (exact_of ex) (weighted_weights ex.settings.weight bounds) Provisional g.provisional
@@ -109,10 +116,12 @@ pub record IsShownGoing (ex : Exchange) (bounds : List Bounds) (g : Going) : Typ
 
 -- ---- a session
 
+-- the records of the settlements from this number on
 abbrev pub settlements_in : Version → ℕ → ℕ → List Going → Closed → List Record
 settlements_in version goods number [] c = closed_in version goods number c
 settlements_in version goods number (g ∷ later) c = going_in version goods number g ++ settlements_in version goods (suc number) later c
 
+-- the records of a session
 abbrev pub session_in : Version → Session → List Record
 session_in version s = line.head version session_kind ∷ section_records s.exchange
     ++ settlements_in version (length (exact_of s.exchange)) 0 s.going s.closed
@@ -124,12 +133,14 @@ AreShownFrom ex number bounds (g ∷ later) c =
     (closes ex.settings number g.settlement.regret ≡ false) × IsShownGoing ex bounds g
     × AreShownFrom ex (suc number) (bounds_after_round ex bounds g) later c
 
+-- the exchange is lawful, and each settlement is shown
 pub record IsShownSession (s : Session) : Type 0 where
   pub exchange : IsExchange s.exchange
   pub settlements : AreShownFrom s.exchange 0 (opening_bounds s.exchange) s.going s.closed
 
 -- ---- settlements that go on, and no last one
 
+-- the records of settlements that go on, from this number on
 abbrev pub goings_in : Version → ℕ → ℕ → List Going → List Record
 goings_in version goods number [] = []
 goings_in version goods number (g ∷ later) = going_in version goods number g ++ goings_in version goods (suc number) later
@@ -141,7 +152,7 @@ AreShownGoing ex number bounds (g ∷ later) =
     (closes ex.settings number g.settlement.regret ≡ false) × IsShownGoing ex bounds g
     × AreShownGoing ex (suc number) (bounds_after_round ex bounds g) later
 
--- the last one of these
+-- the last of these settlements
 abbrev pub last_going : Going → List Going → Going
 last_going g [] = g
 last_going g (other ∷ later) = last_going other later

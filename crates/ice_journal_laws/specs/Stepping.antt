@@ -44,7 +44,7 @@ module _ (ts : List Tree) (exact : List Bool) (ws : List Weights) (target : ℤ)
     pub sides_are : sides_then ≡ sides_after sides step
     pub multipliers_are : m_then ≡ multipliers_after m step
 
-  -- or it is none, or one that fails this test first
+  -- a record is no step, or one that fails this test first
   pub data FailsStep (sides : List Side) (m : Multipliers) (r : Record) : Rule → Type 0 where
     no_step : step_in version (length m) m r ≡ None → FailsStep sides m r rule.Order
     is_misstated : {x : Step} → step_in version (length m) m r ≡ Some x → IsMisstating version m r → FailsStep sides m r rule.Near

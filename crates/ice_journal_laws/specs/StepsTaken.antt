@@ -14,7 +14,7 @@ module _ (P : State → Taken → Type 0) where
   EachTaken s [] = Unit {0}
   EachTaken s (r ∷ rest) = IfSome (taken_step s s.place r) (P s) × ((after : State) → next s r ≡ Some after → EachTaken after rest)
 
-  -- these records lead on and pass, and each step that they take has the property
+  -- the records lead from state to state and pass, and each step that they take has the property
   pub record Earns (s : State) (records : List Record) (t : State) : Type 0 where
     pub carries : Carries s records t
     pub taken : (n : ℕ) → EachTaken (to_line n s) records

@@ -21,6 +21,7 @@ use Rattle.ice_journal_laws.specs.Next.{after_all, past_section}
 use Rattle.ice_journal_laws.specs.StepsTaken.{EachTaken, branches_in}
 use Rattle.ice_journal_laws.specs.Earning.{IsEarnedTaken}
 
+-- the records of settlements that go on, from this number on
 abbrev pub all_going_records : ℕ → List Going → List Record
 all_going_records number [] = []
 all_going_records number (g ∷ later) = going_records number g ++ all_going_records (suc number) later

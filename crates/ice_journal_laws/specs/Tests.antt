@@ -33,6 +33,7 @@ use Rattle.ice_journal_laws.specs.Next.{next, with_set, may_have_row}
 
 -- ---- order
 
+-- the record may not stand here
 abbrev pub IsOutOfOrder : State → Record → Type 0
 IsOutOfOrder s r = next s r ≡ None
 
@@ -48,6 +49,7 @@ is_refusal (Err count) = true
 is_refusal (Err no_good) = true
 is_refusal (Err (maker number)) = true
 
+-- the record belongs to the section of the exchange, and is refused there
 abbrev pub IsRefused : State → Record → Type 0
 IsRefused s r = (s.place ≡ at_section) × IsTrue (is_refusal (take_record s.section r))
 
@@ -65,10 +67,11 @@ stated_set (at_accuracy_rows den rows) r = option_map (λ row. record { bidder =
 stated_set (at_balance_rows den rows) r = option_map (λ row. record { bidder = row.bidder; set = row.set }) (row_in r)
 stated_set place r = None
 
+-- the record states a set, and P holds of it
 abbrev pub OfSet : State → Record → (BidderSet → Type 0) → Type 0
 OfSet s r P = IsSomeAnd (stated_set s.place r) P
 
--- the bits don't count the bidder's nodes, or no bidder is there
+-- the bits of the set don't count the bidder's nodes, or no bidder is there
 abbrev pub IsMiscounted : State → Record → Type 0
 IsMiscounted s r = OfSet s r (λ x. length x.set ≢ length (tree_of (trees_at s) x.bidder) ⊎ (length (trees_at s) ≤ x.bidder))
 
@@ -81,6 +84,7 @@ abbrev pub HasLeftOut : Place → Record → Type 0
 HasLeftOut (at_sets (Without b) found) r = (length found.sets ≡ b) × IsSomeAnd (set_in r) (λ x. ¬ IsEmpty x)
 HasLeftOut place r = ⊥
 
+-- a group with its value and all its sets
 pub record Complete : Type 0 where
   pub group : Group
   pub stated : Stated
@@ -91,6 +95,7 @@ complete_group bidders (at_sets g found) r = if suc (length found.sets) == bidde
     then option_map (λ x. record { group = g; stated = with_set found x }) (set_in r) else None
 complete_group bidders place r = None
 
+-- the record is the last set of a group, and P holds of the group
 abbrev pub OfSets : State → Record → (Complete → Type 0) → Type 0
 OfSets s r P = IsSomeAnd (complete_group (length (trees_at s)) s.place r) P
 
@@ -99,6 +104,7 @@ abbrev pub IsUnbalanced : State → Record → Type 0
 IsUnbalanced s r =
     OfSets s r (λ c. (g : ℕ) × (g < goods_at s) × ¬ IsCovered (is_exact (exact_at s) g) (total_units (trees_at s) c.stated.sets g) (pos 0))
 
+-- whether the head of a group states a value
 abbrev pub is_valued : Group → Bool
 is_valued Assign = false
 is_valued Final = true
@@ -112,6 +118,8 @@ IsMisvalued s r = OfSets s r (λ c. IsTrue (is_valued c.group) × (total_value c
 
 -- ---- steps
 
+-- a step with its group, the value that the group's log is to close at, the side that it stands in,
+-- and the multipliers of the leaf before it
 pub record Taken : Type 0 where
   pub group : Group
   pub target : ℤ
@@ -119,11 +127,13 @@ pub record Taken : Type 0 where
   pub before : Multipliers
   pub step : Step
 
+-- the step that a record is, where a log is due
 abbrev pub taken_step : State → Place → Record → Option Taken
 taken_step s (at_log g found (side ∷ open_sides) m) r =
     option_map (λ x. record { group = g; target = found.value; side = side; before = m; step = x }) (step_in s.version (goods_at s) m r)
 taken_step s place r = None
 
+-- the record is a step of a log, and P holds of it
 abbrev pub OfStep : State → Record → (Taken → Type 0) → Type 0
 OfStep s r P = IsSomeAnd (taken_step s s.place r) P
 
@@ -131,24 +141,30 @@ OfStep s r P = IsSomeAnd (taken_step s s.place r) P
 abbrev pub IsNoChange : ℕ → Multipliers → Change → Type 0
 IsNoChange goods m c = (goods ≤ c.good) ⊎ (slice_index_or m c.good (pos 0) ≡ c.multiplier)
 
+-- a leaf is written with a change that names a good that isn't there, or the number that the good
+-- already has
 abbrev pub IsMisstated : State → Record → Type 0
 IsMisstated s r = OfStep s r (λ t. IsSomeAnd (changes_in s.version r) (Any (IsNoChange (goods_at s) t.before)))
 
+-- a leaf has a negative multiplier of a good that isn't exact
 abbrev pub HasSign : State → Step → Type 0
 HasSign s (branch b n) = ⊥
 HasSign s (leaf m) = HasWrongSign (exact_at s) m
 HasSign s (dead b) = ⊥
 
+-- a branch names a node that isn't there, or that its side doesn't leave free
 abbrev pub IsFixed : State → Side → Step → Type 0
 IsFixed s side (branch b n) = ¬ IsFreeNode (trees_at s) side b n
 IsFixed s side (leaf m) = ⊥
 IsFixed s side (dead b) = ⊥
 
+-- the bound of a leaf is above the value of the group
 abbrev pub IsAbove : State → Taken → Step → Type 0
 IsAbove s t (branch b n) = ⊥
 IsAbove s t (leaf m) = (v : ℤ) × IsBound (trees_at s) (weights_at s t.group) m t.side v × (t.target <ℤ v)
 IsAbove s t (dead b) = ⊥
 
+-- a dead step names a bidder that isn't there, or that has a satisfied set left
 abbrev pub IsAlive : State → Side → Step → Type 0
 IsAlive s side (branch b n) = ⊥
 IsAlive s side (leaf m) = ⊥
@@ -156,6 +172,7 @@ IsAlive s side (dead b) = ¬ IsDeadBidder (trees_at s) side b
 
 -- ---- the regret, and prices
 
+-- the stated regret isn't the rival's value less the final one
 abbrev pub IsOtherRegret : Place → State → Record → Type 0
 IsOtherRegret at_regret s r = IsSomeAnd (amount_in r) (λ amount. amount ≢ (s.rival -ℤ s.final.value))
 IsOtherRegret place s r = ⊥
@@ -164,37 +181,43 @@ IsOtherRegret place s r = ⊥
 abbrev pub AreUnlawful : State → Prices → Type 0
 AreUnlawful s p = ((g : ℕ) × (g < goods_at s) × (((settings_at s).cap *ℤ pos p.den) <ℤ price_of p g)) ⊎ HasCommonDivisor p
 
+-- the stated prices are unlawful
 abbrev pub HasUnlawfulPrices : Place → State → Record → Type 0
 HasUnlawfulPrices at_prices s r = IsSomeAnd (prices_in (goods_at s) r) (AreUnlawful s)
 HasUnlawfulPrices place s r = ⊥
 
+-- the weighted values, at which the provisional sets were searched and prices are tested
 abbrev pub offered_weights : State → List Weights
 offered_weights s = weights_at s Provisional
 
+-- the stated violation isn't that of the prices
 abbrev pub HasOtherViolation : Place → State → Record → Type 0
 HasOtherViolation at_accuracy s r =
     IsSomeAnd (accuracy_in r) (λ a. ¬ IsViolation (trees_at s) (offered_weights s) s.offered s.prices a.violation)
 HasOtherViolation place s r = ⊥
 
--- a list of rows passes its test
+-- the rows show that no prices have a smaller violation
 abbrev pub AccuracyHolds : State → ℕ → List Row → Type 0
 AccuracyHolds s den rows =
     PassesAccuracy (trees_at s) (offered_weights s) s.offered (goods_at s) (settings_at s).cap s.prices s.violation
     (record { den = den; rows = rows })
 
+-- the rows show that no prices of this violation have a smaller greatest price
 abbrev pub BalanceHolds : State → ℕ → List Row → Type 0
 BalanceHolds s den rows =
     PassesBalance (trees_at s) (offered_weights s) s.offered (goods_at s) s.prices s.violation (record { den = den; rows = rows })
 
--- the record is the 200th row of its list, and the list fails
+-- the row behind these is the 200th
 abbrev pub is_last_row : List Row → Bool
 is_last_row rows = suc (length rows) == 200
 
+-- the record is the 200th row of accuracy, and the rows don't show it
 abbrev pub FailsAccuracy : Place → State → Record → Type 0
 FailsAccuracy (at_accuracy_rows den rows) s r = IsTrue (is_last_row rows)
     × IsSomeAnd (row_in r) (λ row. ¬ AccuracyHolds s den (rows ++ row ∷ []))
 FailsAccuracy place s r = ⊥
 
+-- the record is the 200th row of balance, and the rows don't show it
 abbrev pub FailsBalance : Place → State → Record → Type 0
 FailsBalance (at_balance_rows den rows) s r = IsTrue (is_last_row rows)
     × IsSomeAnd (row_in r) (λ row. ¬ BalanceHolds s den (rows ++ row ∷ []))
@@ -202,6 +225,7 @@ FailsBalance place s r = ⊥
 
 -- ---- rounds and the closing
 
+-- the stated verdict isn't the one that the rules give
 abbrev pub IsOtherVerdict : Place → State → Record → Type 0
 IsOtherVerdict (at_verdict x) s r =
     IsSomeAnd (verdict_in r) (λ v. ¬ IsNextVerdict s.prices (settings_at s).improve
@@ -221,6 +245,7 @@ pub record IsThresholdLine (vickrey : List ℤ) (total : ℤ) (c : Closing) : Ty
   pub spent : Below (whole_number (pos 0)) c.cut → Equals (cut_sum c.cut vickrey) (whole_number total)
   pub rest : Equals c.surplus (minus (whole_number total) (cut_sum c.cut vickrey))
 
+-- the stated cut and surplus aren't those that the Vickrey discounts give
 abbrev pub IsOtherThreshold : Place → State → Record → Type 0
 IsOtherThreshold at_threshold s r = IsSomeAnd (threshold_in r) (λ c. ¬ IsThresholdLine (vickreys s) s.final.value c)
 IsOtherThreshold place s r = ⊥
@@ -229,11 +254,14 @@ IsOtherThreshold place s r = ⊥
 abbrev pub final_worth : State → ℕ → ℤ
 final_worth s b = value (set_of s.final.sets b) (weights_of (weights_at s Final) b)
 
+-- the stated Vickrey discount is this, the discount is what the cut leaves of it, and the payment
+-- is the worth less the discount
 pub record IsPaymentLine (vickrey : ℤ) (worth : ℤ) (cut : Fraction) (p : Payment) : Type 0 where
   pub vickrey_is : p.vickrey ≡ vickrey
   pub discount : Equals p.discount (discount_at_cut cut vickrey)
   pub payment : Equals p.payment (minus (whole_number worth) p.discount)
 
+-- a stated number of the payment isn't the one that is due
 abbrev pub IsOtherPayment : Place → State → Record → Type 0
 IsOtherPayment (at_payment b) s r =
     IsSomeAnd (payment_in r) (λ p. ¬ IsPaymentLine (slice_index_or (vickreys s) b (pos 0)) (final_worth s b) s.cut p)
@@ -307,20 +335,24 @@ IsClosing s t (branch b n) = Unit {0}
 IsClosing s t (leaf m) = HasDead (trees_at s) t.side ⊎ ((v : ℤ) × IsBound (trees_at s) (weights_at s t.group) m t.side v × (v ≤ℤ t.target))
 IsClosing s t (dead b) = Unit {0}
 
+-- a stated violation is that of the prices
 abbrev pub HasViolation : Place → State → Record → Type 0
 HasViolation at_accuracy s r = IfSome (accuracy_in r) (λ a. IsViolation (trees_at s) (offered_weights s) s.offered s.prices a.violation)
 HasViolation place s r = Unit {0}
 
+-- where the record is the 200th row, the rows show what they are to show
 abbrev pub HasFullList : Place → State → Record → Type 0
 HasFullList (at_accuracy_rows den rows) s r = IsTrue (is_last_row rows) → IfSome (row_in r) (λ row. AccuracyHolds s den (rows ++ row ∷ []))
 HasFullList (at_balance_rows den rows) s r = IsTrue (is_last_row rows) → IfSome (row_in r) (λ row. BalanceHolds s den (rows ++ row ∷ []))
 HasFullList place s r = Unit {0}
 
+-- a stated verdict is the one that the rules give
 abbrev pub HasVerdict : Place → State → Record → Type 0
 HasVerdict (at_verdict x) s r =
     IfSome (verdict_in r) (λ v. IsNextVerdict s.prices (settings_at s).improve (standings (exchange_at s) s.bounds s.offered) s.judged x v)
 HasVerdict place s r = Unit {0}
 
+-- what a record that passes says outright
 pub record Holds (s : State) (r : Record) : Type 0 where
   pub leaf : IfSome (taken_step s s.place r) (λ t. IsClosing s t t.step)
   pub violation : HasViolation s.place s r
@@ -335,6 +367,7 @@ ended_list (at_accuracy_rows den rows) r = if is_none (row_in r) && may_have_row
 ended_list (at_balance_rows den rows) r = if is_none (row_in r) && may_have_row rows then Some rule.Balance else None
 ended_list place r = None
 
+-- the rows so far show what they are to show
 abbrev pub ListHolds : Place → State → Type 0
 ListHolds (at_accuracy_rows den rows) s = AccuracyHolds s den rows
 ListHolds (at_balance_rows den rows) s = BalanceHolds s den rows

@@ -23,6 +23,7 @@ use Rattle.ice_journal_laws.specs.Written.{assigned_records, regretted_records, 
 abbrev pub Says : List Record → List Record → Type 0
 Says journal written = plain journal ≡ written
 
+-- the journal begins with a head of this kind
 abbrev pub HasKind : Kind → List Record → Type 0
 HasKind kind (line.head version other ∷ rest) = other ≡ kind
 HasKind kind other = ⊥
@@ -32,43 +33,51 @@ pub record IsRightRegret (r : Regretted) : Type 0 where
   pub exchange : IsExchange r.exchange
   pub settled : IsSettled r.exchange (opening_bounds r.exchange) r.settlement
 
--- an assign journal that passes every test states a feasible assignment
+-- a right assign journal states a feasible assignment of a lawful exchange
 pub record IsRightAssigned (a : Assigned) : Type 0 where
   pub exchange : IsExchange a.exchange
   pub feasible : IsFeasible (trees_of a.exchange) (exact_of a.exchange) a.sets
 
--- where the records of an assign journal lead to its end, they state this exchange and these sets
+-- the exchange and the sets that an assign journal states, by the state at its end
 abbrev pub assigned_at : State → Assigned
 assigned_at s = record { exchange = exchange_at s; sets = s.final.sets }
 
+-- the journal states the exchange and the sets of the state at its end, and they are right
 pub record AreAssigned (journal : List Record) (s : State) : Type 0 where
   pub says : Says journal (assigned_records (assigned_at s))
   pub right : IsRightAssigned (assigned_at s)
   pub bounds : s.bounds ≡ opening_bounds (exchange_at s)
 
+-- an assign journal whose records lead to its end states the exchange and the sets of the state
+-- there
 abbrev pub DoneIsAssigned : Type 0
 DoneIsAssigned = (journal : List Record) (s : State) → AllByRecursion IsRecord journal → Leads nothing journal (passing s) → s.place ≡ done
     → s.kind ≡ assign_kind → AreAssigned journal s
 
+-- an assign journal that passes every test states a feasible assignment
 abbrev pub ChecksGiveAssigned : Type 0
 ChecksGiveAssigned = (journal : List Record) → HasKind assign_kind journal → AllByRecursion IsRecord journal → Checks journal
     → (a : Assigned) × Says journal (assigned_records a) × IsRightAssigned a
 
--- where the records of a regret journal lead to its end, they state the end's exchange and a right
--- settlement of it, with the end's regret
+-- the journal states a right settlement of the exchange of the state at its end, with the regret
+-- there
 pub record IsRegrettedAt (journal : List Record) (s : State) (r : Regretted) : Type 0 where
   pub says : Says journal (regretted_records r)
   pub right : IsRightRegret r
   pub exchange : r.exchange ≡ exchange_at s
   pub regret : r.settlement.regret ≡ s.regret
 
+-- the journal states some right settlement, with what the state at its end has of it
 abbrev pub AreRegretted : List Record → State → Type 0
 AreRegretted journal s = (r : Regretted) × IsRegrettedAt journal s r
 
+-- a regret journal whose records lead to its end states a right settlement, with what the state
+-- there has of it
 abbrev pub DoneIsRegretted : Type 0
 DoneIsRegretted = (journal : List Record) (s : State) → AllByRecursion IsRecord journal → Leads nothing journal (passing s) → s.place ≡ done
     → s.kind ≡ regret_kind → AreRegretted journal s
 
+-- a regret journal that passes every test states a right settlement
 abbrev pub ChecksGiveRegret : Type 0
 ChecksGiveRegret = (journal : List Record) → HasKind regret_kind journal → AllByRecursion IsRecord journal → Checks journal
     → (r : Regretted) × Says journal (regretted_records r) × IsRightRegret r
@@ -78,8 +87,8 @@ abbrev pub ArePaidByCut : Fraction → List Fraction → Type 0
 ArePaidByCut cut payments = (i : ℕ) → i < length payments
     → (worth vickrey : ℤ) × Equals (fraction_at payments i) (minus (whole_number worth) (discount_at_cut cut vickrey))
 
--- where the records of a session lead to its end, they state the end's exchange and a right
--- session, with the end's regret, surplus, bounds, final sets and cut
+-- the journal states a right session, with the exchange, regret, surplus, bounds, final sets and
+-- cut of the state at its end
 pub record IsSessionAt (journal : List Record) (s : State) (x : Session) : Type 0 where
   pub says : Says journal (session_records x)
   pub right : IsRight x
@@ -91,9 +100,12 @@ pub record IsSessionAt (journal : List Record) (s : State) (x : Session) : Type 
   pub cut : x.closed.cut ≡ s.cut
   pub paid : ArePaidByCut x.closed.cut (payments_of x.closed)
 
+-- the journal states some right session, with what the state at its end has of it
 abbrev pub IsSession : List Record → State → Type 0
 IsSession journal s = (x : Session) × IsSessionAt journal s x
 
+-- a session whose records lead to its end states a right session, with what the state there has of
+-- it
 abbrev pub DoneIsRight : Type 0
 DoneIsRight = (journal : List Record) (s : State) → AllByRecursion IsRecord journal → Leads nothing journal (passing s) → s.place ≡ done
     → s.kind ≡ session_kind → IsSession journal s
@@ -117,8 +129,8 @@ IsYes journal (of_regret amount) = (r : Regretted) × Says journal (regretted_re
 IsYes journal (of_session regret surplus) = (s : Session) × Says journal (session_records s) × IsRight s × Headline s
     × (regret ≡ s.closed.settlement.regret) × (surplus ≡ s.closed.surplus)
 
--- where the records of a session lead to its end, the checker may say yes to it, with the end's
--- regret and surplus
+-- to a session whose records lead to its end the checker may say yes, with the regret and the
+-- surplus of the state there
 abbrev pub SessionIsYes : Type 0
 SessionIsYes = (journal : List Record) (s : State) → AllByRecursion IsRecord journal → Leads nothing journal (passing s) → s.place ≡ done
     → s.kind ≡ session_kind → IsYes journal (of_session s.regret s.surplus)

@@ -14,21 +14,22 @@ use Rattle.ice_journal_laws.specs.Showing.{regretted_in, IsShownRegretted}
 use Rattle.ice_journal_laws.specs.ShowingSession.{session_in, IsShownSession}
 use Rattle.ice_journal_laws.specs.SoFar.{IsUnstopped, IsSoFar}
 
--- a regret journal of shown groups passes every test in either version, and version 2 says
--- version 1
+-- a regret journal of shown groups passes every test in either version, and version 2 says what
+-- version 1 says
 abbrev pub RegretIsWritten : Type 0
 RegretIsWritten =
     (r : Regretted) → IsShownRegretted r
     → Checks (regretted_records r) × ((v : Version) → Checks (regretted_in v r)) × (plain (regretted_in version_2 r) ≡ regretted_records r)
 
--- so does a session of shown settlements
+-- a session of shown settlements passes every test in either version, and version 2 says what
+-- version 1 says
 abbrev pub SessionIsWritten : Type 0
 SessionIsWritten =
     (s : Session) → IsShownSession s
     → Checks (session_records s) × ((v : Version) → Checks (session_in v s)) × (plain (session_in version_2 s) ≡ session_records s)
 
--- each front of records that lead on is a journal so far; and no stop stands in it, and it isn't
--- whole, where there are more records, or they don't lead to the end
+-- each front of records that lead on is a journal so far; no stop stands in the front, and it isn't
+-- whole, where there are more records or they don't lead to the end
 abbrev pub FrontIsSoFar : Type 0
 FrontIsSoFar =
     (kind : Kind) (a b : List Record) (t : State) → Carries (begun version_2 kind) (a ++ b) t
