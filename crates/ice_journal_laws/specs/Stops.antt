@@ -46,6 +46,7 @@ pub record IsSpent (kind : Kind) (journal : List Record) : Type 0 where
   pub above : ℤ
   pub sets : Assignment
   pub log : List Step
+  -- the log means its steps, in either version: version 2 writes a leaf by its changes
   pub says : plain journal ≡ line.head version_1 kind ∷ before ++ line.spent value above ∷ map line.set sets ++ map line.step log
       ++ line.end spent_end ∷ []
   pub state : State

@@ -1,4 +1,6 @@
--- The tests of a record: one small definition for each rule.
+-- The tests of a record: one small definition for each rule. Each is named by what is wrong, as its
+-- rule is: a record fails the rule exactly where the definition holds. `Holds` alone says what is
+-- right.
 use Rattle.std.specs.Prelude.{ℕ, suc, ◌+◌, ◌<◌, ◌≤◌, ◌≡◌, ◌≢◌, ◌⊎◌, ◌==◌, ◌&&◌, ◌||◌, Bool, true, false, if◌then◌else◌, IsTrue, IsSome}
 use Rattle.std.specs.Prelude.{IfSome, IsSomeAnd, is_none, List, [], ◌∷◌, ◌++◌, length, map, Any, slice_index_or, ℤ, pos, ◌-ℤ◌, ◌*ℤ◌, ◌<ℤ◌}
 use Rattle.std.specs.Prelude.{◌≤ℤ◌, Option, Some, None, option_map, Result, Ok, Err}
@@ -79,7 +81,7 @@ IsMiscounted s r = OfSet s r (λ x. length x.set ≢ length (tree_of (trees_at s
 abbrev pub IsUnsatisfied : SatRule → State → Record → Type 0
 IsUnsatisfied rule s r = OfSet s r (λ x. set_fault (tree_of (trees_at s) x.bidder) x.set ≡ Some rule)
 
--- in the group without a bidder, its set isn't empty
+-- the bidder that the group leaves out has a set that isn't empty
 abbrev pub HasLeftOut : Place → Record → Type 0
 HasLeftOut (at_sets (Without b) found) r = (length found.sets ≡ b) × IsSomeAnd (set_in r) (λ x. ¬ IsEmpty x)
 HasLeftOut place r = ⊥
@@ -296,7 +298,7 @@ Fails rule.Verdict s r = IsOtherVerdict s.place s r
 Fails rule.Threshold s r = IsOtherThreshold s.place s r
 Fails rule.Payment s r = IsOtherPayment s.place s r
 
--- the place of a rule in the table
+-- where a rule stands in the table, counted from 0; it is no `Place`, where a journal stands
 abbrev pub place_of : Rule → ℕ
 place_of rule.Closed = 0
 place_of rule.Order = 1
@@ -327,32 +329,35 @@ place_of rule.Payment = 23
 abbrev pub FailsFirst : Rule → State → Record → Type 0
 FailsFirst r s x = Fails r s x × ((other : Rule) → place_of other < place_of r → ¬ Fails other s x)
 
--- ---- what a record that passes says outright, where that it doesn't fail would say less
+-- ---- what a record that passes says outright: that no bound is above the value, say, would not
+-- yet give a bound that is at most it
 
--- a leaf's side is dead, or its bound is at most the target
+-- the counterpart of IsAbove: a leaf's side is dead, or its bound is at most the value of the group
 abbrev pub IsClosing : State → Taken → Step → Type 0
 IsClosing s t (branch b n) = Unit {0}
 IsClosing s t (leaf m) = HasDead (trees_at s) t.side ⊎ ((v : ℤ) × IsBound (trees_at s) (weights_at s t.group) m t.side v × (v ≤ℤ t.target))
 IsClosing s t (dead b) = Unit {0}
 
--- a stated violation is that of the prices
+-- the counterpart of HasOtherViolation: a stated violation is that of the prices
 abbrev pub HasViolation : Place → State → Record → Type 0
 HasViolation at_accuracy s r = IfSome (accuracy_in r) (λ a. IsViolation (trees_at s) (offered_weights s) s.offered s.prices a.violation)
 HasViolation place s r = Unit {0}
 
--- where the record is the 200th row, the rows show what they are to show
+-- the counterpart of FailsAccuracy and FailsBalance: where the record is the 200th row, the rows
+-- show what they are to show
 abbrev pub HasFullList : Place → State → Record → Type 0
 HasFullList (at_accuracy_rows den rows) s r = IsTrue (is_last_row rows) → IfSome (row_in r) (λ row. AccuracyHolds s den (rows ++ row ∷ []))
 HasFullList (at_balance_rows den rows) s r = IsTrue (is_last_row rows) → IfSome (row_in r) (λ row. BalanceHolds s den (rows ++ row ∷ []))
 HasFullList place s r = Unit {0}
 
--- a stated verdict is the one that the rules give
+-- the counterpart of IsOtherVerdict: a stated verdict is the one that the rules give
 abbrev pub HasVerdict : Place → State → Record → Type 0
 HasVerdict (at_verdict x) s r =
     IfSome (verdict_in r) (λ v. IsNextVerdict s.prices (settings_at s).improve (standings (exchange_at s) s.bounds s.offered) s.judged x v)
 HasVerdict place s r = Unit {0}
 
--- what a record that passes says outright
+-- what a record that passes says outright: `leaf` is the counterpart of IsAbove, `violation` of
+-- HasOtherViolation, `list` of FailsAccuracy and FailsBalance, and `verdict` of IsOtherVerdict
 pub record Holds (s : State) (r : Record) : Type 0 where
   pub leaf : IfSome (taken_step s s.place r) (λ t. IsClosing s t t.step)
   pub violation : HasViolation s.place s r

@@ -19,7 +19,9 @@ use Rattle.ice_journal_laws.specs.Checks.{Checks}
 use Rattle.ice_journal_laws.specs.Progress.{nothing, passing, Leads}
 use Rattle.ice_journal_laws.specs.Written.{assigned_records, regretted_records, session_records}
 
--- the journal says this, in either version
+-- the journal says what these records of version 1 say: where logs stand it has the same steps, and
+-- else the same records; version 2 writes a leaf by its changes, and the step that they make is
+-- what it says
 abbrev pub Says : List Record → List Record → Type 0
 Says journal written = plain journal ≡ written
 
