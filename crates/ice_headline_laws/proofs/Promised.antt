@@ -93,6 +93,7 @@ right_gives_headline s right =
     let c : Closed = s.closed in
     let is : IsClosed ex bounds c = last_is_closed ex 0 (opening_bounds ex) s.going c right.settlements in
     record {
+      feasible = is.settled.final.feasible;
       final_trade = assignments_trade (market_of ex) c.settlement.final.sets right.exchange.owned is.settled.final.feasible;
       no_trade_beats = regret_bounds_trades (market_of ex) bounds c.settlement.final.sets c.settlement.regret is.settled.final.feasible is.settled.regret;
       regret = is.settled.regret;
@@ -100,6 +101,7 @@ right_gives_headline s right =
       best = is.settled.final.best;
       vickreys = stated_vickreys s right;
       discounts = is.discounts;
+      names = is.names;
       payments = is.payments;
       proper = (is.surplus.0, proper_payments ex bounds c is);
       nobody_overpays = nobody_overpays ex bounds c is;

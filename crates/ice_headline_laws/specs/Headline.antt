@@ -6,11 +6,11 @@
 -- k above 0, and at each node a whole number between k times the lower and k times the upper value:
 -- the true value there is that number divided by k. Where k stands before an amount of money below,
 -- the other side of the comparison is k times too large as well.
-use Rattle.std.specs.Prelude.{ℕ, ◌≡◌, ◌<◌, List, length, slice_index_or, ℤ, pos, ◌≤ℤ◌}
+use Rattle.std.specs.Prelude.{ℕ, ◌≡◌, ◌<◌, List, length, map, slice_index_or, ℤ, pos, ◌≤ℤ◌}
 use Rattle.std.specs.List.{AllByRecursion}
 use Rattle.ice_defs.specs.Sum.{sum_over}
 use Rattle.ice_defs.specs.Set.{Weights}
-use Rattle.ice_defs.specs.Trade.{Assignment, tree_of, weights_of, total_value, IsBestOfAll}
+use Rattle.ice_defs.specs.Trade.{Assignment, tree_of, weights_of, IsFeasible, total_value, IsBestOfAll}
 use Rattle.ice_defs.specs.Bounds.{Bounds, IsProfile}
 use Rattle.ice_defs.specs.Market.{Market, IsWorth, IsFeasibleTrade, trades_of}
 use Rattle.ice_defs.specs.Regret.{IsRegret, NoTradeBeatsBy}
@@ -18,7 +18,7 @@ use Rattle.ice_defs.specs.Fraction.{Fraction, whole_number, IsFraction, Equals, 
 use Rattle.ice_defs.specs.Vickrey.{IsVickrey}
 use Rattle.ice_defs.specs.Threshold.{IsThreshold, ArePayments}
 use Rattle.ice_defs.specs.Weighing.{lower_weights}
-use Rattle.ice_defs.specs.Exchange.{market_of, trees_of, exact_of}
+use Rattle.ice_defs.specs.Exchange.{market_of, trees_of, exact_of, names_of}
 use Rattle.ice_defs.specs.Session.{Session}
 use Rattle.ice_headline_laws.specs.Right.{IsRight, own_values, final_bounds, vickreys_of, discounts_of, payments_of}
 
@@ -44,8 +44,9 @@ NobodyOverpays market bounds final payments =
     → AtMost (times (whole_number (pos k)) (fraction_at payments b)) (whole_number worth)
 
 pub record Headline (s : Session) : Type 0 where
-  -- Feasible: each bidder's trade is that of a satisfied set of its tree, no good is bought that
-  -- isn't sold, and nobody gives what it doesn't own.
+  -- Feasible: each bidder's final set is a satisfied set of its tree, no good is bought that isn't
+  -- sold, and nobody gives what it doesn't own.
+  pub feasible : IsFeasible (trees_of s.exchange) (exact_of s.exchange) (final_sets s)
   pub final_trade : IsFeasibleTrade (market_of s.exchange) (trades_of (market_of s.exchange) (final_sets s))
   -- Efficient to within the regret: whatever the true values inside the final bounds are, no
   -- feasible trade is worth more than the final one by more than the regret, all bidders together.
@@ -66,8 +67,9 @@ pub record Headline (s : Session) : Type 0 where
   -- the Vickrey discounts is least. That fixes them: no discount is below its Vickrey discount less
   -- the least largest shortfall, nor below 0, and what is so least already sums to the total value.
   pub discounts : IsThreshold (vickreys_of s.closed) (final_total s) (discounts_of s.closed)
-  -- Payments: each bidder pays the lower value of its final set less its discount; below 0, it is
-  -- paid that much. Each is a proper fraction.
+  -- Payments: each bidder, under its own name, pays the lower value of its final set less its
+  -- discount; below 0, it is paid that much. Each is a proper fraction.
+  pub names : map (λ p. p.name) s.closed.payments ≡ names_of s.exchange
   pub payments : ArePayments (own_values (final_bounds s) (final_sets s)) (discounts_of s.closed) (payments_of s.closed)
   pub proper : IsFraction s.closed.surplus × AllByRecursion IsFraction (payments_of s.closed)
   -- Individually rational: whatever its true values inside its final bounds are, nobody pays more
