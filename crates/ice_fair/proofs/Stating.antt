@@ -3,7 +3,6 @@ use Rattle.std.proofs.Common.{ℕ, ◌<◌, ◌≤◌, ◌^◌, ◌≡◌, List,
 use Rattle.std.specs.List.{AllByRecursion}
 use Rattle.std.proofs.lemmas.Int.{ints}
 use Rattle.ice_defs.specs.Fraction.{Fraction, Equals}
-use Rattle.ice_defs.specs.Prices.{Prices}
 use Rattle.ice_defs.specs.Rows.{Row, Certificate, IsRow, worth_above, PassesAccuracy}
 use Rattle.ice_defs.specs.Set.{value}
 use Rattle.ice_defs.specs.Trade.{tree_of, set_of, weights_of}
@@ -19,7 +18,7 @@ use Rattle.ice_pricing.specs.declared.certificate.Pricing.{Pricing}
 use Rattle.ice_price.specs.Ends.{IsPriced}
 use Rattle.ice_turns.specs.Stages.{IsSizedStage}
 use Rattle.ice_terms.specs.Terms.{ArePriceTerms}
-use Rattle.ice_fair_laws.specs.Fair.{PaidTrade, AreAccurate, AreFair, HasViolationOf, IsDistance, PassesFairness}
+use Rattle.ice_fair_laws.specs.Fair.{PaidTrade, AreFair, HasViolationOf, IsDistance, PassesFairness}
 use Rattle.ice_fair_laws.specs.FairRun.{fairness_at, EndsAtFairLimit}
 use Rattle.ice_fair_laws.specs.Laws.{IsPaidTrade, violation_of}
 use Rattle.ice_fair_laws.specs.Run.{IsCutDen}
