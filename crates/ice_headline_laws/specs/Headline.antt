@@ -26,7 +26,7 @@ use Rattle.ice_headline_laws.specs.Right.{IsRight, own_values, final_bounds, vic
 abbrev pub final_sets : Session → Assignment
 final_sets s = s.closed.settlement.final.sets
 
--- the total value: what the final sets are worth at lower values, all bidders together
+-- the stated total value, which `total` shows to be what the final sets are worth at lower values
 abbrev pub final_total : Session → ℤ
 final_total s = s.closed.settlement.final.value
 
@@ -63,12 +63,13 @@ pub record Headline (s : Session) : Type 0 where
   pub vickreys : AreVickreys s (lower_weights (final_bounds s)) (vickreys_of s.closed)
   -- The Threshold rule of Parkes, Kalagnanam and Eso (2001): discounts from 0 to the Vickrey
   -- discounts. Where these sum to less than the total value, each is granted in full. Else the
-  -- discounts sum to the total value, and among all that it can pay their largest shortfall behind
-  -- the Vickrey discounts is least. That fixes them: no discount is below its Vickrey discount less
-  -- the least largest shortfall, nor below 0, and what is so least already sums to the total value.
+  -- discounts sum to the total value, and no others that it can pay have a smaller largest
+  -- shortfall from the Vickrey discounts. That fixes them: with that shortfall E, each is at least
+  -- its Vickrey discount less E, and at least 0; and these least amounts sum to the total value
+  -- already, or a smaller E would do.
   pub discounts : IsThreshold (vickreys_of s.closed) (final_total s) (discounts_of s.closed)
   -- Payments: each bidder, under its own name, pays the lower value of its final set less its
-  -- discount; below 0, it is paid that much. Each is a proper fraction.
+  -- discount; below 0, it is paid that much. Each is a fraction with a denominator above 0.
   pub names : map (λ p. p.name) s.closed.payments ≡ names_of s.exchange
   pub payments : ArePayments (own_values (final_bounds s) (final_sets s)) (discounts_of s.closed) (payments_of s.closed)
   pub proper : IsFraction s.closed.surplus × AllByRecursion IsFraction (payments_of s.closed)
@@ -76,7 +77,8 @@ pub record Headline (s : Session) : Type 0 where
   -- than its final trade is worth to it.
   pub nobody_overpays : NobodyOverpays (market_of s.exchange) (final_bounds s) (final_sets s) (payments_of s.closed)
   -- Budget balance: the payments sum to the surplus, which is never below 0, so no money comes from
-  -- outside; and it is 0 where the Vickrey discounts sum to the total value or more.
+  -- outside (weak balance). It is 0 where the Vickrey discounts sum to the total value or more
+  -- (strong balance).
   pub sum : Equals (sum_of (payments_of s.closed)) s.closed.surplus
   pub no_deficit : AtMost (whole_number (pos 0)) s.closed.surplus
   pub no_surplus : final_total s ≤ℤ sum_over (λ v. v) (vickreys_of s.closed) → Equals s.closed.surplus (whole_number (pos 0))
