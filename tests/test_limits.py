@@ -149,7 +149,7 @@ class Limits(unittest.TestCase):
         self.answers(long, "refused 2 61 -\n", ["best", "sale.exchange", "file"])
 
     def test_length_of_a_journal(self):
-        alone = [[command, "file"] for command in ("check", "migrate", "audit", "fair")]
+        alone = [[command, "file"] for command in ("check", "migrate", "audit", "fair", "gap")]
         calls = *alone, ["statement", "file", "s"]
         self.answers(b"x" * made.JOURNAL_BYTES, "refused 1 51 1\n", *calls)
         self.answers(b"x" * (made.JOURNAL_BYTES + 1), "refused 1 61 -\n", *calls)

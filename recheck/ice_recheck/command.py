@@ -3,32 +3,35 @@ from __future__ import annotations
 
 import os
 import sys
+from collections.abc import Callable
 
-from .journals import LIMIT, Answer, check
+from .journals import LIMIT, Answer, check, gap
 from .statements import audit
 
 HELP = ("--help", "-h")
 USAGE = """usage: ice-recheck JOURNAL
+       ice-recheck --gap JOURNAL
        ice-reaudit STATEMENT
 
-Judge a journal as `ice check` does, and a statement as `ice audit`: the same line on standard
-output, and the same exit status. 0: yes. 1: the words are no command. 2: the file is refused.
-3: no, a test failed. 6: the file could not be read. 7: standard output failed. 8: want of memory.
+Judge a journal as `ice check` does, what it states where its branches are spent as `ice gap`, and a
+statement as `ice audit`: the same line on standard output, and the same exit status. 0: yes, or a
+gap. 1: the words are no command. 2: the file is refused. 3: no, a test failed. 6: the file could
+not be read. 7: standard output failed. 8: want of memory.
 
 It is a second opinion, written from docs/formats.md and docs/definitions.md alone, and shares no
 line with the program. Nothing of it is proved."""
 NOT_PROVED = "a second opinion, of which nothing is proved"
-JUDGES = {"ice-recheck": check, "ice-reaudit": audit}
+JUDGES = {("ice-recheck",): check, ("ice-recheck", "--gap"): gap, ("ice-reaudit",): audit}
 
 
-def answer_to(file: str, name: str) -> Answer:
-    """The answer to a file, by the command of this name."""
+def answer_to(file: str, judge: Callable[[bytes], Answer]) -> Answer:
+    """The answer of this judge to a file."""
     try:
         with open(file, "rb") as source:
             content = source.read(LIMIT + 1)
     except OSError:
         return Answer("unread 1", 6)
-    return JUDGES[name](content)
+    return judge(content)
 
 
 def is_text(word: str) -> bool:
@@ -50,15 +53,16 @@ def say(text: str) -> None:
 
 def main(words: list[str], name: str = "ice-recheck") -> int:
     """Writes the answer of the command of this name to what the words name; the exit status."""
+    judge = JUDGES.get((name, *words[:-1])) if words else None
     if len(words) == 1 and words[0] in HELP:
         answer = Answer(USAGE, 0)
-    elif len(words) != 1 or not is_text(words[0]):
+    elif judge is None or not is_text(words[-1]):
         say(USAGE)
         answer = Answer("words refused", 1)
     else:
         say(f"{name}: {NOT_PROVED}")
         try:
-            answer = answer_to(words[0], name)
+            answer = answer_to(words[-1], judge)
         except MemoryError:
             return 8
     try:

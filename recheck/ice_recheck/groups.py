@@ -2,6 +2,7 @@
 from __future__ import annotations
 
 from dataclasses import dataclass
+from typing import NoReturn
 
 from .logs import check_log
 from .records import Records, Rule
@@ -24,6 +25,15 @@ class Journal:
     records: Records
     version: int
     exchange: Exchange
+    asks_gap: bool = False  # whether what stands behind `spent` is tested too
+
+
+class Gap(Exception):
+    """A journal ends at a search that spent its branches, and every test of it passes."""
+
+    def __init__(self, group: list[str | int], value: int, bound: int) -> None:
+        super().__init__(group, value, bound)
+        self.group, self.value, self.bound = group, value, bound
 
 
 def test_set(records: Records, exchange: Exchange, bidder: int, inside: NodeSet) -> None:
@@ -56,13 +66,38 @@ def read_group(
     journal: Journal, form: str, weights: list[list[int]], left_out: int | None = None
 ) -> Group:
     """A group at these weights, one list for each bidder; in `without` a bidder is left out."""
-    records, exchange = journal.records, journal.exchange
-    head = records.take("spent", form)
-    records.test(head.form == form, Rule.CLOSED)
+    group = [] if left_out is None else [left_out]
+    head = journal.records.take("spent", form)
+    if head.form != form:
+        read_gap(journal, [form, *group], weights, left_out, *head.fields)
     *bidder, stated = head.fields
-    records.test(bidder == ([] if left_out is None else [left_out]), Rule.ORDER)
+    journal.records.test(bidder == group, Rule.ORDER)
+    return Group(stated, read_found(journal, weights, left_out, stated, stated))
+
+
+def read_gap(
+    journal: Journal,
+    group: list[str | int],
+    weights: list[list[int]],
+    left_out: int | None,
+    stated: int,
+    bound: int,
+) -> NoReturn:
+    """What stands behind a `spent` record in the place of a group's head, where it is asked for."""
+    journal.records.test(journal.asks_gap, Rule.CLOSED)
+    journal.records.test(stated < bound, Rule.SPENT)
+    read_found(journal, weights, left_out, stated, bound)
+    journal.records.take_end("spent")
+    raise Gap(group, stated, bound)
+
+
+def read_found(
+    journal: Journal, weights: list[list[int]], left_out: int | None, stated: int, target: int
+) -> list[NodeSet]:
+    """The sets of a group, which have this value, and the log: nothing is above the target."""
+    records, exchange = journal.records, journal.exchange
     sets = read_sets(records, exchange, left_out)
     worth = sum(map(value, weights, sets))
     records.test(worth == stated, Rule.VALUE)
-    check_log(records, exchange, weights, stated, journal.version, left_out)
-    return Group(stated, sets)
+    check_log(records, exchange, weights, target, journal.version, left_out)
+    return sets

@@ -34,6 +34,7 @@ class Rule(Enum):
     VERDICT = "verdict"
     THRESHOLD = "threshold"
     PAYMENT = "payment"
+    SPENT = "spent"  # of a gap alone: here none is stated
 
 
 class Failed(Exception):

@@ -55,6 +55,8 @@ CALLS = {
         Call("audit", "audit @buyer.statement"),
         Call("fair", "fair @lump-sold.session"),
         Call("fair, at a limit", "fair @pinned.session"),
+        Call("gap", "gap @spent-round.session"),
+        Call("gap, where none is", "gap @rounds.session"),
         Call("best", "best @sale.json @fifteen.prices"),
         Call("xor", "xor @sales.json"),
         Call("gen", "gen 7"),

@@ -10,12 +10,13 @@ from harness.program import Ran
 
 RULES = (
     "closed|order|short|exchange|count|parent|few|many|fixing|excess|value|near|sign|fixed|above"
-    "|alive|regret|prices|violation|accuracy|balance|verdict|threshold|payment"
+    "|alive|regret|prices|violation|accuracy|balance|verdict|threshold|payment|spent"
 )
 NUMBER = "(0|-?[1-9][0-9]*)"
 PLACE = r"(-|[A-Za-z0-9_.\-]{1,256})"
 NAME = r"[A-Za-z0-9_.\-]{1,32}"
 FRACTION = rf"{NUMBER}/[1-9][0-9]*"
+GROUP = r"(final|rival|provisional|without [0-9]+)"
 
 REFUSED = rf"refused [1-9][0-9]? [1-9][0-9]? {PLACE}"
 LINES = {
@@ -39,6 +40,7 @@ DONE = {
     "statement": "end statement",
     "audit": rf"yes {FRACTION}",
     "fair": "end fair",
+    "gap": rf"gap {GROUP} {NUMBER} {NUMBER}",
 }
 BEST = rf"(best {NAME} {NUMBER}\nset [01]+\n)+end best\n"
 REPLAY = (
@@ -65,6 +67,7 @@ STATUSES = {
     "statement": {program.DONE, program.INPUT, program.NO},
     "audit": {program.DONE, program.INPUT, program.NO},
     "fair": {program.DONE, program.INPUT, program.NO, program.LIMIT},
+    "gap": {program.DONE, program.INPUT, program.NO},
     "best": {program.DONE, program.INPUT},
     "xor": {program.DONE, program.INPUT},
     "regret": {program.DONE, program.INPUT, program.SPENT},
@@ -95,6 +98,7 @@ WHOLE: dict[str, Callable[[str], object]] = {
     "statement": lambda text: text.startswith("statement "),
     "audit": lambda text: text.count("\n") == 1,
     "fair": lambda text: re.fullmatch(f"{FAIR}|{FAIR_LIMIT}", text),
+    "gap": lambda text: text.count("\n") == 1,
     "gen": lambda text: text.count("\n") == 10,
 }
 
