@@ -8,10 +8,20 @@
 
 : "${program:?}"
 
-# Of what is read, the last record of each kind that tells what the answer is, or how far a session came.
+# Of what is read, the last record of each kind that tells what the answer is, or how far a session came; and for what a search
+# was made that spent its branches, as the groups before it and the settings tell.
 summary() {
-    LC_ALL=C grep -a -E '^(settle|regret|spent|threshold|no|refused|unread) ' | LC_ALL=C awk '
-        { kept[$1] = substr($0, 1, 400) }
+    LC_ALL=C grep -a -E '^(settings|settle|final|rival|regret|provisional|without|spent|threshold|no|refused|unread) ' | LC_ALL=C awk '
+        function seeks() {
+            if (last == "final") return "rival"
+            if (last == "without") return "without " before + 1
+            if (last == "regret") return before <= close_regret || settled == rounds ? "without 0" : "provisional"
+            return "final"
+        }
+        $1 == "settings" { close_regret = $3; rounds = $6 }
+        $1 == "settle" { settled = $2 }
+        $1 == "spent" { kept["seeks"] = "seeks " seeks() }
+        { kept[$1] = substr($0, 1, 400); last = $1; before = $2 }
         END { for (name in kept) print kept[name] }
     '
 }
@@ -122,6 +132,7 @@ rule() {
     verdict) echo "another verdict is due on the bid above" ;;
     threshold) echo "the cut or the surplus is another" ;;
     payment) echo "another payment is due" ;;
+    spent) echo "no gap is stated: the journal stops otherwise, or is whole, or what was found is worth no less than the bound" ;;
     *) echo "the test \`$1\` failed" ;;
     esac
 }
@@ -196,7 +207,7 @@ wrong_words() {
     done
     case ${words[0]-} in
     '') echo "there is no command" ;;
-    check | regret | migrate | xor | audit | fair) echo "\`${words[0]}\` takes one file, and $count words stand behind it" ;;
+    check | regret | migrate | xor | audit | fair | gap) echo "\`${words[0]}\` takes one file, and $count words stand behind it" ;;
     best) echo "\`best\` takes an exchange and prices, and $count words stand behind it" ;;
     simulate) echo "\`simulate\` takes an exchange and true values, and $count words stand behind it" ;;
     run)
@@ -251,17 +262,36 @@ gap() {
     }'
 }
 
+# What stands where a search spent its branches, as the journal states it.
 spent() {
-    local least most
-    least=$(field spent 2) most=$(field spent 3)
-    echo "the branches of the settings are used up${most:+: what was found is worth $least, and nothing is worth more than $most$(gap "$least" "$most")}"
+    local least most found regret
+    least=$(field spent 2) most=$(field spent 3) regret=$(field regret 2)
+    found="is worth $least, and nothing is worth more than $most"
+    case $(field seeks 2) in
+    '') found= ;;
+    final) found="what was found $found$(gap "$least" "$most")" ;;
+    rival) found="the final trade is worth $(field final 2), and none is worth more; its regret isn't known: the rival that was found $found" ;;
+    provisional) found="the final trade and its regret $regret stand; the provisional trade that was found $found, in hundredths" ;;
+    without) found="the final trade and its regret $regret stand, and payments aren't known: what was found without bidder $(field seeks 3) $found" ;;
+    esac
+    echo "the branches of the settings are used up${found:+: $found; \`ice gap\` tests it}"
+}
+
+# What `gap` says of a journal that stops so, where it can be read again.
+tested() {
+    local found
+    found=$("$program" gap "$1" 2>/dev/null)
+    case $found in
+    "gap "*) echo "; what was found there passes every test: \`$found\`" ;;
+    "no "*) echo "; what was found there fails a test: \`$found\`" ;;
+    esac
 }
 
 # What a journal that isn't closed came to, by its last line.
 stopped() {
     local last=
     [ ! -f "${words[1]}" ] || last=$(tail -c 400 "${words[1]}" | tail -n 1 | tr -cd ' -~')
-    echo "right as far as it goes, to line $1: it closes nothing${last:+, and ends with \`$last\`}"
+    echo "right as far as it goes, to line $1: it closes nothing${last:+, and ends with \`$last\`}$([ "$last" != "end spent" ] || tested "${words[1]}")"
 }
 
 # The line of words for what the program answered: nothing where its own output says it all.

@@ -9,6 +9,7 @@ import shutil
 import subprocess
 import tempfile
 import unittest
+import unittest.mock
 
 TESTS = pathlib.Path(__file__).resolve().parent
 TOP = TESTS.parent.parent
@@ -63,11 +64,51 @@ class Words(unittest.TestCase):
         self.assertEqual(self.told(CLOSED, 0, "run", "m", "r1"), "closed after round 1: regret 0, surplus 1/3")
         self.assertEqual(self.told(CLOSED, 0, "run", "m", "r1", "r 2", "r3"), "closed after round 1: regret 0, surplus 1/3; not read: r\\ 2 r3")
         spent = "settle 0\nspent 50 65\nset 1\nend spent\n"
-        self.assertEqual(self.told(spent, 4, "run", "m"), "the branches of the settings are used up: what was found is worth 50, and nothing is worth more than 65, a gap of 30.0 %")
+        self.assertEqual(self.told(spent, 4, "run", "m"), "the branches of the settings are used up: what was found is worth 50, and nothing is worth more than 65, a gap of 30.0 %; `ice gap` tests it")
         self.assertIn("more than 3259, a gap of 0.1 %", self.told(spent.replace("50 65", "3258 3259"), 4, "run", "m"))
-        self.assertTrue(self.told(spent.replace("50 65", "0 65"), 4, "run", "m").endswith("nothing is worth more than 65"))
+        self.assertTrue(self.told(spent.replace("50 65", "0 65"), 4, "run", "m").endswith("nothing is worth more than 65; `ice gap` tests it"))
         self.assertEqual(self.told("limit accuracy rows 0 1\nend limit\n", 5, "run", "m"), "the pricing came to a limit: no prices are offered")
         self.assertEqual(self.told("limit fairness den 0 1\nend limit\n", 5, "fair", "m"), "the search for fair prices came to a limit: none are told")
+
+    def test_which_search_was_spent(self):
+        begun = "ice 2 session\nsettings 50 40 100 1 2 200\n"
+        best = "settle 0\nfinal 700\nset 1\nnear 0\n"
+        spent = "spent 50 65\nset 1\nnear 0\nend spent\n"
+        found = "is worth 50, and nothing is worth more than 65"
+        told = self.told(f"{begun}{best}{spent}", 4, "run", "m")
+        self.assertIn(f"the final trade is worth 700, and none is worth more; its regret isn't known: the rival that was found {found};", told)
+        told = self.told(f"{begun}{best}rival 741\nregret 41\n{spent}", 4, "run", "m")
+        self.assertIn(f"its regret 41 stand; the provisional trade that was found {found}, in hundredths;", told)
+        told = self.told(f"{begun}{best}rival 740\nregret 40\n{spent}", 4, "run", "m")
+        self.assertIn(f"its regret 40 stand, and payments aren't known: what was found without bidder 0 {found};", told)
+        last = best.replace("settle 0", "settle 2")
+        told = self.told(f"{begun}{last}rival 790\nregret 90\nwithout 0 4\nwithout 1 5\n{spent}", 4, "run", "m")
+        self.assertIn(f"its regret 90 stand, and payments aren't known: what was found without bidder 2 {found};", told)
+        told = self.told(f"{begun}{last}rival 790\nregret 90\n{spent}", 4, "run", "m")
+        self.assertIn("without bidder 0", told)
+        told = self.told(f"{begun}{best}rival 790\nregret 90\nprovisional 7\nsettle 1\n{spent}", 4, "run", "m")
+        self.assertIn(f"used up: what was found {found}, a gap of 30.0 %;", told)
+        told = self.told(f"ice 2 regret\nsettings 50 40 100 1 2 200\nfinal 700\n{spent}", 4, "regret", "m")
+        self.assertIn(f"the rival that was found {found};", told)
+        told = self.told(f"ice 2 regret\nsettings 50 40 100 1 2 200\n{spent}", 4, "regret", "m")
+        self.assertIn(f"used up: what was found {found}, a gap of 30.0 %;", told)
+
+    def test_a_gap_that_is_tested(self):
+        (self.top / "spent.journal").write_text("settle 0\nspent 50 65\nset 1\nend spent\n")
+        for said, end in (
+            ("gap final 50 65", "; what was found there passes every test: `gap final 50 65`"),
+            ("no 9 above", "; what was found there fails a test: `no 9 above`"),
+            ("refused 1 50 9", "and ends with `end spent`"),
+        ):
+            with unittest.mock.patch.dict(os.environ, {"GAP": said}):
+                told = self.told("no 2 closed\n", 3, "check", "spent.journal")
+            self.assertIn("it closes nothing, and ends with `end spent`", told)
+            self.assertTrue(told.endswith(end), told)
+
+    def test_gaps(self):
+        self.assertEqual(self.told("gap final 50 65\n", 0, "gap", "m"), "")
+        self.assertIn("m, line 9: no gap is stated", self.told("no 9 spent\n", 3, "gap", "m"))
+        self.assertIn("takes one file, and 2 words", self.told("words refused\n", 1, "gap", "m", "n"))
 
     def test_simulations(self):
         self.assertEqual(self.told(CLOSED, 0, "simulate", "m", "t"), "closed after round 1: regret 0, surplus 1/3")
