@@ -5,7 +5,7 @@ import unittest
 
 from harness.cases import changed, shared
 from harness.forms import misshapen
-from harness.judge import faults
+from harness.judge import faults, gap_faults
 from harness.program import DONE, INPUT, NO, TESTS, Ran
 
 TURNS = 500
@@ -52,6 +52,34 @@ class Fuzz(unittest.TestCase):
                 journal = changed(shared(name), list(zip(change[::2], change[1::2])))
                 self.assertNotEqual(list(faults(journal.encode(), answer)), [])
 
+    def test_gaps_that_are_right(self):
+        for name, answer in (
+            ("spent-final.session", "gap final 0 10"),
+            ("spent-rival.session", "gap rival 0 10"),
+            ("spent-provisional.session", "gap provisional 0 100"),
+            ("spent-without.session", "gap without 1 0 5"),
+            ("spent-round.session", "gap final 1 2"),
+            ("spent-exact.regret", "gap final 10 20"),
+        ):
+            with self.subTest(name):
+                self.assertEqual(list(gap_faults(shared(name).encode(), answer)), [])
+
+    def test_gaps_that_are_wrong(self):
+        for name, answer, *change in (
+            ("spent-final.session", "gap final 0 11"),
+            ("spent-final.session", "gap rival 0 10"),
+            ("spent-final.session", "gap final 0 9", 9, "spent 0 9"),
+            ("spent-final.session", "gap final 0 10", 10, "set 1"),
+            ("spent-final.session", "gap final -10 0", 9, "spent -10 0", 10, "set 1", 11, "set 1"),
+            ("spent-final.session", "gap final 10 10", 9, "spent 10 10", 10, "set 1", 11, "set 1"),
+            ("spent-without.session", "gap without 0 0 5"),
+            ("spent-without.session", "gap without 1 10 11", 22, "spent 10 11", 23, "set 1", 24, "set 1"),
+            ("open.session", "gap provisional 0 100"),
+        ):
+            with self.subTest(name, change=change):
+                journal = changed(shared(name), list(zip(change[::2], change[1::2])))
+                self.assertNotEqual(list(gap_faults(journal.encode(), answer)), [])
+
     def test_answers_of_another_form(self):
         for command, status, output in (
             ("check", DONE, b"yes\n"),
@@ -67,12 +95,19 @@ class Fuzz(unittest.TestCase):
             ("run", DONE, b"ice 2 session\nend open\n"),
             ("xor", DONE, b"{}\n"),
             ("best", DONE, b"best b 1\nend best\n"),
+            ("check", NO, b"no 7 spent\n"),
+            ("gap", NO, b"no 7 closed\n"),
+            ("gap", DONE, b"gap assign 0 10\n"),
+            ("gap", DONE, b"gap without 0 10\n"),
+            ("gap", DONE, b"yes 0\n"),
         ):
             with self.subTest(command, output=output):
                 self.assertIsNotNone(misshapen(command, Ran(status, output, b"")))
         self.assertIsNotNone(misshapen("check", Ran(DONE, b"yes 0\n", b"a warning")))
         self.assertIsNone(misshapen("check", Ran(DONE, b"yes 0\n", b"")))
         self.assertIsNone(misshapen("check", Ran(NO, b"no 7 exchange\n", b"")))
+        self.assertIsNone(misshapen("gap", Ran(DONE, b"gap without 3 -5 10\n", b"")))
+        self.assertIsNone(misshapen("gap", Ran(NO, b"no 7 spent\n", b"")))
 
 
 if __name__ == "__main__":

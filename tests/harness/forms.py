@@ -10,7 +10,7 @@ from harness.program import Ran
 
 RULES = (
     "closed|order|short|exchange|count|parent|few|many|fixing|excess|value|near|sign|fixed|above"
-    "|alive|regret|prices|violation|accuracy|balance|verdict|threshold|payment|spent"
+    "|alive|regret|prices|violation|accuracy|balance|verdict|threshold|payment"
 )
 NUMBER = "(0|-?[1-9][0-9]*)"
 PLACE = r"(-|[A-Za-z0-9_.\-]{1,256})"
@@ -28,6 +28,7 @@ LINES = {
     program.UNREAD: r"unread [1-9][0-9]?",
     program.OPEN: "end open",
 }
+NO_GAP = LINES[program.NO].replace("closed", "spent")  # of `gap`, which goes on behind a stop
 DONE = {
     "check": rf"yes {NUMBER}( {FRACTION})?",
     "best": "end best",
@@ -117,6 +118,7 @@ def misshapen(command: str, ran: Ran) -> str | None:
         return "the last line has no newline"
     last = text[:-1].rsplit("\n", 1)[-1]
     due = DONE.get(command) if ran.status == program.DONE else LINES[ran.status]
+    due = NO_GAP if (command, ran.status) == ("gap", program.NO) else due
     if due is not None and not re.fullmatch(due, last):
         return f"the last line isn't {due!r}"
     if ran.status == program.DONE:

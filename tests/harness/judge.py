@@ -39,6 +39,34 @@ def faults(data: bytes, answer: str) -> Iterator[str]:
         yield from payment_faults(journal)
 
 
+def gap_faults(data: bytes, answer: str) -> Iterator[str]:
+    """What of a gap isn't so, though the program answered it."""
+    try:
+        journal = read_journal(Lines(io.BytesIO(data)))
+    except BadJournal as bad:
+        yield f"the pages' reader refuses it: {bad}"
+        return
+    settlement = journal.last
+    group = settlement.spent
+    if group is None or journal.end.word != "spent":
+        yield "the journal doesn't end at a search that spent its branches"
+        return
+    yield from set_faults(journal, group)
+    weights = weights_of(journal, settlement, group)
+    value = sum(worth(bits, values) for bits, values in zip(group.sets, weights))
+    names = [bidder.name for bidder in journal.bidders]
+    seeks = group.seeks.split(" ")
+    number = [str(names.index(seeks[1]))] if len(seeks) > 1 else []
+    due_answer = " ".join(["gap", seeks[0], *number, str(value), str(group.bound)])
+    if answer != due_answer:
+        yield f"the journal asks for {due_answer!r}"
+    if value >= (group.bound or 0):
+        yield "the value isn't below the bound"
+    best = best_value(journal, group, weights)
+    if best is not None and not value <= best <= (group.bound or 0):
+        yield f"the best assignment is worth {best}"
+
+
 def faults_of(journal: Journal, settlement: Settlement) -> Iterator[str]:
     """What of a settlement isn't so."""
     final = settlement.group("final")
