@@ -6,7 +6,7 @@ from typing import NamedTuple
 
 from . import numbers, words
 from .checker import due
-from .markup import box, drawing, exact, tag, text
+from .markup import box, drawing, exact, foreign, tag, text
 from .trades import trades_part
 from .view import View
 
@@ -104,7 +104,7 @@ def gap(value: int, bound: int) -> str:
 def checked(view: View) -> Fact:
     """The checker's answer, and what it means for this page."""
     answer, expected, name = view.answer, due(view.journal), f"{view.judge}’s answer"
-    said, wanted = f"“{text(answer.text)}”", f"“{expected}”"
+    said, wanted = f"“{foreign(answer.text)}”", f"“{expected}”"
     if not answer.text and not answer.asked:
         how = "; <code>ice check</code> judges it"
         how = "; whoever has the journal can have it checked" if view.alone else how
@@ -120,7 +120,7 @@ def checked(view: View) -> Fact:
             else f"{said}, where this journal asks for {wanted}"
         )
         return Fact(name, "no", f"{why}: don’t rely on this page", "bad")
-    by = f"asked of {text(answer.asked)} for this page" if answer.asked else "as told to this page"
+    by = f"asked of {foreign(answer.asked)} for this page" if answer.asked else "as told to this page"
     by = by if view.alone or expected.startswith("no ") else f"{said}, {by}"
     if expected.startswith("yes "):
         more = "; it can’t say that others were shown the same prices" * view.journal.of_statement
@@ -240,10 +240,10 @@ def answer_section(view: View) -> str:
         )
         for fact in facts(view)
     )
-    title = text(view.title)
+    title = foreign(view.title)
     if view.alone:
         title += tag("span", text(view.whom), class_="soft")
-    made = tag("p", text(view.made), class_="soft") if view.made else ""
+    made = tag("p", foreign(view.made), class_="soft") if view.made else ""
     return (
         tag("h1", title)
         + made

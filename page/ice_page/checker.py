@@ -1,16 +1,21 @@
 """The checker's answer on a journal or a statement: who gave it, and whether it fits."""
 from __future__ import annotations
 
+import os
+import select
 import subprocess
 from dataclasses import dataclass
 from pathlib import Path
+from threading import Thread
 from typing import IO
 
 from .journal import Journal
+from .terminal import say
 
 PROGRAM = Path(__file__).resolve().parents[2] / "ice"
 NO_VERDICT = ("refused ", "unread ", "words refused")
 STATEMENT = b"statement "
+HELD_LINE, HELD_MILLISECONDS = 4096, 500
 
 
 @dataclass
@@ -69,6 +74,45 @@ def total(journal: Journal) -> int:
     return sum(worths(journal)) if stated is None else stated
 
 
+class Relay(Thread):
+    """Says on standard error what a program says there, line by line, but for its last line.
+
+    Behind that one it ends; it is kept for whoever knows whether it is worth a word. A line that
+    is followed by nothing for half a second is not the last one.
+    """
+
+    def __init__(self, stream: IO[bytes]) -> None:
+        super().__init__(daemon=True)
+        self.stream, self.held = stream, b""
+        self.start()
+
+    @property
+    def line(self) -> str:
+        """The line that is kept, without its end."""
+        return self.held.decode("utf-8", "replace").rstrip()
+
+    def run(self) -> None:
+        """Reads what the program says, until it ends."""
+        more = select.poll()
+        more.register(self.stream)
+        while True:
+            if self.held.endswith(b"\n") and not more.poll(HELD_MILLISECONDS):
+                self.tell()
+            piece = os.read(self.stream.fileno(), HELD_LINE)
+            if not piece:
+                break
+            for part in piece.splitlines(keepends=True):
+                if self.held.endswith(b"\n") or len(self.held) >= HELD_LINE:
+                    self.tell()
+                self.held += part
+        self.stream.close()
+
+    def tell(self) -> None:
+        """Says what is kept."""
+        say(self.line)
+        self.held = b""
+
+
 class Checker:
     """The program, which is fed the bytes of a file while they are read.
 
@@ -83,11 +127,16 @@ class Checker:
         """Starts the program on what was fed so far."""
         command = "audit" if self.front.startswith(STATEMENT) else "check"
         self.process = subprocess.Popen(
-            [self.program, command, "/dev/stdin"], stdin=subprocess.PIPE, stdout=subprocess.PIPE
+            [self.program, command, "/dev/stdin"],
+            stdin=subprocess.PIPE,
+            stdout=subprocess.PIPE,
+            stderr=subprocess.PIPE,
         )
-        assert self.process.stdin is not None and self.process.stdout is not None
-        self.input: IO[bytes] = self.process.stdin
-        self.output: IO[bytes] = self.process.stdout
+        made = self.process
+        assert made.stdin is not None and made.stdout is not None and made.stderr is not None
+        self.input: IO[bytes] = made.stdin
+        self.output: IO[bytes] = made.stdout
+        self.relay = Relay(made.stderr)
         self.asked = command
         self.put(self.front)
 
@@ -116,7 +165,14 @@ class Checker:
         self.close_input()
         said = self.output.read(4096).decode("utf-8", "replace").strip()
         self.output.close()
-        return Answer(said, f"{Path(self.program).name} {self.asked}", self.process.wait())
+        status = self.process.wait()
+        self.relay.join(1)
+        return Answer(said, f"{Path(self.program).name} {self.asked}", status)
+
+    @property
+    def said_last(self) -> str:
+        """The last line that the program said on standard error, which is the only one not told."""
+        return self.relay.line
 
     def stop(self) -> None:
         """Ends the program without its answer."""

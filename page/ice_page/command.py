@@ -3,36 +3,30 @@ from __future__ import annotations
 
 import argparse
 import os
-import sys
 from pathlib import Path
-from typing import NoReturn
+from typing import Sequence
 
 from .checker import PROGRAM, Answer, Checker
 from .fair_file import read_fair
 from .journal import BadJournal, Journal, Lines
 from .page import whole_page
 from .statement import read_file
+from .terminal import DONE, LAST_STATUSES, Words, count_of, ends, reading, say, source
+from .terminal import standard_output, writing
 from .view import View
 
-WRITTEN, BAD_WORDS, NO_JOURNAL, UNREAD, UNWRITTEN = 0, 1, 2, 6, 7
+NAME = "ice-page"
 STATUSES = (
     "status: 0 the page is written, 1 the words are wrong, 2 the file is no journal, has no such "
     "bidder or round, or has no fair prices of it (standard error says what, and at which line "
-    "where it is one), 6 a file could not be read, 7 the page could not be written"
+    f"where it is one), 6 a file could not be read, 7 the page could not be written, {LAST_STATUSES}"
 )
-
-
-class Words(argparse.ArgumentParser):
-    """The words of the command; wrong ones end with status 1, since 2 is about the file."""
-
-    def error(self, message: str) -> NoReturn:
-        self.exit(BAD_WORDS, f"{self.format_usage()}{self.prog}: {message}\n")
 
 
 def words() -> Words:
     """The words that are understood."""
     parser = Words(
-        prog="ice-page",
+        prog=NAME,
         epilog=STATUSES,
         allow_abbrev=False,
         description="Writes a journal, or a bidder's statement, as one page of HTML to look at.",
@@ -79,7 +73,7 @@ def words() -> Words:
     parser.add_argument(
         "--round",
         metavar="N",
-        type=int,
+        type=count_of,
         help="with --bidder: its sets in this round, if not in the one that is awaited",
     )
     parser.add_argument(
@@ -103,17 +97,20 @@ def is_same(one: str, other: str) -> bool:
 
 def read(options: argparse.Namespace) -> tuple[Journal, Answer]:
     """The journal, and what the checker says of the same bytes where it is asked."""
-    with open(0 if options.journal == "-" else options.journal, "rb", buffering=0) as stream:
+    with source(options.journal) as stream:
         if not options.check:
             answer = Answer((options.checked or "").strip())
             return read_file(Lines(stream), options.bidder), answer
         checker = Checker(options.program or PROGRAM)
         try:
             journal = read_file(Lines(stream, checker.feed), options.bidder)
+            answer = checker.answer()
         except BaseException:
             checker.stop()
             raise
-        return journal, checker.answer()
+    if not answer.fits(journal):
+        say(checker.said_last)
+    return journal, answer
 
 
 def number_of(journal: Journal, name: str | None) -> int | None:
@@ -130,24 +127,20 @@ def number_of(journal: Journal, name: str | None) -> int | None:
 
 
 def write(page: str, name: str | None) -> None:
-    """Writes the page to a file or to standard output; what is no text in a name becomes `?`."""
+    """Writes the page to a file or to standard output."""
     data = page.encode(errors="replace")
-    if name is not None:
+    if name is None:
+        with standard_output() as output:
+            output.buffer.write(data)
+            return
+    with writing(name):
         Path(name).write_bytes(data)
-        return
-    try:
-        sys.stdout.buffer.write(data)
-        sys.stdout.buffer.flush()
-    except OSError:
-        # Nothing more is written when the process ends.
-        os.dup2(os.open(os.devnull, os.O_WRONLY), 1)
-        raise
 
 
-def main(arguments: list[str] | None = None) -> int:
-    """Makes a page, and answers the status."""
+def meant(arguments: Sequence[str] | None) -> argparse.Namespace:
+    """What the words say, which has to go together."""
     parser = words()
-    options = parser.parse_args(arguments)
+    options = parser.read(arguments)
     if options.check and options.checked is not None:
         parser.error("--check asks the checker, and --checked tells its answer: give one of them")
     if options.program and not options.check:
@@ -158,25 +151,26 @@ def main(arguments: list[str] | None = None) -> int:
         parser.error("the page would overwrite the journal")
     if options.page and options.fair and is_same(options.fair, options.page):
         parser.error("the page would overwrite the fair prices")
-    source = "standard input" if options.journal == "-" else os.path.basename(options.journal)
-    name, fair = options.journal, None
-    try:
+    return options
+
+
+@ends(NAME)
+def main(arguments: Sequence[str] | None = None) -> int:
+    """Makes a page, and answers the status."""
+    options = meant(arguments)
+    name = "standard input" if options.journal == "-" else os.path.basename(options.journal)
+    fair = None
+    with reading(options.journal):
         journal, answer = read(options)
         bidder = number_of(journal, options.bidder)
-        if options.fair is not None:
-            name = options.fair
-            fair = read_fair(name, journal)
-    except BadJournal as fault:
-        print(f"ice-page: {name}: {fault}", file=sys.stderr)
-        return NO_JOURNAL
-    except OSError as fault:
-        print(f"ice-page: {fault.filename or name}: {fault.strerror}", file=sys.stderr)
-        return UNREAD
+    if options.fair is not None:
+        with reading(options.fair):
+            fair = read_fair(options.fair, journal)
     view = View(
         journal,
         answer,
-        title=options.title or source,
-        source=source,
+        title=options.title or name,
+        source=name,
         unit=options.unit,
         bidder=bidder,
         round=options.round,
@@ -185,14 +179,7 @@ def main(arguments: list[str] | None = None) -> int:
         digest=options.digest,
         fair=fair,
     )
-    try:
+    with reading(options.journal):
         page = whole_page(view)
-    except BadJournal as fault:
-        print(f"ice-page: {options.journal}: {fault}", file=sys.stderr)
-        return NO_JOURNAL
-    try:
-        write(page, options.page)
-    except OSError as fault:
-        print(f'ice-page: {options.page or "standard output"}: {fault.strerror}', file=sys.stderr)
-        return UNWRITTEN
-    return WRITTEN
+    write(page, options.page)
+    return DONE

@@ -287,7 +287,7 @@ class Rounds:
             self.told_row(names[number], [at[number] for at in self.loose])
             for number in self.view.bidders
         ]
-        foot = self.told_row("all", list(map(sum, self.loose)))
+        foot = self.told_row("all", [sum(each) for each in self.loose])
         legend = key(
             "the share of the opening intervals that is gone after each round",
             "100&nbsp;% leaves none",

@@ -107,8 +107,9 @@ class Bid(NamedTuple):
 class Settlement:
     """A settlement: bounds of each bidder, searches, prices, and the bids that followed.
 
-    Of the bidder whose bids are kept, `kept` has them in their order: at most 400. `tries` has the
-    last refused bid of each bidder, in the last settlement behind which any was refused.
+    Bids are counted, where they are many without the node at fault. Of the bidder whose bids are
+    kept, `kept` has them in their order: at most 400. `tries` has the last refused bid of each
+    bidder, in the last settlement behind which any was refused.
     """
 
     number: int
@@ -339,7 +340,7 @@ class Reader:
 
     def read_set(self, head: str, bidder: Bidder) -> str:
         """A set of a bidder, as bits."""
-        (bits,) = self.lines.take(head).fields
+        bits: str = self.lines.take(head).fields[0]
         count, nodes = len(bits), len(bidder.nodes)
         self.lines.require(count == nodes, f"{count} bits for the {nodes} nodes of {bidder.name}")
         return bits
@@ -445,7 +446,8 @@ class Reader:
                 unknown.add(name if len(unknown) < MOST_UNKNOWN else "others")
                 name = name if name in unknown else "others"
             number = verdict.head.partition(" ")[2]
-            settlement.bids[Judged(bidder, number, name, *verdict.fields)] += 1
+            at = verdict.fields if len(settlement.bids) < MOST_KEPT else ()
+            settlement.bids[Judged(bidder, number, name, *at)] += 1
             if not accepted:
                 self.forget_tries()
             if bidder is not None:

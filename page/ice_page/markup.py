@@ -9,13 +9,19 @@ from fractions import Fraction
 from typing import Iterable
 
 from . import numbers
+from .plain import plain
 
 Attribute = str | int | float | Fraction | None
 
 
 def text(words: object) -> str:
-    """Words as markup."""
-    return html.escape(str(words))
+    """Words as markup; what isn't printable in them is spelled out."""
+    return html.escape(plain(str(words)))
+
+
+def foreign(words: str) -> str:
+    """Words that somebody else chose, as markup; letters from right to left turn nothing beside."""
+    return tag("bdi", text(words))
 
 
 def spelled(value: Attribute) -> str:

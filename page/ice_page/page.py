@@ -8,13 +8,14 @@ from .answer import answer_section
 from .certificates import certificates_section
 from .course import course_section
 from .fair import fair_section
-from .markup import key, tag, text
+from .markup import foreign, key, tag, text
 from .own import bids_section, nets_section
 from .trees import trees_section
 from .tries import tries_part
 from .view import View
 
 STYLES = Path(__file__).with_name("page.css")
+POLICY = "default-src 'none'; style-src 'unsafe-inline'"
 UPRIGHT = "@page { size: A4 portrait }\n"
 
 
@@ -31,16 +32,16 @@ def footer(view: View) -> str:
             numbers.plural(settings.branches, "branch step"),
         ]
     )
-    told = f"published digest of the journal: {tag('code', text(view.digest))}"
+    told = f"published digest of the journal: {tag('code', foreign(view.digest))}"
     told = told if view.digest else ""
     if view.alone:
         kind = "a statement" if journal.of_statement else f"kind {journal.kind}"
         return tag("footer", key(kind, told, rules, "of the other bidders nothing is shown"))
     answer, said = view.answer, ""
     if answer.asked and answer.text:
-        said = f"{text(answer.asked)} read these bytes and said “{text(answer.text)}”"
+        said = f"{foreign(answer.asked)} read these bytes and said “{foreign(answer.text)}”"
     kind = f"kind {journal.kind}, version {journal.version}"
-    source = f"{text(view.source)}, {kind}, {numbers.plural(journal.lines, 'line')}"
+    source = f"{foreign(view.source)}, {kind}, {numbers.plural(journal.lines, 'line')}"
     digest = f"SHA-256 {tag('code', journal.digest)}"
     return tag("footer", key(source, digest, told, said, rules))
 
@@ -48,7 +49,9 @@ def footer(view: View) -> str:
 def whole_page(view: View) -> str:
     """The page as text."""
     head = (
-        '<meta charset="utf-8"><meta name="viewport" content="width=device-width, initial-scale=1">'
+        '<meta charset="utf-8">'
+        f'<meta http-equiv="Content-Security-Policy" content="{POLICY}">'
+        '<meta name="viewport" content="width=device-width, initial-scale=1">'
         + tag("title", text(view.title + view.whom))
         + tag("style", STYLES.read_text(encoding="utf-8") + (UPRIGHT if view.alone else ""))
     )

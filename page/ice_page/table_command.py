@@ -6,33 +6,38 @@ import csv
 import io
 import json
 import os
-import sys
+import tempfile
 from fractions import Fraction
 from pathlib import Path
-from typing import Any
+from typing import TYPE_CHECKING, BinaryIO, Iterator, Sequence, TextIO
 
-from .command import BAD_WORDS, NO_JOURNAL, UNREAD, UNWRITTEN, WRITTEN, Words
-from .lines import BadJournal
 from .tables import Table, Value, read_tables
+from .terminal import DONE, LAST_STATUSES, UNWRITTEN, Ending, Words, count_of, ends, reading
+from .terminal import source, standard_output, writing
+
+if TYPE_CHECKING:
+    from _typeshed import ReadableBuffer as Buffer
 
 NAME = "ice-table"
 NAMES = ("payments", "trades", "prices", "settlements", "bids")
 PLACES = 6
+TEMPORARY = "a temporary file"
 ABOUT = """\
 Writes a journal as tables in CSV: payments.csv, trades.csv, prices.csv, settlements.csv and
 bids.csv, or with --json as one document on standard output. Each fraction stands as a decimal, with
 six places at most, and exactly, as numerator and denominator."""
 STATUSES = (
     "status: 0 the tables are written, 1 the words are wrong, 2 the file is no journal (standard "
-    "error names the line), 6 it could not be read, 7 a table could not be written"
+    "error names the line), 6 it could not be read, 7 a table could not be written, "
+    f"{LAST_STATUSES}"
 )
 
 
 def coins_of(word: str) -> int:
     """How many coins a unit has: a whole number from 1 on."""
-    coins = int(word)
+    coins = count_of(word)
     if coins < 1:
-        raise ValueError
+        raise argparse.ArgumentTypeError("a unit has 1 coin or more")
     return coins
 
 
@@ -72,53 +77,62 @@ def decimal(number: Fraction) -> str:
     scaled = round(number * 10**PLACES)
     before, after = divmod(abs(scaled), 10**PLACES)
     behind = f".{after:0{PLACES}}".rstrip("0").rstrip(".")
-    return "-" * (scaled < 0) + f"{before}{behind}"
+    sign = "-" if scaled < 0 else ""
+    return f"{sign}{before}{behind}"
 
 
 def cell(value: Value, comma: bool) -> str:
     """A cell of a table."""
-    if isinstance(value, Fraction):
+    if type(value) is Fraction:
         return decimal(value).replace(".", "," if comma else ".")
     return "" if value is None else str(value)
 
 
-def text_of(table: Table, semicolon: bool) -> str:
-    """A table in CSV."""
-    text = io.StringIO()
-    writer = csv.writer(text, delimiter=";" if semicolon else ",", lineterminator="\n")
+def write_table(table: Table, stream: TextIO, semicolon: bool) -> None:
+    """Writes a table in CSV, each row as it is made."""
+    writer = csv.writer(stream, delimiter=";" if semicolon else ",", lineterminator="\n")
     writer.writerow(table.heads)
-    writer.writerows([cell(value, semicolon) for value in row] for row in table.rows)
-    return text.getvalue()
+    for row in table.rows:
+        writer.writerow([cell(value, semicolon) for value in row])
 
 
-def plain(number: Fraction) -> int | float:
-    """A decimal of a document in JSON."""
-    return int(number) if number.denominator == 1 else float(decimal(number))
+def spelled(value: Value) -> str:
+    """A cell of a document in JSON."""
+    if type(value) is not Fraction:
+        return json.dumps(value)
+    return str(value) if value.denominator == 1 else repr(float(decimal(value)))
 
 
-def document(tables: list[Table]) -> dict[str, Any]:
-    """The tables as one value: for each an array of objects with its heads as members."""
-    return {table.name: [dict(zip(table.heads, row)) for row in table.rows] for table in tables}
+def document(tables: list[Table]) -> Iterator[str]:
+    """The pieces of the tables as one value: for each an array of objects with its heads."""
+    between = "{"
+    for table in tables:
+        yield f'{between}\n "{table.name}": ['
+        mark = ""
+        for row in table.rows:
+            members = (f'   "{head}": {spelled(cell)}' for head, cell in zip(table.heads, row))
+            yield f"{mark}\n  {{\n" + ",\n".join(members) + "\n  }"
+            mark = ","
+        yield "\n ]" if mark else "]"
+        between = ","
+    yield "\n}\n"
 
 
 def write_folder(tables: list[Table], folder: Path, semicolon: bool) -> None:
     """Writes each table to its file, in a folder that is made where it is missing."""
-    folder.mkdir(parents=True, exist_ok=True)
+    with writing(str(folder)):
+        folder.mkdir(parents=True, exist_ok=True)
     encoding = "utf-8-sig" if semicolon else "utf-8"
     for table in tables:
-        data = text_of(table, semicolon).encode(encoding)
-        (folder / f"{table.name}.csv").write_bytes(data)
+        file = folder / f"{table.name}.csv"
+        with writing(str(file)), file.open("w", encoding=encoding, newline="") as stream:
+            write_table(table, stream, semicolon)
 
 
 def write_document(tables: list[Table]) -> None:
     """Writes the tables as one document to standard output."""
-    try:
-        sys.stdout.write(json.dumps(document(tables), default=plain, indent=1) + "\n")
-        sys.stdout.flush()
-    except OSError:
-        # Nothing more is written when the process ends.
-        os.dup2(os.open(os.devnull, os.O_WRONLY), 1)
-        raise
+    with standard_output() as output:
+        output.writelines(document(tables))
 
 
 def overwrites(journal: str, folder: Path) -> bool:
@@ -128,36 +142,62 @@ def overwrites(journal: str, folder: Path) -> bool:
     return any(os.path.samefile(journal, file) for file in there or [])
 
 
-def main(arguments: list[str] | None = None) -> int:
-    """Makes the tables, and answers the status."""
+class Aside(io.BufferedRandom):
+    """A file without a name, into which the lines of bids are put until they are made rows."""
+
+    def __init__(self) -> None:
+        with writing(TEMPORARY):
+            handle, name = tempfile.mkstemp()
+            os.unlink(name)
+        super().__init__(io.FileIO(handle, "r+b"))
+
+    def write(self, line: "Buffer") -> int:
+        """Puts a line aside; the command ends where there is no place for it."""
+        try:
+            return super().write(line)
+        except OSError as fault:
+            raise Ending(UNWRITTEN, f"{TEMPORARY}: {fault.strerror}") from None
+
+    def close(self) -> None:
+        """Throws it away, with what couldn't be written."""
+        try:
+            super().close()
+        except OSError:
+            pass
+
+
+def meant(arguments: Sequence[str] | None) -> argparse.Namespace:
+    """What the words say, which has to go together."""
     parser = words()
-    options = parser.parse_args(arguments)
+    options = parser.read(arguments)
     if options.json == (options.folder is not None):
         parser.error("give a FOLDER for tables, or --json for one document")
     if options.json and options.semicolon:
         parser.error("--semicolon goes with a FOLDER")
-    folder = Path(options.folder or "")
-    try:
-        if options.folder and options.journal != "-" and overwrites(options.journal, folder):
-            parser.error("a table would overwrite the journal")
-        with open(0 if options.journal == "-" else options.journal, "rb", buffering=0) as stream:
-            tables = read_tables(stream, options.round)
-    except BadJournal as fault:
-        print(f"{NAME}: {options.journal}: {fault}", file=sys.stderr)
-        return NO_JOURNAL
-    except OSError as fault:
-        print(f"{NAME}: {fault.filename or options.journal}: {fault.strerror}", file=sys.stderr)
-        return UNREAD
-    except ValueError as fault:
-        print(f"{NAME}: {fault}", file=sys.stderr)
-        return BAD_WORDS
-    try:
+    with reading(options.journal):
+        if options.folder and options.journal != "-":
+            if overwrites(options.journal, Path(options.folder)):
+                parser.error("a table would overwrite the journal")
+    return options
+
+
+def read(options: argparse.Namespace, aside: BinaryIO) -> list[Table]:
+    """The tables of the journal, whose bids are put aside."""
+    with reading(options.journal), source(options.journal) as stream:
+        tables = read_tables(stream, options.round, aside)
+    with writing(TEMPORARY):
+        aside.flush()
+    return tables
+
+
+@ends(NAME)
+def main(arguments: Sequence[str] | None = None) -> int:
+    """Makes the tables, and answers the status."""
+    options = meant(arguments)
+    with Aside() as aside:
+        tables = read(options, aside)
         if options.json:
             write_document(tables)
         else:
-            write_folder(tables, folder, options.semicolon)
-    except OSError as fault:
-        where = fault.filename or "standard output"
-        print(f"{NAME}: {where}: {fault.strerror}", file=sys.stderr)
-        return UNWRITTEN
-    return WRITTEN
+            write_folder(tables, Path(options.folder), options.semicolon)
+    return DONE

@@ -1,9 +1,11 @@
 """A journal as tables: payments, trades, prices, settlements and bids."""
 from __future__ import annotations
 
+import io
+from dataclasses import dataclass
 from fractions import Fraction
 from itertools import zip_longest
-from typing import BinaryIO, Iterable, NamedTuple
+from typing import BinaryIO, Iterable, Iterator, NamedTuple
 
 from .checker import worths
 from .course import REASONS
@@ -11,7 +13,6 @@ from .journal import Group, Journal, read_journal
 from .lines import Lines
 from .records import Record
 
-NOTED = ("settle", "prices", "accuracy", "submit", "verdict")
 WAITING = ("open", "refused", "unread")
 ACCEPTED = "accepted"
 
@@ -19,65 +20,92 @@ Value = int | str | Fraction | None
 
 
 class Table(NamedTuple):
-    """A table: its name, its heads, and its rows. A cell of None is empty."""
+    """A table: its name, its heads, and its rows, to be taken once. A cell of None is empty."""
 
     name: str
     heads: list[str]
-    rows: list[list[Value]]
+    rows: Iterable[list[Value]]
 
 
 class Bid(NamedTuple):
     """A submission as it stands in the journal, with its verdict and the node at fault."""
 
     bidder: str
-    low: list[int]
-    high: list[int]
+    low: list[str]
+    high: list[str]
     verdict: str
     node: int | None
 
 
-class Noting(Lines):
-    """Lines of a journal that keep the records of which the journal itself holds counts alone."""
-
-    def __init__(self, stream: BinaryIO) -> None:
-        self.noted: list[Record] = []
-        super().__init__(stream)
-
-    def take(self, *heads: str) -> Record:
-        record = super().take(*heads)
-        if record.head.partition(" ")[0] in NOTED:
-            self.noted.append(record)
-        return record
-
-
-class Told(NamedTuple):
-    """What the noted records say of each settlement: its violation, and the bids behind it.
+@dataclass
+class Counts:
+    """What is counted of a settlement: its violation, and the bids behind it.
 
     A violation stands in the journal in hundredths, times the prices' denominator; here it is in
     the unit of the values.
     """
 
-    violations: list[Fraction | None]
-    bids: list[list[Bid]]
+    violation: Fraction | None = None
+    bids: int = 0
+    accepted: int = 0
 
 
-def told_by(records: Iterable[Record]) -> Told:
-    """The violations and the bids, settlement by settlement."""
-    told, denominator, submitted = Told([], []), 1, None
-    for head, fields in records:
-        if head == "settle":
-            told.violations.append(None)
-            told.bids.append([])
-        elif head == "prices":
-            denominator = fields[0]
-        elif head == "accuracy":
-            told.violations[-1] = Fraction(fields[0], 100 * denominator)
-        elif head == "submit":
-            submitted = fields
-        elif submitted:
-            verdict = head.partition(" ")[2]
-            told.bids[-1].append(Bid(*submitted, verdict, fields[0] if fields else None))
-    return told
+class Noting(Lines):
+    """Lines of a journal that count what the journal itself doesn't hold, and put its bids aside.
+
+    `noted` has the settlements, and the file into which the lines of bids are put, so that of any
+    number of bids none stays in memory.
+    """
+
+    def __init__(self, stream: BinaryIO, aside: BinaryIO | None = None) -> None:
+        self.noted = Noted(aside or io.BytesIO())
+        super().__init__(stream)
+
+    def take(self, *heads: str) -> Record:
+        line = self.line
+        record = super().take(*heads)
+        self.noted.note(line, record)
+        return record
+
+
+class Noted:
+    """What was noted of a journal while it was read."""
+
+    def __init__(self, aside: BinaryIO) -> None:
+        self.aside, self.denominator = aside, 1
+        self.settlements: list[Counts] = []
+
+    def note(self, line: str, record: Record) -> None:
+        """Notes a record, and puts its line aside where it is of a bid."""
+        head, fields = record
+        word = head.partition(" ")[0]
+        if word == "settle":
+            self.settlements.append(Counts())
+        elif word == "prices":
+            self.denominator = fields[0]
+        elif word == "accuracy":
+            self.settlements[-1].violation = Fraction(fields[0], 100 * self.denominator)
+        elif word == "verdict":
+            self.settlements[-1].bids += 1
+            self.settlements[-1].accepted += head.endswith(ACCEPTED)
+        if word in ("settle", "submit", "verdict"):
+            self.aside.write(f"{line}\n".encode())
+
+    def bids(self) -> Iterator[tuple[int, Bid]]:
+        """Each bid in its order, with the settlement behind which it stands."""
+        self.aside.seek(0)
+        submitted, settlement = [""], 0
+        for line in self.aside:
+            word, *fields = line.decode().split()
+            if word == "settle":
+                settlement = int(fields[0])
+            elif word == "submit":
+                submitted = fields
+            else:
+                name, count = submitted[0], int(submitted[1])
+                node = int(fields[1]) if len(fields) > 1 else None
+                low, high = submitted[2 : 2 + count], submitted[3 + count :]
+                yield settlement, Bid(name, low, high, fields[0], node)
 
 
 def rounded(numbers: list[Fraction], coins: int) -> list[Fraction]:
@@ -152,22 +180,19 @@ def prices(journal: Journal) -> Table:
     return Table("prices", ["settlement", "good", *fraction("price")], rows)
 
 
-def settlements(journal: Journal, told: Told) -> Table:
+def settlements(journal: Journal, noted: Noted) -> Table:
     """What was found at each settlement, all in the unit of the values, and the bids behind it."""
     heads = ["settlement", "final", "rival", "regret", *fraction("provisional")]
     heads += [*fraction("violation"), "bids", "accepted", "refused"]
     rows: list[list[Value]] = []
-    for settlement, violation, bids in zip_longest(
-        journal.settlements, told.violations, told.bids
-    ):
+    for settlement, counts in zip_longest(journal.settlements, noted.settlements):
+        counts = counts or Counts()
         groups = [settlement.group(seeks) for seeks in ("final", "rival", "provisional")]
         final, rival, mixed = (group.value if group else None for group in groups)
-        count = len(bids or [])
-        accepted = sum(bid.verdict == ACCEPTED for bid in bids or [])
         provisional = None if mixed is None else Fraction(mixed, 100)
         row: list[Value] = [settlement.number, final, rival, settlement.regret]
-        row += [*exactly(provisional), *exactly(violation), count, accepted, count - accepted]
-        rows.append(row)
+        row += [*exactly(provisional), *exactly(counts.violation)]
+        rows.append([*row, counts.bids, counts.accepted, counts.bids - counts.accepted])
     return Table("settlements", heads, rows)
 
 
@@ -179,35 +204,35 @@ def meaning(bid: Bid, journal: Journal) -> str:
     return f"{short}: {long.format(journal.settings.improve)}".replace("’", "'")
 
 
-def bids(journal: Journal, told: Told) -> Table:
+def bids(journal: Journal, noted: Noted) -> Table:
     """Each bid in the order in which it was judged, with its numbers in the order of the nodes."""
     heads = ["round", "number", "bidder", "verdict", "node", "meaning", "lo", "hi"]
-    rows: list[list[Value]] = []
-    for turn, judged in enumerate(told.bids, 1):
-        for number, bid in enumerate(judged, 1):
-            row: list[Value] = [turn, number, bid.bidder, bid.verdict, bid.node]
-            rows.append([*row, meaning(bid, journal), *map(listed, (bid.low, bid.high))])
-    return Table("bids", heads, rows)
+    return Table("bids", heads, bid_rows(journal, noted))
 
 
-def listed(numbers: list[int]) -> str:
-    """Numbers in one cell."""
-    return " ".join(map(str, numbers))
+def bid_rows(journal: Journal, noted: Noted) -> Iterator[list[Value]]:
+    """The rows of all bids, each made when it is wanted."""
+    last, number = 0, 0
+    for settlement, bid in noted.bids():
+        last, number = settlement, number + 1 if settlement == last else 1
+        row: list[Value] = [settlement + 1, number, bid.bidder, bid.verdict, bid.node]
+        yield [*row, meaning(bid, journal), " ".join(bid.low), " ".join(bid.high)]
 
 
-def read_tables(stream: BinaryIO, coins: int | None = None) -> list[Table]:
+def read_tables(
+    stream: BinaryIO, coins: int | None = None, aside: BinaryIO | None = None
+) -> list[Table]:
     """The tables of a journal; BadJournal where it is none.
 
     Where `coins` is given, payments have a column more: in whole coins, of which a unit has so
-    many.
+    many. The lines of bids are put into the file `aside`, from which their rows are made.
     """
-    lines = Noting(stream)
-    journal = read_journal(lines)
-    told = told_by(lines.noted)
+    lines = Noting(stream, aside)
+    journal, noted = read_journal(lines), lines.noted
     return [
         payments(journal, coins),
         trades(journal),
         prices(journal),
-        settlements(journal, told),
-        bids(journal, told),
+        settlements(journal, noted),
+        bids(journal, noted),
     ]

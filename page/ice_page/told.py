@@ -59,7 +59,9 @@ def bids_lines(journal: Journal, bidder: int) -> list[str]:
     lines = []
     for settlement in journal.settlements:
         held = round_of(journal, settlement, bidder)
-        for bid in settlement.kept if held else []:
+        if held is None:
+            continue
+        for bid in settlement.kept:
             stated = ", ".join(each for each, _ in values(bid, held.offer.bounds)) or "all 0"
             lines += ["", wrapped(f"Round {held.number}: {stated}")]
             lines.append(wrapped(held.advice.verdict(bid), "  "))

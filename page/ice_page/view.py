@@ -7,7 +7,7 @@ from functools import cached_property
 from .checker import Answer, total, worths
 from .fair_file import FairPrices
 from .journal import Journal
-from .markup import text
+from .markup import foreign
 
 
 @dataclass
@@ -83,7 +83,7 @@ class View:
     @property
     def with_unit(self) -> str:
         """The unit of values as markup, with a space before it."""
-        return f" {text(self.unit)}" if self.unit else ""
+        return f" {foreign(self.unit)}" if self.unit else ""
 
     @property
     def is_proven(self) -> bool:

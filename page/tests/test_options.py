@@ -135,7 +135,7 @@ class Words(unittest.TestCase):
             Path(os.fsdecode(file)).write_text(sample(SESSION))
             self.assertEqual(call(os.fsdecode(file), "-o", str(target))[0], 0)
             page = Page(target.read_text(encoding="utf-8"))
-            self.assertEqual(page.root.all("h1")[0].text, "?.journal")
+            self.assertEqual(page.root.all("h1")[0].text, "\\udce9.journal")
 
     def test_names_of_a_journal(self):
         for name in ("<b>", "a&b", '"', "'", "ä"):
