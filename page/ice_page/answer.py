@@ -6,6 +6,7 @@ from typing import NamedTuple
 
 from . import numbers, words
 from .checker import due
+from .gap import missed, regret_bounds, spent_words, stands
 from .markup import box, drawing, exact, foreign, tag, text
 from .trades import trades_part
 from .view import View
@@ -77,30 +78,6 @@ def fault_words(view: View) -> str:
     return f"; the file that was given was refused, with fault {number}{where}"
 
 
-def spent_words(view: View) -> str:
-    """What a search that was spent has found."""
-    branches, group = view.journal.settings.branches, view.journal.last.spent
-    few = f"{numbers.plural(branches, 'branch step')} {'was' if branches == 1 else 'were'} too few"
-    if view.alone or group is None:
-        return few
-    scale = 100 if group.seeks == "provisional" else 1
-    found, most = (
-        numbers.decimal(Fraction(number or 0, scale)) for number in (group.value, group.bound)
-    )
-    return (
-        f"{few} in the search <code>{group.seeks}</code>: it found {found}, "
-        f"where at most {most} is possible{gap(group.value or 0, group.bound or 0)}"
-    )
-
-
-def gap(value: int, bound: int) -> str:
-    """How much more than a value may be possible, in tenths of a per cent rounded up."""
-    if value <= 0:
-        return ""
-    tenths = -(1000 * (value - bound) // value)
-    return f", a gap of {tenths // 10}.{tenths % 10} %"
-
-
 def checked(view: View) -> Fact:
     """The checker's answer, and what it means for this page."""
     answer, expected, name = view.answer, due(view.journal), f"{view.judge}’s answer"
@@ -150,6 +127,8 @@ def facts(view: View) -> list[Fact]:
         )
     else:
         found += own_facts(view, view.bidder)
+    bounds = regret_bounds(view)
+    regret = bounds[1] if bounds else regret
     if journal.kind != "assign":
         share = numbers.percent(regret or 0, view.total) if regret and not view.alone else ""
         share = f", {text(share)} of the total" if share else ""
@@ -161,6 +140,8 @@ def facts(view: View) -> list[Fact]:
                 "miss" if regret else "",
             )
         )
+    if gap := missed(view):
+        found.append(Fact("gap of the search", *gap))
     if journal.payments:
         note = "what all pay together" if view.alone else "the total less the discounts"
         found.append(Fact("surplus of the payments", exact(journal.surplus) + unit, note))
@@ -206,7 +187,9 @@ def lead(view: View) -> str:
         )
     elif journal.payments:
         says += f" You get: {text(words.trade(view.units[view.bidder], journal.goods))}."
-    if journal.kind == "session" and not journal.payments:
+    standing = "" if view.alone else stands(view)
+    says += standing
+    if journal.kind == "session" and not journal.payments and not standing:
         best = "" if view.alone else ": this is the best trade found so far"
         says += f" Nothing is settled{best}."
     if checked(view).value == "no":

@@ -8,6 +8,7 @@ from typing import Sequence
 
 from .checker import PROGRAM, Answer, Checker
 from .fair_file import read_fair
+from .gap import ask_gap
 from .journal import BadJournal, Journal, Lines
 from .page import whole_page
 from .statement import read_file
@@ -82,6 +83,11 @@ def words() -> Words:
         help="fair prices of a closed session, which ice fair JOURNAL writes, to show beside the "
         "payments",
     )
+    parser.add_argument(
+        "--gap",
+        metavar="TEXT",
+        help="what ice gap JOURNAL wrote, where the branches are spent; --check asks it too",
+    )
     return parser
 
 
@@ -111,6 +117,16 @@ def read(options: argparse.Namespace) -> tuple[Journal, Answer]:
     if not answer.fits(journal):
         say(checker.said_last)
     return journal, answer
+
+
+def gap_of(options: argparse.Namespace, journal: Journal, answer: Answer) -> Answer:
+    """What `ice gap` says where a search was spent, as it was told, or as it is asked."""
+    if options.gap is not None:
+        return Answer(options.gap.strip())
+    is_file = options.journal != "-" and os.path.isfile(options.journal)
+    if options.check and is_file and journal.end.word == "spent" and answer.fits(journal):
+        return ask_gap(journal, options.journal, options.program)
+    return Answer()
 
 
 def number_of(journal: Journal, name: str | None) -> int | None:
@@ -143,6 +159,8 @@ def meant(arguments: Sequence[str] | None) -> argparse.Namespace:
     options = parser.read(arguments)
     if options.check and options.checked is not None:
         parser.error("--check asks the checker, and --checked tells its answer: give one of them")
+    if options.check and options.gap is not None:
+        parser.error("--check asks the gap, and --gap tells it: give one of them")
     if options.program and not options.check:
         parser.error("--program goes with --check")
     if options.round is not None and options.bidder is None:
@@ -163,6 +181,7 @@ def main(arguments: Sequence[str] | None = None) -> int:
     with reading(options.journal):
         journal, answer = read(options)
         bidder = number_of(journal, options.bidder)
+        gap = gap_of(options, journal, answer)
     if options.fair is not None:
         with reading(options.fair):
             fair = read_fair(options.fair, journal)
@@ -178,6 +197,7 @@ def main(arguments: Sequence[str] | None = None) -> int:
         program=options.made_by,
         digest=options.digest,
         fair=fair,
+        gap=gap,
     )
     with reading(options.journal):
         page = whole_page(view)

@@ -1,7 +1,7 @@
 """What a page is to show: a journal, the checker's answer, and for whom."""
 from __future__ import annotations
 
-from dataclasses import dataclass
+from dataclasses import dataclass, field
 from functools import cached_property
 
 from .checker import Answer, total, worths
@@ -30,6 +30,7 @@ class View:
     program: str = ""
     digest: str = ""
     fair: FairPrices | None = None
+    gap: Answer = field(default_factory=Answer)
 
     @property
     def alone(self) -> bool:
@@ -87,5 +88,11 @@ class View:
 
     @property
     def is_proven(self) -> bool:
-        """Whether the trade is proven to be a best one: the checker said so of its proof."""
-        return self.answer.says_yes(self.journal) and self.journal.last.group("rival") is not None
+        """Whether the trade is proven to be a best one: the checker said so of its proof.
+
+        Where a later search was spent, the proof of the final trade stands before the stop.
+        """
+        journal = self.journal
+        if journal.end.word == "spent" and not self.alone:
+            return self.answer.fits(journal) and journal.last.group("final") is not None
+        return self.answer.says_yes(journal) and journal.last.group("rival") is not None

@@ -61,7 +61,6 @@ class Stops(unittest.TestCase):
         up_to = f"every test passed up to line {line - 1:,}, {where}"
         self.assertEqual(facts["checker’s answer"][1], f"as told to this page: {up_to}")
         self.assertNotIn("surplus of the payments", facts)
-        self.assertNotIn("proven best", page.root.seen())
         self.assertNotIn("don’t add up", page.root.seen())
 
     def spent(self, name: str, kind: str) -> None:
@@ -74,6 +73,7 @@ class Stops(unittest.TestCase):
                 journal = places.spent(number, int(head[-1]), 987654)
                 page = page_of(journal, "--checked", f"no {number + 1} closed")
                 self.check(page, "Search spent", number + 1)
+                self.assertEqual("proven best" in page.root.seen(), head[0] != "final")
                 lead = page.root.all("p", "lead")[0].text
                 seeks = head[0]
                 if head[0] == "without":
@@ -135,6 +135,7 @@ class Stops(unittest.TestCase):
                     )
                     page = page_of(journal, "--checked", f"no {number + 1} closed")
                     self.check(page, "Pricing limit", number + 1)
+                    self.assertNotIn("proven best", page.root.seen())
                     lead = page.root.all("p", "lead")[0].text
                     self.assertIn(f"the stage {stage} of the pricing needs", lead)
                     self.assertIn(words, lead)
