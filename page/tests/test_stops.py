@@ -102,7 +102,7 @@ class Stops(unittest.TestCase):
             page = page_of(places.spent(number, value, bound))
             self.assertIn(f"is possible, a gap of {gap} %", page.root.all("p", "lead")[0].text)
         page = page_of(places.spent(number, 0, 5))
-        self.assertNotIn("gap", page.root.all("p", "lead")[0].text)
+        self.assertNotIn("a gap of", page.root.all("p", "lead")[0].text)
 
     def test_regret_is_unknown_before_it_is_stated(self):
         places = Places(sample("two-settlements.session"))

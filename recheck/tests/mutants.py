@@ -17,7 +17,7 @@ from concurrent.futures import ThreadPoolExecutor
 from functools import cache
 from pathlib import Path
 
-from support import JOURNALS, PROGRAM, answer_of_program, check, lists_of_lines, sources
+from support import JOURNALS, JUDGES, PROGRAM, answer_of_program, lists_of_lines, sources
 
 COUNT = 2000
 AT_ONCE = 4  # runs of the program
@@ -145,8 +145,12 @@ def mutant(seed: int) -> bytes:
 def differs(seed: int) -> str | None:
     """How the two answers to the mutant of a seed differ, where they do."""
     journal = mutant(seed)
-    ours, theirs = check(journal), answer_of_program(journal)
-    return None if ours == theirs else f"seed {seed}: {ours} here, {theirs} of the program"
+    is_stopped = any(line.startswith(b"spent ") for line in journal.splitlines())
+    for command in ["check", "gap"] if is_stopped else ["check"]:
+        ours, theirs = JUDGES[command](journal), answer_of_program(journal, command)
+        if ours != theirs:
+            return f"seed {seed}, {command}: {ours} here, {theirs} of the program"
+    return None
 
 
 def differences(count: int, first: int = 0) -> list[str]:
@@ -160,7 +164,7 @@ def keep(found: list[str]) -> Path:
     """A folder with the mutants that are answered otherwise."""
     folder = Path(tempfile.mkdtemp(prefix="mutants-"))
     for text in found:
-        seed = int(text.split()[1].rstrip(":"))
+        seed = int(text.split()[1].rstrip(","))
         (folder / f"{seed}.journal").write_bytes(mutant(seed))
     return folder
 

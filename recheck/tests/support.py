@@ -15,7 +15,9 @@ COMMAND = HERE.parent / "ice-recheck"
 sys.dont_write_bytecode = True
 sys.path.insert(0, str(HERE.parent))
 
-from ice_recheck.journals import Answer, check  # noqa: E402
+from ice_recheck.journals import Answer, check, gap  # noqa: E402
+
+JUDGES = {"check": check, "gap": gap}
 
 JOURNALS = [
     file
@@ -48,11 +50,11 @@ needs_program = unittest.skipUnless(
 )
 
 
-def answer_of_program(journal: bytes) -> Answer:
-    """The program's answer to a journal."""
+def answer_of_program(journal: bytes, command: str = "check") -> Answer:
+    """The program's answer to a journal, by `check` or by `gap`."""
     assert PROGRAM is not None
     ran = subprocess.run(
-        [PROGRAM, "check", "/dev/stdin"], input=journal, stdout=subprocess.PIPE, check=False
+        [PROGRAM, command, "/dev/stdin"], input=journal, stdout=subprocess.PIPE, check=False
     )
     return Answer(ran.stdout.decode().removesuffix("\n"), ran.returncode)
 
@@ -82,8 +84,8 @@ def changed(lines: list[str], place: int, text: str) -> str:
     )
 
 
-def judged_in_tables() -> list[tuple[str, bytes, tuple[str, ...], int]]:
-    """The rows of the program's own tests in which one file is checked.
+def judged_in_tables(command: str = "check") -> list[tuple[str, bytes, tuple[str, ...], int]]:
+    """The rows of the program's own tests in which one file is judged by this command.
 
     Each has a name, the file's bytes, the outputs of which one is due, and the status. There are
     none where those tests aren't, or where Python is older than they want.
@@ -98,7 +100,7 @@ def judged_in_tables() -> list[tuple[str, bytes, tuple[str, ...], int]]:
         with tempfile.TemporaryDirectory() as folder:
             words = case.lay(Path(folder))
             file = Path(folder, words[-1] if words else "")
-            is_check = len(words) == 2 and words[0] == "check" and file.is_file()
+            is_check = len(words) == 2 and words[0] == command and file.is_file()
             if is_check and case.write is None and case.due.outputs:
                 found.append((case.name, file.read_bytes(), case.due.outputs, case.due.status))
     return found
@@ -114,4 +116,5 @@ def rows() -> list[bytes]:
         for lines in lists_of_lines(source):
             found += [changed(lines, place, text) for place, text in [(0, ""), *changes]]
     texts = {text.lstrip("\n").encode() for text in found}
-    return sorted(texts | {journal for _, journal, _, _ in judged_in_tables()})
+    judged = [row for command in JUDGES for row in judged_in_tables(command)]
+    return sorted(texts | {journal for _, journal, _, _ in judged})

@@ -11,7 +11,7 @@ import unittest
 from pathlib import Path
 
 import mutants
-from support import HERE, JOURNALS, ROOT, check, rows
+from support import HERE, JOURNALS, ROOT, check, gap, rows
 
 PAGE = HERE.parent / "ice-recheck.html"
 CHROMIUM = next(filter(None, map(shutil.which, ("chromium", "chromium-browser"))), None)
@@ -20,8 +20,8 @@ ANSWERS = """
 const files = %s;
 const answers = files.map((file) => {
   const content = Uint8Array.from(atob(file), (letter) => letter.charCodeAt(0));
-  const { line, status } = check(content);
-  return [line, status, sha256(content)];
+  const [{ line, status }, gap] = [check(content), check(content, readSpent)];
+  return [line, status, gap.line, gap.status, sha256(content)];
 });
 document.body.textContent = JSON.stringify(answers);
 """
@@ -56,7 +56,7 @@ class Browser(unittest.TestCase):
         self.assertEqual(len(answers), len(journals))
         for journal, answer in zip(journals, answers):
             digest = hashlib.sha256(journal).hexdigest()
-            self.assertEqual(answer, [*check(journal), digest], journal[:2000])
+            self.assertEqual(answer, [*check(journal), *gap(journal), digest], journal[:2000])
 
     def test_samples_and_rows(self):
         self.agree([file.read_bytes() for file in JOURNALS])
@@ -98,6 +98,25 @@ class Browser(unittest.TestCase):
         body = self.body(DROP % json.dumps(base64.b64encode(damaged).decode()))
         self.assertIn(f'<p id="line">no {line} payment</p>', body)
         self.assertNotIn("<table", body)
+
+    @unittest.skipUnless((ROOT / "tests" / "files").is_dir(), "the tables aren't here")
+    def test_a_gap_that_is_dropped(self):
+        files = ROOT / "tests" / "files"
+        for name, shows in (
+            ("spent-final", ("worth 0, and nothing is worth more than 10, so 10 is missed", "Nothing of")),
+            ("spent-rival", ("so 10 is missed at most", "stands proved, and its regret is missing.")),
+            ("spent-provisional", ("so 100 is missed", "and its regret stand proved.")),
+            ("spent-without", ("so 5 is missed", "payments are not known.")),
+        ):
+            journal = (files / f"{name}.session").read_bytes()
+            body = self.body(DROP % json.dumps(base64.b64encode(journal).decode()))
+            for text in shows:
+                self.assertIn(text, body)
+        forged = journal.replace(b"spent 0 5", b"spent 0 4")
+        body = self.body(DROP % json.dumps(base64.b64encode(forged).decode()))
+        self.assertIn('<p id="line">no 22 closed</p>', body)
+        self.assertIn("fails its tests: no 25 above.", body)
+        self.assertNotIn("is missed at most", body)
 
     def test_nothing_is_asked_of_a_network(self):
         source = PAGE.read_text()

@@ -53,8 +53,20 @@ class Statuses(unittest.TestCase):
         for name in ("absent.journal", "", "."):
             self.assertEqual(run(name, cwd=ROOT)[:2], (6, "unread 1\n"), name)
 
+    def test_gap(self):
+        journal = ROOT / "tests" / "files" / "spent-final.session"
+        if not journal.exists():
+            self.skipTest("the tables aren't here")
+        status, line, said = run("--gap", str(journal))
+        self.assertEqual((status, line), (0, "gap final 0 10\n"))
+        self.assertIn("nothing is proved", said)
+        self.assertEqual(run(str(journal))[:2], (3, "no 9 closed\n"))
+        self.assertEqual(run("--gap", str(SAMPLE))[:2], (3, "no 12 spent\n"))
+        self.assertEqual(run("--gap", "/dev/null")[:2], (2, "refused 1 53 -\n"))
+        self.assertEqual(run("--gap", "absent.journal")[:2], (6, "unread 1\n"))
+
     def test_words(self):
-        for words in ((), ("a", "b"), (b"\xff",)):
+        for words in ((), ("a", "b"), (b"\xff",), ("--gap", "a", "b"), ("--gap", b"\xff")):
             status, line, said = run(*words)
             self.assertEqual((status, line), (1, "words refused\n"), words)
             self.assertIn("usage: ice-recheck JOURNAL", said)

@@ -2,7 +2,7 @@
 import unittest
 
 import mutants
-from support import JOURNALS, ROOT, answer_of_program, check, needs_program, rows
+from support import JOURNALS, JUDGES, ROOT, answer_of_program, needs_program, rows
 
 
 @needs_program
@@ -11,8 +11,9 @@ class Program(unittest.TestCase):
 
     def agree(self, name: str, journal: bytes) -> None:
         """Whether both answer the same."""
-        with self.subTest(name):
-            self.assertEqual(check(journal), answer_of_program(journal))
+        for command, judge in JUDGES.items():
+            with self.subTest(name, command=command):
+                self.assertEqual(judge(journal), answer_of_program(journal, command))
 
     def test_samples(self):
         self.assertTrue(JOURNALS)

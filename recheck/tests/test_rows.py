@@ -1,7 +1,7 @@
 """The journals in the tables of the program's tests, with the answers that stand beside them."""
 import unittest
 
-from support import ROOT, answer, check, judged_in_tables
+from support import ROOT, answer, check, gap, judged_in_tables
 
 WHOLE = ("sale.regret", "sale.session", "rounds.session", "core.session")
 
@@ -19,12 +19,30 @@ class Rows(unittest.TestCase):
                 self.assertIn(f"{line}\n", outputs)
                 self.assertEqual(ended, status)
 
+    @unittest.skipUnless(judged_in_tables(), "the tables aren't here, or Python is older than 3.11")
+    def test_gaps(self):
+        rows = judged_in_tables("gap")
+        self.assertGreater(len(rows), 100)
+        for name, journal, outputs, status in rows:
+            with self.subTest(name):
+                line, ended = gap(journal)
+                self.assertIn(f"{line}\n", outputs)
+                self.assertEqual(ended, status)
+
     @unittest.skipUnless((ROOT / "tests" / "files").is_dir(), "the tables aren't here")
     def test_cut_journals_are_short(self):
         for file in (ROOT / "tests" / "files" / name for name in WHOLE):
             lines = file.read_text().splitlines(keepends=True)
             for count in range(1, len(lines)):
                 found = answer("".join(lines[:count]))
+                self.assertEqual(found, (f"no {count + 1} short", 3), (file.name, count))
+
+    @unittest.skipUnless((ROOT / "tests" / "files").is_dir(), "the tables aren't here")
+    def test_gaps_of_cut_journals(self):
+        for file in sorted((ROOT / "tests" / "files").glob("spent-*")):
+            lines = file.read_text().splitlines(keepends=True)
+            for count in range(1, len(lines)):
+                found = gap("".join(lines[:count]).encode())
                 self.assertEqual(found, (f"no {count + 1} short", 3), (file.name, count))
 
     def test_lines_at_fault(self):
