@@ -62,7 +62,7 @@ def read_statement(records: Records) -> Fraction:
         (regret,) = records.take("regret").fields
         kept = statement.read_set("kept")
         if regret <= settings.close_regret or number == settings.rounds:
-            return read_close(statement, value(bounds.lower, kept))
+            return read_close(statement, bounds, kept)
         offered = statement.read_set("offered")
         bounds = read_round(statement, bounds, offered, read_prices(statement))
         number += 1
@@ -91,14 +91,18 @@ def read_round(statement: Statement, old: Bounds, offered: NodeSet, prices: Pric
     return accepted or old
 
 
-def read_close(statement: Statement, worth: int) -> Fraction:
-    """The payment, where it is what the set is worth less the discount that the cut leaves."""
+def read_close(statement: Statement, bounds: Bounds, kept: NodeSet) -> Fraction:
+    """The payment, where it is what the set is worth less the discount that the cut leaves.
+
+    An empty set has no Vickrey discount, and neither the cut nor the surplus is below 0.
+    """
     records = statement.records
-    cut, _ = records.take("threshold").fields
-    records.test(cut >= 0, Rule.ORDER)
+    cut, surplus = records.take("threshold").fields
+    records.test(cut >= 0 and surplus >= 0, Rule.ORDER)
     _, vickrey, discount, payment = statement.take_own("payment").fields
+    records.test(any(kept) or vickrey == 0, Rule.PAYMENT)
     due = max(Fraction(0), vickrey - cut)
-    records.test([discount, payment] == [due, worth - due], Rule.PAYMENT)
+    records.test([discount, payment] == [due, value(bounds.lower, kept) - due], Rule.PAYMENT)
     records.take_end("statement")
     return payment
 

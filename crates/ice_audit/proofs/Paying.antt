@@ -1,9 +1,11 @@
 -- Lines of the end that pass, and what is kept behind them.
 use Rattle.std.proofs.Common.{◌≡◌, ℕ, suc, ◌<◌, Bool, true, false, cond, int_le, List, refl, sym, ap, ◌∙◌, subst, arith, ℤ, pos}
-use Rattle.std.specs.Prelude.{Some, None, option_map, ◌≤ℤ◌, ◌<ℤ◌}
+use Rattle.std.specs.Prelude.{◌&&◌, Some, None, option_map, ◌≤ℤ◌, ◌<ℤ◌}
 use Rattle.std.specs.Str.{bytes_eq}
+use Rattle.std.proofs.lemmas.Bool.{and_from, and_left, and_right}
 use Rattle.std.proofs.lemmas.Int.{ints}
 use Rattle.ice_defs.specs.Set.{value}
+use Rattle.ice_defs.specs.Vickrey.{IsEmpty}
 use Rattle.ice_defs.specs.Bounds.{bounds_of}
 use Rattle.ice_defs.specs.Fraction.{Fraction}
 use Rattle.ice_defs.specs.Session.{Payment}
@@ -15,7 +17,7 @@ use Rattle.ice_journal_laws.specs.declared.rule.Rule.TheVariants as rule
 use Rattle.ice_journal_laws.proofs.Charged.{stated_lowest}
 use Rattle.ice_check_charge.specs.Tests.{IsPaidAt}
 use Rattle.ice_statement_laws.specs.Statement.{StatementLine, shown, ended}
-use Rattle.ice_statement_laws.specs.Audit.{at_threshold, at_payment, at_end, done, AuditState, move_to, to_line, spot_next, audit_next, IsOwnPayment}
+use Rattle.ice_statement_laws.specs.Audit.{at_threshold, at_payment, at_end, done, AuditState, move_to, to_line, is_from_0, spot_next, audit_next, IsOwnPayment}
 use Rattle.ice_statement_laws.proofs.Walking.{quiet}
 use Rattle.ice_audit.specs.declared.next.Next.TheVariants as next
 use Rattle.ice_audit.specs.declared.settlements.Settlements.{Settlements}
@@ -33,26 +35,36 @@ le_false a b h = grind (arith, ints, h)
 module _ (x : Settlements) (k : IsKept x) where
   -- ---- the cut
 
-  module _ (cut : LowestFraction) (surplus : Fraction) (now : x.next ≡ next.Threshold) where
+  module _ (cut surplus : LowestFraction) (now : x.next ≡ next.Threshold) where
     abbrev at_cut : StatementLine
-    at_cut = shown (line.threshold (fraction_of cut) surplus)
+    at_cut = shown (line.threshold (fraction_of cut) (fraction_of surplus))
 
     abbrev behind_cut : AuditState → AuditState
     behind_cut s = move_to at_payment (record s { cut = fraction_of cut })
 
-    pub cut_negative : cut.num <ℤ pos 0 → (s : AuditState) → Stands x s → FailsFirst s at_cut rule.Order
-    cut_negative low s st =
-        fails_from s at_threshold at_cut rule.Order (at_now x s st next.Threshold now).0
-        (order_fails (move_to at_threshold s) at_cut (ap (λ (b : Bool). cond b (Some (behind_cut s)) None) (le_false (pos 0) cut.num low)))
+    abbrev may_stand : Bool
+    may_stand = is_from_0 (fraction_of cut) && is_from_0 (fraction_of surplus)
 
-    pub cut_taken : pos 0 ≤ℤ cut.num → 0 < cut.den → GoesOn x at_cut (record x { next = next.Payment cut })
-    cut_taken low den = record {
+    out_of_order : may_stand ≡ false → (s : AuditState) → Stands x s → FailsFirst s at_cut rule.Order
+    out_of_order none s st =
+        fails_from s at_threshold at_cut rule.Order (at_now x s st next.Threshold now).0
+        (order_fails (move_to at_threshold s) at_cut (ap (λ (b : Bool). cond b (Some (behind_cut s)) None) none))
+
+    pub cut_negative : cut.num <ℤ pos 0 → (s : AuditState) → Stands x s → FailsFirst s at_cut rule.Order
+    cut_negative low = out_of_order (and_left (is_from_0 (fraction_of cut)) (is_from_0 (fraction_of surplus)) (le_false (pos 0) cut.num low))
+
+    pub surplus_negative : surplus.num <ℤ pos 0 → (s : AuditState) → Stands x s → FailsFirst s at_cut rule.Order
+    surplus_negative low = out_of_order (and_right (is_from_0 (fraction_of cut)) (is_from_0 (fraction_of surplus)) (le_false (pos 0) surplus.num low))
+
+    pub cut_taken : pos 0 ≤ℤ cut.num → pos 0 ≤ℤ surplus.num → 0 < cut.den → GoesOn x at_cut (record x { next = next.Payment cut })
+    cut_taken low left den = record {
       kept = record { one = k.one; round = k.round; count = k.count; nodes = k.nodes; fit = (fit_now x k next.Threshold now, den) };
       paid = same_paid x at_cut next.Threshold now;
       goes = λ s st.
           let at = at_now x s st next.Threshold now in
           let after : AuditState = to_line (suc s.line) (behind_cut s) in
-          let is : audit_next (move_to at_threshold s) at_cut ≡ Some after = ap (λ (b : Bool). option_map (to_line (suc s.line)) (cond b (Some (behind_cut s)) None)) (le_true (pos 0) cut.num low) in
+          let is : audit_next (move_to at_threshold s) at_cut ≡ Some after = ap (λ (b : Bool). option_map (to_line (suc s.line)) (cond b (Some (behind_cut s)) None))
+          (and_from (is_from_0 (fraction_of cut)) (is_from_0 (fraction_of surplus)) (le_true (pos 0) cut.num low) (le_true (pos 0) surplus.num left)) in
           record {
             state = after;
             passes = passes_from s after at_threshold at_cut at.0
@@ -80,8 +92,12 @@ module _ (x : Settlements) (k : IsKept x) where
     abbrev Pays : Fraction → ℤ → Type 0
     Pays c worth = IsPaidAt c vickrey worth (fraction_of discount) (fraction_of payment)
 
-    own_paid : (s : AuditState) → Pays s.cut (value s.kept s.bounds.lo) → IsOwnPayment (move_to at_payment s) stated
-    own_paid s h = record { discount = h.discounted; payment = h.paid }
+    -- no Vickrey discount stands beside an empty set
+    abbrev IsDue : Type 0
+    IsDue = IsEmpty x.kept → vickrey ≡ pos 0
+
+    own_paid : (s : AuditState) → (IsEmpty s.kept → vickrey ≡ pos 0) → Pays s.cut (value s.kept s.bounds.lo) → IsOwnPayment (move_to at_payment s) stated
+    own_paid s due h = record { vickrey = due; discount = h.discounted; payment = h.paid }
 
     paid_own : (s : AuditState) → IsOwnPayment (move_to at_payment s) stated → Pays s.cut (value s.kept s.bounds.lo)
     paid_own s h = record { discounted = h.discount; paid = h.payment }
@@ -89,20 +105,29 @@ module _ (x : Settlements) (k : IsKept x) where
     same_pay : (s : AuditState) → Stands x s → Pays (fraction_of cut) (value x.kept (bounds_of x.judge.bounds 0).lo) ≡ Pays s.cut (value s.kept s.bounds.lo)
     same_pay s st = (let at = at_now x s st (next.Payment cut) now in λ i. Pays (sym at.2 i) (value (sym at.1 i) (sym st.bounds i).lo))
 
-    pays_at : (s : AuditState) → Stands x s → Pays (fraction_of cut) (value x.kept (bounds_of x.judge.bounds 0).lo) → IsOwnPayment (move_to at_payment s) stated
-    pays_at s st h = own_paid s (subst (λ (t : Type 0). t) (same_pay s st) h)
+    kept_at : (s : AuditState) → Stands x s → s.kept ≡ x.kept
+    kept_at s st = (at_now x s st (next.Payment cut) now).1
+
+    pays_at : (s : AuditState) → Stands x s → IsDue → Pays (fraction_of cut) (value x.kept (bounds_of x.judge.bounds 0).lo) → IsOwnPayment (move_to at_payment s) stated
+    pays_at s st due h = own_paid s (λ empty. due (subst IsEmpty (kept_at s st) empty)) (subst (λ (t : Type 0). t) (same_pay s st) h)
 
     at_pays : (s : AuditState) → Stands x s → IsOwnPayment (move_to at_payment s) stated → Pays (fraction_of cut) (value x.kept (bounds_of x.judge.bounds 0).lo)
     at_pays s st h = subst (λ (t : Type 0). t) (sym (same_pay s st)) (paid_own s h)
 
     module _ (is_own : bytes_eq (own_name x.exchange) name ≡ true) where
-      pub payment_wrong : ¬ Pays (fraction_of cut) (value x.kept (bounds_of x.judge.bounds 0).lo) → (s : AuditState) → Stands x s → FailsFirst s at_pay rule.Payment
-      payment_wrong other s st =
+      wrong : ((s : AuditState) → Stands x s → ¬ IsOwnPayment (move_to at_payment s) stated) → (s : AuditState) → Stands x s → FailsFirst s at_pay rule.Payment
+      wrong other s st =
           fails_from s at_payment at_pay rule.Payment (at_now x s st (next.Payment cut) now).0
-          (payment_fails (move_to at_payment s) _ at_pay (named_at s st true is_own) (λ h. h) (λ h. h) (λ i h. h) (λ h. h) (λ h. other (at_pays s st h)) (λ h. h))
+          (payment_fails (move_to at_payment s) _ at_pay (named_at s st true is_own) (λ h. h) (λ h. h) (λ i h. h) (λ h. h) (other s st) (λ h. h))
 
-      pub payment_taken : IsFractionField (fraction_of payment) → Pays (fraction_of cut) (value x.kept (bounds_of x.judge.bounds 0).lo) → GoesOn x at_pay (record x { next = next.End payment })
-      payment_taken lawful pays = record {
+      pub vickrey_undue : ¬ IsDue → (s : AuditState) → Stands x s → FailsFirst s at_pay rule.Payment
+      vickrey_undue undue = wrong (λ s st h. undue (λ empty. h.vickrey (subst IsEmpty (sym (kept_at s st)) empty)))
+
+      pub payment_wrong : ¬ Pays (fraction_of cut) (value x.kept (bounds_of x.judge.bounds 0).lo) → (s : AuditState) → Stands x s → FailsFirst s at_pay rule.Payment
+      payment_wrong other = wrong (λ s st h. other (at_pays s st h))
+
+      pub payment_taken : IsFractionField (fraction_of payment) → IsDue → Pays (fraction_of cut) (value x.kept (bounds_of x.judge.bounds 0).lo) → GoesOn x at_pay (record x { next = next.End payment })
+      payment_taken lawful due pays = record {
         kept = record { one = k.one; round = k.round; count = k.count; nodes = k.nodes; fit = stated_lowest (fraction_of payment) lawful };
         paid = same_paid x at_pay (next.Payment cut) now;
         goes = λ s st.
@@ -111,7 +136,7 @@ module _ (x : Settlements) (k : IsKept x) where
             record {
               state = after;
               passes = passes_from s after at_payment at_pay (at_now x s st (next.Payment cut) now).0
-                  (record { none = quiet _ _ _ is (λ h. h) (λ h. h) (λ i h. h) (λ h. h) (λ h. h) (λ h. h (pays_at s st pays)); verdict = tt; next = is });
+                  (record { none = quiet _ _ _ is (λ h. h) (λ h. h) (λ i h. h) (λ h. h) (λ h. h) (λ h. h (pays_at s st due pays)); verdict = tt; next = is });
               stands = record { exchange = st.exchange; named = st.named; bounds = st.bounds; number = st.number; at = refl };
             };
       }

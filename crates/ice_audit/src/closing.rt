@@ -3,8 +3,8 @@
 ghost use Rattle.std.specs.Prelude.{◌≡◌, ◌<◌, ℕ, List, IsTrue, false, length, pos, ◌<ℤ◌, ◌≤ℤ◌};
 ghost use Rattle.std.specs.Str.{bytes_eq};
 ghost use Rattle.ice_defs.specs.Set.{value};
+ghost use Rattle.ice_defs.specs.Vickrey.{IsEmpty};
 ghost use Rattle.ice_defs.specs.Bounds.{bounds_of};
-ghost use Rattle.ice_defs.specs.Fraction.{Fraction};
 ghost use Rattle.ice_frac.specs.Lowest.{IsLowest};
 ghost use Rattle.ice_journal.specs.Records as records;
 ghost use Rattle.ice_journal.specs.Ranges.{IsRecord, IsFractionField};
@@ -45,32 +45,35 @@ fn is_negative(stated: &LowestFraction) -> bool
 }
 
 impl Settlements {
-    /// A cut in its place.
-    fn state_cut(&mut self, cut: &LowestFraction) -> Result<(), Rule>
+    /// A cut and a surplus in their place.
+    fn state_cut(&mut self, cut: &LowestFraction, surplus: &LowestFraction) -> Result<(), Rule>
         requires next { self.old.next ≡ Next.Threshold }
         requires kept { IsKept self.old }
         requires den { 0 < cut.now.den }
-        ensures { (surplus : Fraction)
-            → Takes self.old (shown (records.threshold (fraction_of cut.now) surplus)) result
+        ensures { Takes self.old
+            (shown (records.threshold (fraction_of cut.now) (fraction_of surplus.now))) result
             self.new }
     {
         if is_negative(cut) {
+            return Err(Rule::Order);
+        }
+        if is_negative(surplus) {
             return Err(Rule::Order);
         }
         self.next = Next::Payment { cut: *cut };
         Ok(())
     }
 
-    /// The cut, which stands beside some surplus.
-    fn take_cut(&mut self, cut: &LowestFraction) -> Result<(), Rule>
+    /// The cut and the surplus.
+    fn take_cut(&mut self, cut: &LowestFraction, surplus: &LowestFraction) -> Result<(), Rule>
         requires kept { IsKept self.old }
         requires den { 0 < cut.now.den }
-        ensures { (surplus : Fraction)
-            → Takes self.old (shown (records.threshold (fraction_of cut.now) surplus)) result
+        ensures { Takes self.old
+            (shown (records.threshold (fraction_of cut.now) (fraction_of surplus.now))) result
             self.new }
     {
         match self.next {
-            Next::Threshold => self.state_cut(cut),
+            Next::Threshold => self.state_cut(cut, surplus),
             _ => Err(Rule::Order),
         }
     }
@@ -83,6 +86,17 @@ impl Settlements {
         ensures range { IsWorth result }
     {
         i128::from(self.judge.bounds()[0].lower_value(&self.kept))
+    }
+
+    /// Whether a Vickrey discount stands beside a last final set that is empty.
+    fn is_undue(&self, vickrey: i64) -> bool
+        ensures yes { IsTrue result → ¬ (IsEmpty self.now.kept → vickrey ≡ pos 0) }
+        ensures no { result ≡ false → IsEmpty self.now.kept → vickrey ≡ pos 0 }
+    {
+        if vickrey == 0 {
+            return false;
+        }
+        self.kept.is_empty()
     }
 
     /// A payment of the bidder at this cut.
@@ -101,6 +115,9 @@ impl Settlements {
             → Takes self.old (shown (records.payment name vickrey (fraction_of discount.now)
             (fraction_of payment.now))) result self.new }
     {
+        if self.is_undue(vickrey) {
+            return Err(Rule::Payment);
+        }
         let worth = self.worth();
         if !is_paid(cut, vickrey, worth, discount, payment) {
             return Err(Rule::Payment);
@@ -179,7 +196,7 @@ impl Settlements {
             Line::Submit { name, lo, hi } => self.take_submission(name, lo, hi),
             Line::Settle { number } => self.take_settlement(*number),
             Line::Verdict(verdict) => self.take_verdict(*verdict),
-            Line::Threshold { cut, surplus: _ } => self.take_cut(cut),
+            Line::Threshold { cut, surplus } => self.take_cut(cut, surplus),
             Line::Payment {
                 name,
                 vickrey,

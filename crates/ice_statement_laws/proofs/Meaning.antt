@@ -1,9 +1,9 @@
 -- What the audit passes is a right statement.
-use Rattle.std.proofs.Common.{◌≡◌, ℕ, zero, suc, ◌<◌, ◌≤◌, Bool, true, false, cond, eqb, int_le, List, [], ◌∷◌, ◌++◌, map, length, ℤ, pos, refl, sym, ◌∙◌, ap, subst, arith, append_assoc, inl, inr, ◌⊎◌}
-use Rattle.std.specs.Prelude.{Some, None, option_map, IsSomeAnd, ◌*ℤ◌, ◌<ℤ◌, ◌≤ℤ◌, ◌≢◌}
+use Rattle.std.proofs.Common.{◌≡◌, ℕ, zero, suc, ◌<◌, ◌≤◌, Bool, true, false, cond, eqb, List, [], ◌∷◌, ◌++◌, map, length, ℤ, pos, refl, sym, ◌∙◌, ap, subst, arith, append_assoc, inl, inr, ◌⊎◌}
+use Rattle.std.specs.Prelude.{◌&&◌, Some, None, option_map, IsSomeAnd, ◌*ℤ◌, ◌<ℤ◌, ◌≤ℤ◌, ◌≢◌}
 use Rattle.std.specs.List.{flat_map, list_any, AllByRecursion}
 use Rattle.std.specs.Str.{bytes_eq}
-use Rattle.std.proofs.lemmas.Bool.{eqb-true, eq-eqb, true≢false}
+use Rattle.std.proofs.lemmas.Bool.{eqb-true, eq-eqb, true≢false, and_parts}
 use Rattle.std.proofs.lemmas.Option.{none-some, same_Some}
 use Rattle.std.proofs.lemmas.List.{append-nil}
 use Rattle.std.proofs.lemmas.List.Concat.{flat_map-cons}
@@ -22,6 +22,7 @@ use Rattle.ice_defs.specs.Rows.{HasCommonDivisor}
 use Rattle.ice_defs.specs.Round.{Submission, Judged, Standing, JudgesInOrder, IsVerdict, is_accepted, bounds_after}
 use Rattle.ice_defs.specs.Fraction.{Fraction, whole_number, AtMost, Equals, minus}
 use Rattle.ice_defs.specs.Cut.{discount_at_cut}
+use Rattle.ice_defs.specs.Vickrey.{IsEmpty}
 use Rattle.ice_defs.specs.Exchange.{Settings, Good, Bidder}
 use Rattle.ice_defs.specs.Session.{Payment, closes}
 use Rattle.ice_journal.specs.Records.{Record}
@@ -31,7 +32,7 @@ use Rattle.ice_journal_laws.specs.Written.{payment_record, judged_records}
 use Rattle.ice_round_laws.proofs.Entering.{taken_push}
 use Rattle.ice_journal_laws.proofs.Faultless.{covered, satisfied_without_fault, no_fault}
 use Rattle.ice_statement_laws.specs.Statement.{StatementLine, named, shown, kept, offered, ended}
-use Rattle.ice_statement_laws.specs.Audit.{Spot, at_regret, at_kept, at_offered, at_prices, at_round, at_verdict, at_threshold, at_payment, at_end, done, AuditState, AreUnlawful, Audited, passes, goes_on}
+use Rattle.ice_statement_laws.specs.Audit.{Spot, at_regret, at_kept, at_offered, at_prices, at_round, at_verdict, at_threshold, at_payment, at_end, done, AuditState, AreUnlawful, Audited, passes, goes_on, is_from_0}
 use Rattle.ice_statement_laws.specs.Own.{OwnStep, OwnClosed, lines_from, AreOwnPrices, IsOwnFrom}
 use Rattle.ice_statement_laws.proofs.Walking.{at, behind, lines_are}
 
@@ -46,6 +47,12 @@ sat_of bidder x count fault = satisfied_without_fault bidder.tree x (counted (eq
     counted : (t : Bool) → eqb (length x) (length bidder.tree) ≡ t → length x ≡ length bidder.tree
     counted true e = eqb-true (length x) (length bidder.tree) e
     counted false e = absurd (count (λ f. true≢false (sym (eq-eqb (length x) (length bidder.tree) f) ∙ e)))
+
+from_0 : (a : Fraction) → is_from_0 a ≡ true → AtMost (whole_number (pos 0)) a
+from_0 a e = let h : pos 0 ≤ℤ a.num = grind (arith, ints) in omega (arith, ints, h, times_one a.num, zero-*ℤ (pos a.den))
+
+same_z : (a b : ℤ) → ¬ (¬ (a ≡ b)) → a ≡ b
+same_z a b h = by_lt_z a b (λ low. absurd (h (λ e. omega (arith, ints, low, e)))) (λ le. by_lt_z b a (λ high. absurd (h (λ e. omega (arith, ints, high, e)))) (λ ge. omega (arith, ints, le, ge)))
 
 module _ (settings : Settings) (goods : List Good) (bidder : Bidder) where
   abbrev pub here : (n number : ℕ) (spot : Spot) (bounds : Bounds) (regret : ℤ) (x y : NodeSet) (prices : Prices) (judged : List Judged) (cut : Fraction) → AuditState
@@ -67,6 +74,7 @@ module _ (settings : Settings) (goods : List Good) (bidder : Bidder) where
     payment : Payment
     lines_is : lines ≡ shown (payment_record payment) ∷ ended ∷ []
     name : payment.name ≡ bidder.name
+    vickrey : IsEmpty x → payment.vickrey ≡ pos 0
     discount : Equals payment.discount (discount_at_cut cut payment.vickrey)
     equal : Equals payment.payment (minus (whole_number (value x bounds.lo)) payment.discount)
 
@@ -83,6 +91,7 @@ module _ (settings : Settings) (goods : List Good) (bidder : Bidder) where
         payment = record { name = name; vickrey = v; discount = d; payment = q };
         lines_is = ap (λ (ls : List StatementLine). shown (line.payment name v d q) ∷ ls) (inv_end (suc n) number bounds a x y p js cut rest (on after (here (suc n) number at_end bounds a x y p js cut) rest f later));
         name = sym (same-bytes_eq bidder.name name e);
+        vickrey = λ empty. same_z v (pos 0) (λ no. none rule.Payment (λ own. no (own.vickrey empty)));
         discount = covered true _ _ (λ no. none rule.Payment (λ own. no own.discount));
         equal = covered true _ _ (λ no. none rule.Payment (λ own. no own.payment));
       }
@@ -99,18 +108,17 @@ module _ (settings : Settings) (goods : List Good) (bidder : Bidder) where
     payment : Payment
     lines_is : lines ≡ shown (line.threshold cut surplus) ∷ shown (payment_record payment) ∷ ended ∷ []
     low : AtMost (whole_number (pos 0)) cut
+    left : AtMost (whole_number (pos 0)) surplus
     name : payment.name ≡ bidder.name
+    vickrey : IsEmpty x → payment.vickrey ≡ pos 0
     discount : Equals payment.discount (discount_at_cut cut payment.vickrey)
     equal : Equals payment.payment (minus (whole_number (value x bounds.lo)) payment.discount)
 
   inv_threshold : (n number : ℕ) (bounds : Bounds) (a : ℤ) (x y : NodeSet) (p : Prices) (js : List Judged) (cut : Fraction) (lines : List StatementLine) → Audited (here n number at_threshold bounds a x y p js cut) lines None → Charged bounds x lines
   inv_threshold n number bounds a x y p js cut [] (passes e) = absurd cc
-  inv_threshold n number bounds a x y p js cut (shown (line.threshold c s) ∷ rest) (goes_on {after = after} none holds is later) = by (int_le (pos 0) c.num) refl is
+  inv_threshold n number bounds a x y p js cut (shown (line.threshold c s) ∷ rest) (goes_on {after = after} none holds is later) = by (is_from_0 c && is_from_0 s) refl is
     where
-      low_of : int_le (pos 0) c.num ≡ true → AtMost (whole_number (pos 0)) c
-      low_of e = let h : pos 0 ≤ℤ c.num = grind (arith, ints) in omega (arith, ints, h, times_one c.num, zero-*ℤ (pos c.den))
-
-      by : (t : Bool) → int_le (pos 0) c.num ≡ t → option_map (λ (st : AuditState). record st { line = suc n }) (cond t (Some (here n number at_payment bounds a x y p js c)) None) ≡ Some after
+      by : (t : Bool) → (is_from_0 c && is_from_0 s) ≡ t → option_map (λ (st : AuditState). record st { line = suc n }) (cond t (Some (here n number at_payment bounds a x y p js c)) None) ≡ Some after
           → Charged bounds x (shown (line.threshold c s) ∷ rest)
       by true e f =
           let paid = inv_payment (suc n) number bounds a x y p js c rest (on after (here (suc n) number at_payment bounds a x y p js c) rest f later) in
@@ -119,8 +127,10 @@ module _ (settings : Settings) (goods : List Good) (bidder : Bidder) where
             surplus = s;
             payment = paid.payment;
             lines_is = ap (λ (ls : List StatementLine). shown (line.threshold c s) ∷ ls) paid.lines_is;
-            low = low_of e;
+            low = from_0 c (and_parts (is_from_0 c) (is_from_0 s) e).0;
+            left = from_0 s (and_parts (is_from_0 c) (is_from_0 s) e).1;
             name = paid.name;
+            vickrey = paid.vickrey;
             discount = paid.discount;
             equal = paid.equal;
           }
@@ -301,7 +311,7 @@ module _ (settings : Settings) (goods : List Good) (bidder : Bidder) where
             going = [];
             closed = record { regret = a; kept = s; cut = c.cut; surplus = c.surplus; payment = c.payment };
             lines_is = ap (λ (ls : List StatementLine). shown (line.regret a) ∷ kept s ∷ ls) c.lines_is;
-            right = (e, record { kept = sat; cut = c.low; name = c.name; discount = c.discount; payment = c.equal });
+            right = (e, record { kept = sat; cut = c.low; surplus = c.left; name = c.name; vickrey = c.vickrey; discount = c.discount; payment = c.equal });
           }
       by false e f =
           let o = inv_offered k (suc n) number bounds a s y p cut rest later (omega (arith, few)) (on after (here (suc n) number at_offered bounds a s y p [] cut) rest f t) in

@@ -7,6 +7,7 @@ use Rattle.std.specs.List.{AllByRecursion, IsDistinct}
 use Rattle.std.specs.Str.{bytes_eq}
 use Rattle.std.proofs.lemmas.Option.{none-some, slice_get-get_or, slice_get_within}
 use Rattle.std.proofs.lemmas.List.{length-map}
+use Rattle.std.proofs.lemmas.Int.{ints}
 use Rattle.ice_defs.proofs.Below.{length-numbers_below, get_or-numbers_below}
 use Rattle.ice_defs.proofs.Naming.{same-bytes_eq}
 use Rattle.ice_defs.specs.Sum.{numbers_below}
@@ -20,11 +21,14 @@ use Rattle.ice_defs.specs.Rows.{HasCommonDivisor}
 use Rattle.ice_defs.specs.Round.{Judged, Standing, JudgesInOrder, of_name, bounds_after}
 use Rattle.ice_defs.specs.Fraction.{Fraction, whole_number, Equals, minus, fraction_at}
 use Rattle.ice_defs.specs.Cut.{discount_at_cut}
+use Rattle.ice_defs.specs.Vickrey.{IsEmpty}
 use Rattle.ice_defs.specs.Market.{SellsOnlyOwned}
 use Rattle.ice_defs.specs.Exchange.{Good, Bidder, Exchange, trees_of, exact_of, opening_bounds, market_of}
 use Rattle.ice_defs.specs.Lawful.{IsBidder, IsExchange}
 use Rattle.ice_defs.specs.Session.{Going, Payment, Closed, Session, standings_from, standings}
-use Rattle.ice_headline_laws.specs.Right.{own_values, IsGoing, IsClosed, bounds_after_round, IsRightFrom, IsRight}
+use Rattle.ice_headline_laws.proofs.Promised.{no_deficit}
+use Rattle.ice_headline_laws.proofs.Vickreys.{stated_at}
+use Rattle.ice_headline_laws.specs.Right.{own_values, vickreys_of, IsGoing, IsClosed, bounds_after_round, IsRightFrom, IsRight}
 use Rattle.ice_statement_laws.specs.Statement.{Own, IsOwn}
 use Rattle.ice_statement_laws.specs.Own.{IsOwnStep, IsOwnClosed, IsOwnFrom, IsRightOwn}
 use Rattle.ice_statement_laws.specs.Parts.{step_of, part_of, IsStated}
@@ -67,6 +71,21 @@ names_are name (j ∷ judged) = by (bytes_eq name j.submission.name) refl (names
         → AllByRecursion (λ (k : Judged). k.submission.name ≡ name) (if t then j ∷ of_name name judged else of_name name judged)
     by true e more = (sym (same-bytes_eq name j.submission.name e), more)
     by false e more = more
+
+-- ---- a bidder with an empty final set
+
+-- the final sets are feasible without it, and best: so nothing is lost without it
+nothing_lost : (ex : Exchange) (bounds : List Bounds) (c : Closed) → IsClosed ex bounds c → (b : ℕ) → b < length (trees_of ex) → IsEmpty (set_of c.settlement.final.sets b)
+    → slice_index_or (vickreys_of c) b (pos 0) ≡ pos 0
+nothing_lost ex bounds c is b h empty =
+    let (total, without, best, other, lost) = stated_at ex bounds c is b h in
+    let final = is.settled.final in
+    let (x, feasible, worth) = best.attained in
+    let (y, alone, worth_alone) = other.attained in
+    let above = final.best.bound x feasible in
+    let below = best.bound y alone.0 in
+    let reached = other.bound c.settlement.final.sets (final.feasible, empty) in
+    omega (arith, ints, lost, worth, worth_alone, above, below, reached, final.value)
 
 -- ---- the exchange with one bidder
 
@@ -164,6 +183,8 @@ module _ (ex : Exchange) (lawful : IsExchange ex) (b : ℕ) (bidder : Bidder) (i
   own_closed bounds c p same closed discounts paid = record {
     kept = sat_of (exact_of ex) c.settlement.final.sets closed.settled.final.feasible;
     cut = closed.cut.payable.low;
+    surplus = no_deficit ex bounds c closed;
+    vickrey = λ empty. sym vickrey_is ∙ nothing_lost ex bounds c closed b (omega (arith, there, count_trees)) empty;
     name = sym (at_map (λ (q : Payment). q.name) c.payments b p [] paid) ∙ ap (λ (names : List (List ℕ)). get_or names b []) closed.names ∙ at_map (λ (x : Bidder). x.name) ex.bidders b bidder [] is;
     discount = at_all (λ (q : Payment). Equals q.discount (discount_at_cut c.cut q.vickrey)) c.payments b p paid discounts;
     payment =
@@ -194,6 +215,9 @@ module _ (ex : Exchange) (lawful : IsExchange ex) (b : ℕ) (bidder : Bidder) (i
 
       payment_is : fraction_at (map (λ (q : Payment). q.payment) c.payments) b ≡ p.payment
       payment_is = at_map (λ (q : Payment). q.payment) c.payments b p (whole_number (pos 0)) paid
+
+      vickrey_is : slice_index_or (vickreys_of c) b (pos 0) ≡ p.vickrey
+      vickrey_is = at_map (λ (q : Payment). q.vickrey) c.payments b p (pos 0) paid
 
       discount_is : fraction_at (map (λ (q : Payment). q.discount) c.payments) b ≡ p.discount
       discount_is = at_map (λ (q : Payment). q.discount) c.payments b p (whole_number (pos 0)) paid

@@ -2,7 +2,7 @@
 use Rattle.std.proofs.Common.{◌≡◌, ℕ, suc, ◌<◌, Bool, true, cond, int_le, List, [], ◌∷◌, ◌++◌, map, length, ℤ, pos, refl, sym, ◌∙◌, ap, subst, arith, append_assoc, inl, inr}
 use Rattle.std.specs.Prelude.{◌⊎◌, Option, Some, None, option_map, IsSomeAnd, ◌≢◌, ◌*ℤ◌, ◌<ℤ◌, ◌≤ℤ◌}
 use Rattle.std.specs.List.{flat_map, list_any, AllByRecursion}
-use Rattle.std.proofs.lemmas.Bool.{eq-eqb}
+use Rattle.std.proofs.lemmas.Bool.{eq-eqb, and_from}
 use Rattle.std.proofs.lemmas.Option.{none-some}
 use Rattle.std.proofs.lemmas.List.{append-nil}
 use Rattle.std.proofs.lemmas.List.Concat.{flat_map-cons}
@@ -16,7 +16,7 @@ use Rattle.ice_defs.specs.Bounds.{Bounds}
 use Rattle.ice_defs.specs.Prices.{Prices, price_of}
 use Rattle.ice_defs.specs.Rows.{HasCommonDivisor}
 use Rattle.ice_defs.specs.Round.{Judged, Standing, JudgesInOrder, is_accepted, bounds_after}
-use Rattle.ice_defs.specs.Fraction.{Fraction}
+use Rattle.ice_defs.specs.Fraction.{Fraction, whole_number, AtMost}
 use Rattle.ice_defs.specs.Exchange.{Settings, Good, Bidder}
 use Rattle.ice_defs.specs.Session.{closes}
 use Rattle.ice_journal.specs.Records as line
@@ -29,7 +29,7 @@ use Rattle.ice_journal_laws.specs.declared.rule.Rule.{Rule}
 use Rattle.ice_journal_laws.specs.declared.rule.Rule.TheVariants as rule
 use Rattle.ice_journal_laws.specs.Written.{payment_record, judged_records}
 use Rattle.ice_statement_laws.specs.Statement.{StatementLine, shown, kept}
-use Rattle.ice_statement_laws.specs.Audit.{Spot, at_regret, at_kept, at_offered, at_prices, at_round, at_verdict, at_threshold, at_payment, at_end, AuditState, bidder_at, audit_next, stated_set, IsUnsatisfied, AreUnlawful, HasUnlawfulPrices, IsOtherVerdict, IsOtherPayment, IsRefused, AuditFails, Audited, passes, goes_on}
+use Rattle.ice_statement_laws.specs.Audit.{Spot, at_regret, at_kept, at_offered, at_prices, at_round, at_verdict, at_threshold, at_payment, at_end, AuditState, bidder_at, audit_next, stated_set, IsUnsatisfied, AreUnlawful, HasUnlawfulPrices, IsOtherVerdict, IsOtherPayment, IsRefused, AuditFails, Audited, passes, goes_on, is_from_0}
 use Rattle.ice_statement_laws.specs.Own.{OwnStep, OwnClosed, step_lines, closed_lines, lines_from, AreOwnPrices, IsOwnClosed, IsOwnFrom}
 use Rattle.ice_round_laws.proofs.Entering.{taken_push}
 
@@ -53,6 +53,9 @@ quiet s after l is refused count fault prices verdict payment other f = f
 
 le_true : (a b : ℤ) → a ≤ℤ b → int_le a b ≡ true
 le_true a b h = grind (arith, ints, h)
+
+from_0 : (a : Fraction) → AtMost (whole_number (pos 0)) a → is_from_0 a ≡ true
+from_0 a h = le_true (pos 0) a.num (omega (arith, ints, h, times_one a.num, zero-*ℤ (pos a.den)))
 
 -- ---- the lines behind the number of a settlement
 
@@ -99,17 +102,14 @@ module _ (settings : Settings) (goods : List Good) (bidder : Bidder) where
       goes_on (quiet _ _ _ refl (λ h. h) (λ h. h) (λ k h. h) (λ h. h) (λ h. h) (λ h. h)) tt refl
       (goes_on (quiet _ _ _ kept_on (λ h. h) (λ h. h is.kept.same_length) (faultless c.kept is.kept) (λ h. h) (λ h. h) (λ h. h)) tt kept_on
       (goes_on (quiet _ _ _ threshold_on (λ h. h) (λ h. h) (λ k h. h) (λ h. h) (λ h. h) (λ h. h)) tt threshold_on
-      (goes_on (quiet _ _ _ payment_on (λ h. h) (λ h. h) (λ k h. h) (λ h. h) (λ h. h) (λ h. h (record { discount = is.discount; payment = is.payment }))) tt payment_on
+      (goes_on (quiet _ _ _ payment_on (λ h. h) (λ h. h) (λ k h. h) (λ h. h) (λ h. h) (λ h. h (record { vickrey = is.vickrey; discount = is.discount; payment = is.payment }))) tt payment_on
       (goes_on (quiet _ _ _ refl (λ h. h) (λ h. h) (λ k h. h) (λ h. h) (λ h. h) (λ h. h)) tt refl (passes refl)))))
     where
       kept_on : audit_next (at (suc n) number at_kept bounds c.regret x y p [] cut) (kept c.kept) ≡ Some (at (suc (suc n)) number at_threshold bounds c.regret c.kept y p [] cut)
       kept_on = ap (λ (b : Bool). Some (at (suc (suc n)) number (cond b at_threshold at_offered) bounds c.regret c.kept y p [] cut)) ends
 
       threshold_on : audit_next (at (suc (suc n)) number at_threshold bounds c.regret c.kept y p [] cut) (shown (line.threshold c.cut c.surplus)) ≡ Some (at (suc (suc (suc n))) number at_payment bounds c.regret c.kept y p [] c.cut)
-      threshold_on = ap (λ (b : Bool). option_map (λ (s : AuditState). record s { line = suc (suc (suc n)) }) (cond b (Some (at (suc (suc n)) number at_payment bounds c.regret c.kept y p [] c.cut)) None)) (le_true (pos 0) c.cut.num low)
-        where
-          low : pos 0 ≤ℤ c.cut.num
-          low = omega (arith, ints, is.cut, times_one c.cut.num, zero-*ℤ (pos c.cut.den))
+      threshold_on = ap (λ (b : Bool). option_map (λ (s : AuditState). record s { line = suc (suc (suc n)) }) (cond b (Some (at (suc (suc n)) number at_payment bounds c.regret c.kept y p [] c.cut)) None)) (and_from (is_from_0 c.cut) (is_from_0 c.surplus) (from_0 c.cut is.cut) (from_0 c.surplus is.surplus))
 
       payment_on : audit_next (at (suc (suc (suc n))) number at_payment bounds c.regret c.kept y p [] c.cut) (shown (payment_record c.payment)) ≡ Some (at (suc (suc (suc (suc n)))) number at_end bounds c.regret c.kept y p [] c.cut)
       payment_on =

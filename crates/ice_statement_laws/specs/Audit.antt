@@ -1,7 +1,7 @@
 -- The tests of a statement: the first that fails, or none.
 use Rattle.std.specs.Prelude.{ℕ, suc, ◌<◌, ◌≡◌, ◌≢◌, ◌⊎◌, ◌==◌, Bool, true, false, if◌then◌else◌, IsTrue, IfSome, IsSomeAnd, List, [], ◌∷◌}
-use Rattle.std.specs.Prelude.{◌++◌, length, slice_index_or, int_le, ℤ, pos, ◌*ℤ◌, ◌<ℤ◌, Option, Some, None, option_map, option_and_then}
-use Rattle.std.specs.Prelude.{Result, Ok, Err}
+use Rattle.std.specs.Prelude.{◌&&◌, ◌++◌, length, slice_index_or, int_le, ℤ, pos, ◌*ℤ◌, ◌<ℤ◌, Option, Some, None, option_map}
+use Rattle.std.specs.Prelude.{option_and_then, Result, Ok, Err}
 use Rattle.std.specs.List.{list_any}
 use Rattle.std.specs.Str.{bytes_eq}
 use Rattle.ice_defs.specs.declared.SatRule.{SatRule}
@@ -13,6 +13,7 @@ use Rattle.ice_defs.specs.Prices.{Prices, price_of}
 use Rattle.ice_defs.specs.Rows.{HasCommonDivisor}
 use Rattle.ice_defs.specs.Round.{Submission, Judged, Standing, is_accepted, IsVerdict, bounds_after}
 use Rattle.ice_defs.specs.Fraction.{Fraction, whole_number, Equals, minus}
+use Rattle.ice_defs.specs.Vickrey.{IsEmpty}
 use Rattle.ice_defs.specs.Cut.{discount_at_cut}
 use Rattle.ice_defs.specs.Exchange.{Settings, Bidder}
 use Rattle.ice_journal.specs.Records.{Record}
@@ -135,6 +136,10 @@ standing_at s = record { name = s.name; tree = (bidder_at s).tree; bounds = s.bo
 abbrev pub after_kept : AuditState → AuditState
 after_kept s = move_to (if closes (settings_at s) s.number s.regret then at_threshold else at_offered) s
 
+-- a fraction isn't below 0
+abbrev pub is_from_0 : Fraction → Bool
+is_from_0 a = int_le (pos 0) a.num
+
 -- a submission of the bidder, or the next settlement with the bounds that the round leaves
 abbrev pub round_next : AuditState → Record → Option Submission → Option AuditState
 round_next s r (Some x) = if_true (has_name s x.name) (move_to (at_verdict x) s)
@@ -153,8 +158,8 @@ spot_next s (at_verdict x) l =
     option_and_then (λ r. option_map (λ v. move_to at_round (record s { judged = s.judged ++ record { submission = x; verdict = v } ∷ [] }))
     (verdict_in r)) (record_in l)
 spot_next s at_threshold l =
-    option_and_then (λ r. option_and_then (λ c. if_true (int_le (pos 0) c.cut.num) (move_to at_payment (record s { cut = c.cut })))
-    (threshold_in r)) (record_in l)
+    option_and_then (λ r. option_and_then (λ c. if_true (is_from_0 c.cut && is_from_0 c.surplus)
+    (move_to at_payment (record s { cut = c.cut }))) (threshold_in r)) (record_in l)
 spot_next s at_payment l =
     option_and_then (λ r. option_and_then (λ p. if_true (has_name s p.name) (move_to at_end s)) (payment_in r)) (record_in l)
 spot_next s at_end l = if_true (is_ended l) (move_to done s)
@@ -189,8 +194,10 @@ IsOtherVerdict (at_verdict x) s l =
     (λ v. ¬ IsVerdict s.prices (settings_at s).improve (standing_at s) (list_any is_accepted s.judged) x v)
 IsOtherVerdict other s l = ⊥
 
--- the discount by the cut, and the lower value of the kept set less that discount
+-- no Vickrey discount where the kept set is empty, the discount by the cut,
+-- and the lower value of the kept set less that discount
 pub record IsOwnPayment (s : AuditState) (p : Payment) : Type 0 where
+  pub vickrey : IsEmpty s.kept → p.vickrey ≡ pos 0
   pub discount : Equals p.discount (discount_at_cut s.cut p.vickrey)
   pub payment : Equals p.payment (minus (whole_number (value s.kept s.bounds.lo)) p.discount)
 

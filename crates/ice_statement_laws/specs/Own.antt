@@ -9,6 +9,7 @@ use Rattle.ice_defs.specs.Rows.{HasCommonDivisor}
 use Rattle.ice_defs.specs.Round.{Judged, JudgesInOrder, bounds_after}
 use Rattle.ice_defs.specs.Fraction.{Fraction, whole_number, AtMost, Equals, minus}
 use Rattle.ice_defs.specs.Cut.{discount_at_cut}
+use Rattle.ice_defs.specs.Vickrey.{IsEmpty}
 use Rattle.ice_defs.specs.Exchange.{Settings, Good, Bidder, Exchange}
 use Rattle.ice_defs.specs.Lawful.{IsExchange}
 use Rattle.ice_defs.specs.Session.{Payment, closes}
@@ -81,12 +82,14 @@ module _ (settings : Settings) (goods : ℕ) (bidder : Bidder) where
     pub round : JudgesInOrder g.prices settings.improve
         (record { name = bidder.name; tree = bidder.tree; bounds = bounds; set = g.offered }) false g.judged
 
-  -- the bidder pays the lower value of its set less the
-  -- discount that the cut leaves of its Vickrey discount
+  -- neither the cut nor the surplus is below 0, a bidder with an empty set has no Vickrey
+  -- discount, and it pays the lower value of its set less the discount that the cut leaves
   pub record IsOwnClosed (bounds : Bounds) (c : OwnClosed) : Type 0 where
     pub kept : IsSatisfied bidder.tree c.kept
     pub cut : AtMost (whole_number (pos 0)) c.cut
+    pub surplus : AtMost (whole_number (pos 0)) c.surplus
     pub name : c.payment.name ≡ bidder.name
+    pub vickrey : IsEmpty c.kept → c.payment.vickrey ≡ pos 0
     pub discount : Equals c.payment.discount (discount_at_cut c.cut c.payment.vickrey)
     pub payment : Equals c.payment.payment (minus (whole_number (value c.kept bounds.lo)) c.payment.discount)
 
