@@ -3,9 +3,11 @@
 
 mod gathering;
 mod judging;
+mod laws;
 mod lines;
 mod putting;
 
 pub use ice_check::Rule;
 pub use judging::{StatementEnd, judge};
+pub use laws::bytes_have_one_statement;
 pub use putting::put_statement;
