@@ -12,6 +12,13 @@ from harness.program import DONE, INPUT, ROOT, SPENT, Program, programs
 
 MOST = 40
 BRANCHES = re.compile(r'("branches": |^settings(?: \d+){5} )\d+', re.MULTILINE)
+# True values inside the bounds of the hall's market, node by node.
+HALL = {
+    "hall": "0, -10, -10, -10",
+    "choir": "0, 70, 0, 0, 25",
+    "opera": "60, 0, 0",
+    "dance": "55, 0, 0",
+}
 MARKETS = (FILES / "core.exchange", FILES / "ring.exchange", ROOT / "examples/hall.json")
 
 
@@ -69,7 +76,7 @@ class Gaps(unittest.TestCase):
                 truths = Path(folder, "truths.json")
                 truths.write_text(f'{{"bids": [{bids}]}}')
                 found = self.groups(program, "simulate", hall, truths)
-            self.assertEqual(set(found), {"final", "rival", "provisional"})
+            self.assertLessEqual({"final", "rival", "provisional"}, set(found))
 
 
 if __name__ == "__main__":
