@@ -137,11 +137,17 @@ rule() {
     esac
 }
 
-# The name of file N of the words, as it was typed.
+# A word as it was typed. What turns the order of characters round counts as printable, so it is spelled here.
+typed() {
+    local turns=$'\xe2\x80[\x8b-\x8f\xa8-\xae]|\xe2\x81[\xa0-\xaf]|\xd8\x9c|\xef\xbb\xbf'
+    if LC_ALL=C grep -qE -e "$turns" <<<"$1"; then LC_ALL=C printf %q "$1"; else printf %q "$1"; fi
+}
+
+# The name of file N of the words.
 name_of() {
     case ${words[$1]} in
     /dev/stdin | /dev/fd/0 | /proc/self/fd/0) echo "standard input" ;;
-    *) printf '%q\n' "${words[$1]}" ;;
+    *) typed "${words[$1]}" ;;
     esac
     [ "${words[0]}" != run ] || [ "$1" -lt 2 ] || echo " (round $(($1 - 1)))"
 }
@@ -218,31 +224,31 @@ wrong_words() {
         if [ "$count" != 2 ]; then
             echo "\`replay\` takes a journal and a number, and $count words stand behind it"
         else
-            printf "\`replay\` takes a settlement from 0 to 20, with no sign and no leading zero, and not %q\n" "${words[2]}"
+            printf "\`replay\` takes a settlement from 0 to 20, with no sign and no leading zero, and not %s\n" "$(typed "${words[2]}")"
         fi
         ;;
     gen)
         if [ "$count" != 1 ]; then
             echo "\`gen\` takes one number, and $count words stand behind it"
         else
-            printf "\`gen\` takes a number from 0 to 4294967295, with no sign and no leading zero, and not %q\n" "${words[1]}"
+            printf "\`gen\` takes a number from 0 to 4294967295, with no sign and no leading zero, and not %s\n" "$(typed "${words[1]}")"
         fi
         ;;
     help | version) echo "there is no command ${words[0]}: it is \`--${words[0]}\`" ;;
-    *) printf 'there is no command %q\n' "${words[0]}" ;;
+    *) echo "there is no command $(typed "${words[0]}")" ;;
     esac
 }
 
 # How a session ended that closed: its round and regret, and which of the files that were named it didn't come to.
 closed() {
-    local settle regret surplus beyond=()
+    local settle regret surplus it beyond=()
     settle=$(field settle 2) regret=$(field regret 2) surplus=$(field threshold 3)
     if [ -z "$settle" ] || [ -z "$regret" ]; then
         echo "closed"
         return
     fi
     [ "${words[0]}" != run ] || beyond=("${words[@]:settle+2}")
-    echo "closed after round $settle: regret $regret, surplus $surplus${beyond[0]:+; not read: $(printf '%q ' "${beyond[@]}" | sed 's/ $//')}"
+    echo "closed after round $settle: regret $regret, surplus $surplus${beyond[0]:+; not read:$(for it in "${beyond[@]}"; do echo -n " $(typed "$it")"; done)}"
 }
 
 opened() {

@@ -28,7 +28,8 @@ class Words(unittest.TestCase):
         self.top = pathlib.Path(tempfile.mkdtemp(prefix="launch-"))
         self.addCleanup(shutil.rmtree, self.top)
         shutil.copy(TOP / "ice", self.top)
-        shutil.copytree(TOP / "launch", self.top / "launch")
+        for folder in ("launch", "sheet/ice_sheet"):
+            shutil.copytree(TOP / folder, self.top / folder)
         for part in ("src", "specs", "proofs", "out"):
             (self.top / "crates/ice_cli" / part).mkdir(parents=True)
         (self.top / "crates.txt").write_text("ice_cli:\n")
@@ -150,6 +151,17 @@ class Words(unittest.TestCase):
             (self.top / "flat.json").write_text(json.dumps({**market, "bidders": [bidder, *market["bidders"]]}))
             told = self.refused(2, place, command, "flat.json")
             self.assertTrue(told.endswith(other), told)
+
+    def test_what_a_file_says_reaches_no_terminal_as_it_is(self):
+        (self.top / "r").write_text('{"bids":[{"bidder":"a","lo":[],"hi":[],"\\u001b]0;x\\u0007\\u001b[2J yes 0 0/1":1}]}')
+        told = self.refused(2, "bids.0", "run", "market.json", "r", file=2)
+        self.assertEqual(told, r"r (round 1) is refused: bids.0 has `\x1b]0;x\x07\x1b[2J yes 0 0/1`: not of the form that belongs here (number 2)")
+        (self.top / "r").write_text('{"bids":[{"bidder":"a\u009b2J\u202eb","lo":[],"hi":[]}]}')
+        told = self.refused(13, "bids.0.bidder", "run", "market.json", "r", file=2)
+        self.assertIn(r'bids.0.bidder "a\x9b2J\u202eb": not a lawful name', told)
+        (self.top / "a\x1b[2J\u202e.json").write_text("{}")
+        for line in (self.refused(2, "-", "run", "market.json", "a\x1b[2J\u202e.json", file=2), self.told("unread 1\n", 6, "check", "a\u2066")):
+            self.assertTrue(line.isprintable(), ascii(line))
 
     def test_a_fault_of_a_round_names_its_file(self):
         (self.top / "bom.json").write_bytes(b"\xef\xbb\xbf{}")

@@ -2,126 +2,111 @@
 from __future__ import annotations
 
 import argparse
-import json
-import sys
-from dataclasses import dataclass, field
+import os
 from pathlib import Path
-from typing import Any
 
-from . import jsontext
-from .bids import Refusal, refusal_of
-from .command import BAD_WORDS, REFUSED, UNREAD, UNWRITTEN, WRITTEN, Words, count, write
-from .faults import BadFile
-from .market import Market, read_market
+from . import ending
+from .collected import Collected
+from .command import count
+from .ending import SOME_ASIDE, WRITTEN, Unwritten, Words, write
+from .market import read_market
 
-MOST_BIDS = 400
+NAME = "collect"
 ABOUT = """\
 Joins bids into a round file, in the order in which they are given, on standard output.
 
-    examples/collect.py MARKET BID..
+    examples/collect.py MARKET BID.. [--named] [--aside FILE]
 
-A BID is a file in JSON with one bid, or a round file with several. Bids for which the program would
+A BID is a file in JSON with one bid, or a round file with several, or a folder, whose files with
+names that end in .json are taken in the order of their names. Bids for which the program would
 refuse the whole round are put aside, and so are those that it would judge by 45 or 46 whatever the
-session: no bidder of the name, another number of values than its tree has nodes. Standard error has
-a line for each of them with the reason; --aside FILE gets them as JSON."""
+session: no bidder of the name, another number of values than its tree has nodes; and those with a
+member that stands twice. With --named a file TIME-NAME.json, as 1405-choir.json, has bids of NAME
+alone, and all else is put aside; without it files with bids of several bidders, and bidders with
+several bids, are named. Standard error has a line for each bid put aside, of one file the first 20;
+--aside FILE gets them as JSON."""
 STATUSES = (
     "status: 0 all bids are taken, 1 the words are wrong, 2 the market is refused, 3 the round is "
-    "written and some bids were put aside, 6 a file could not be read, 7 one could not be written"
+    "written and some bids were put aside, 6 a file could not be read, 7 one could not be written, "
+    "8 want of memory, 130 interrupted"
 )
-SOME_ASIDE = 3
-
-
-@dataclass
-class Collected:
-    """The bids that are taken, and those that are put aside with their file and reason."""
-
-    taken: list[Any] = field(default_factory=list)
-    aside: list[dict[str, Any]] = field(default_factory=list)
-
-    def add(self, file: str, bid: Any, market: Market) -> None:
-        """Takes a bid, or puts it aside."""
-        refusal = refusal_of(bid, market)
-        if not refusal and len(self.taken) == MOST_BIDS:
-            refusal = Refusal(4, "bids", f"a round has at most {MOST_BIDS} bids")
-        if refusal:
-            self.put_aside(file, str(refusal), bid)
-        else:
-            self.taken.append(bid)
-
-    def put_aside(self, file: str, reason: str, bid: Any) -> None:
-        """Puts a bid aside; `bid` is None where the file is no JSON."""
-        self.aside.append({"file": file, "reason": reason, "bid": bid})
 
 
 def tell(line: str) -> None:
     """A line on standard error."""
-    print(f"collect: {line}", file=sys.stderr)
+    ending.tell(NAME, line)
 
 
 def words() -> Words:
     """The words that are understood."""
     parser = Words(
-        prog="collect",
+        prog=NAME,
         epilog=STATUSES,
         allow_abbrev=False,
         description=ABOUT,
         formatter_class=argparse.RawDescriptionHelpFormatter,
     )
     parser.add_argument("market", metavar="MARKET", help="the market: an exchange, or flat bids")
-    parser.add_argument("bids", metavar="BID", nargs="+", help="a bid, or a round file")
+    parser.add_argument("bids", metavar="BID", nargs="+", help="a bid, a round file, or a folder")
+    parser.add_argument("--named", action="store_true", help="a file has the bids of its name")
     parser.add_argument("--aside", metavar="FILE", help="where the bids put aside go, as JSON")
     return parser
 
 
-def collect(market: Market, files: list[str]) -> Collected:
-    """The bids of the files, in their order."""
-    collected = Collected()
-    for file in files:
-        try:
-            value = jsontext.parse(Path(file).read_bytes())
-        except BadFile as fault:
-            collected.put_aside(file, str(fault), None)
+def files_of(bids: list[str]) -> list[str]:
+    """The files that are named, with those of folders in the order of their names."""
+    files = []
+    for name in bids:
+        if not os.path.isdir(name):
+            files.append(name)
             continue
-        is_round = isinstance(value, dict) and value.keys() == {"bids"}
-        bids = value["bids"] if is_round and isinstance(value["bids"], list) else [value]
-        for number, bid in enumerate(bids):
-            collected.add(f"{file}: bids.{number}" if is_round else file, bid, market)
-    return collected
+        inside = sorted(it for it in os.listdir(os.fsencode(name)) if not it.startswith(b"."))
+        for it in map(os.fsdecode, inside):
+            if it.endswith(".json"):
+                files.append(os.path.join(name, it))
+            else:
+                tell(f"{os.path.join(name, it)}: not read: its name doesn't end in .json")
+    return files
 
 
-def plain(number: jsontext.NotWhole) -> str:
-    """What stands in a bid put aside for a number that isn't whole: its text."""
-    return number.text
+def overwritten(aside: str, files: list[str]) -> str | None:
+    """The file that would be lost if the bids put aside were written; None for none."""
+    there = [file for file in files if os.path.exists(file)] if os.path.exists(aside) else []
+    return next((file for file in there if os.path.samefile(aside, file)), None)
 
 
-def put(collected: Collected, aside: str | None) -> None:
-    """Writes the bids put aside where a file is named, and then the round file."""
-    if aside:
-        text = json.dumps({"aside": collected.aside}, default=plain, indent=1)
-        Path(aside).write_text(text + "\n")
+def put_aside(collected: Collected, file: str) -> None:
+    """Writes the bids that were put aside."""
+    text = ",\n ".join(collected.texts)
+    try:
+        Path(file).write_text(f'{{"aside": [\n {text}\n]}}\n', encoding="ascii")
+    except OSError as fault:
+        raise Unwritten(file, fault) from None
+
+
+def collect(options: argparse.Namespace, files: list[str]) -> int:
+    """Collects the bids of the files and writes them; the status."""
+    collected = Collected(read_market(options.market), options.named)
+    for file in files:
+        collected.add_file(file)
+    for line in collected.lines + collected.notes():
+        tell(line)
+    tell(f"{count(len(collected.taken), 'bid')} taken, {collected.count_aside} put aside")
+    if options.aside:
+        put_aside(collected, options.aside)
     write({"bids": collected.taken})
+    return SOME_ASIDE if collected.count_aside else WRITTEN
 
 
 def main(arguments: list[str] | None = None) -> int:
     """Makes a round file of bids, and answers the status."""
-    options = words().parse_args(arguments)
-    try:
-        collected = collect(read_market(options.market), options.bids)
-    except BadFile as fault:
-        tell(str(fault))
-        return REFUSED
-    except OSError as fault:
-        tell(f"{fault.filename}: {fault.strerror}")
-        return UNREAD
-    except ValueError as fault:
-        tell(str(fault))
-        return BAD_WORDS
-    for each in collected.aside:
-        tell(f"{each['file']}: put aside: {each['reason']}")
-    tell(f"{count(len(collected.taken), 'bid')} taken, {len(collected.aside)} put aside")
-    try:
-        put(collected, options.aside)
-    except OSError as fault:
-        tell(f"{fault.filename or 'standard output'}: {fault.strerror}")
-        return UNWRITTEN
-    return SOME_ASIDE if collected.aside else WRITTEN
+    parser = words()
+    options = parser.parse_intermixed_args(arguments)
+
+    def work() -> int:
+        files = files_of(options.bids)
+        if options.aside and (lost := overwritten(options.aside, [options.market, *files])):
+            parser.error(f"--aside would overwrite {lost}, which is read")
+        return collect(options, files)
+
+    return ending.ended(NAME, work)

@@ -2,14 +2,13 @@
 from __future__ import annotations
 
 import argparse
-import json
 import os
-import sys
-from pathlib import Path
-from typing import Any, NoReturn
+from typing import Any
 
-from . import files, jsontext
+from . import ending, files, jsontext
+from .ending import REFUSED, WRITTEN, Words, write
 from .faults import BadFile, BadTable
+from .limits import front_of
 from .market import read_market
 from .matching import faults_of_round, notes_of_round
 from .names import slips
@@ -17,7 +16,6 @@ from .reading import rows_of
 from .settings import settings_of
 from .table import Reader, Table, faults_of_market
 
-WRITTEN, BAD_WORDS, REFUSED, UNREAD, UNWRITTEN = 0, 1, 2, 6, 7
 NAME = "sheet"
 UNMATCHED = "the packages have to stand in the order of the market; --market FILE matches them"
 ABOUT = """\
@@ -36,15 +34,9 @@ what it sells is a value below 0 too: who asks 500 to 600 writes lo -600, hi -50
 value above 0, and a purchase with one below 0, is refused unless its `bid` is `xor!` or `or!`."""
 STATUSES = (
     "status: 0 the file is written, 1 the words are wrong, 2 a file is refused (standard error has "
-    "each line and column), 6 a file could not be read, 7 standard output failed"
+    "each line and column), 6 a file could not be read, 7 standard output failed, 8 want of memory, "
+    "130 interrupted"
 )
-
-
-class Words(argparse.ArgumentParser):
-    """The words of a command; wrong ones end with status 1, since 2 is about the files."""
-
-    def error(self, message: str) -> NoReturn:
-        self.exit(BAD_WORDS, f"{self.format_usage()}{self.prog}: {message}\n")
 
 
 def words() -> Words:
@@ -66,7 +58,7 @@ def words() -> Words:
 
 def tell(line: str) -> None:
     """A line on standard error."""
-    print(f"{NAME}: {line}", file=sys.stderr)
+    ending.tell(NAME, line)
 
 
 def read_settings(options: argparse.Namespace) -> dict[str, int]:
@@ -100,7 +92,7 @@ def tell_summary(table: Table, others: list[str]) -> None:
 
 def made_of(options: argparse.Namespace) -> dict[str, Any]:
     """The file that is asked for; BadTable or BadFile where something is wrong."""
-    table = Reader(rows_of(Path(options.table).read_bytes())).read()
+    table = Reader(rows_of(front_of(options.table))).read()
     if options.settings is None and options.text is None:
         return round_of(options, table)
     if faults := faults_of_market(table):
@@ -129,44 +121,25 @@ def round_of(options: argparse.Namespace, table: Table) -> dict[str, Any]:
     return files.round_of(table, market)
 
 
-def write(value: Any) -> None:
-    """Writes a file in JSON to standard output."""
-    try:
-        sys.stdout.write(json.dumps(value) + "\n")
-        sys.stdout.flush()
-    except OSError:
-        # Nothing more is written when the process ends.
-        os.dup2(os.open(os.devnull, os.O_WRONLY), 1)
-        raise
-
-
-def main(arguments: list[str] | None = None) -> int:
-    """Makes a file of a table, and answers the status."""
-    parser = words()
-    options = parser.parse_args(arguments)
-    settings = [word for word in (options.settings, options.text) if word is not None]
-    if len(settings) > 1 or (settings and options.market):
-        parser.error("give one of SETTINGS, --settings FILE and --market FILE")
-    if options.trees and not settings:
-        parser.error("--trees goes with --settings: a round has bids of the table alone")
+def sheet(options: argparse.Namespace) -> int:
+    """Makes a file of a table and writes it; the status."""
     try:
         made = made_of(options)
     except BadTable as refused:
         for line in refused.told():
             tell(f"{options.table}: {line}")
         return REFUSED
-    except BadFile as fault:
-        tell(str(fault))
-        return REFUSED
-    except OSError as fault:
-        tell(f"{fault.filename}: {fault.strerror}")
-        return UNREAD
-    except ValueError as fault:
-        tell(str(fault))
-        return BAD_WORDS
-    try:
-        write(made)
-    except OSError as fault:
-        tell(f"standard output: {fault.strerror}")
-        return UNWRITTEN
+    write(made)
     return WRITTEN
+
+
+def main(arguments: list[str] | None = None) -> int:
+    """Makes a file of a table, and answers the status."""
+    parser = words()
+    options = parser.parse_intermixed_args(arguments)
+    settings = [word for word in (options.settings, options.text) if word is not None]
+    if len(settings) > 1 or (settings and options.market):
+        parser.error("give one of SETTINGS, --settings FILE and --market FILE")
+    if options.trees and not settings:
+        parser.error("--trees goes with --settings: a round has bids of the table alone")
+    return ending.ended(NAME, lambda: sheet(options))

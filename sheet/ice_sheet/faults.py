@@ -3,6 +3,8 @@ from __future__ import annotations
 
 from typing import NamedTuple
 
+from .spelling import spelled
+
 MOST_SHOWN = 20
 
 
@@ -19,7 +21,7 @@ class Fault(NamedTuple):
     def __str__(self) -> str:
         column = f", column {self.column}" if self.column else ""
         place = f"line {self.line}{column}: " if self.line else ""
-        return place + self.words
+        return spelled(place + self.words)
 
 
 class BadTable(Exception):
@@ -41,6 +43,6 @@ class BadFile(Exception):
 
 
 def shown(text: str) -> str:
-    """What stands in a file, cut where it is long, and on one line."""
+    """What stands in a file, cut where it is long, on one line and in characters that print."""
     flat = " ".join(text.split())
-    return f"`{flat[:40]}..`" if len(flat) > 43 else f"`{flat}`"
+    return f"`{spelled(flat[:40])}..`" if len(flat) > 43 else f"`{spelled(flat)}`"

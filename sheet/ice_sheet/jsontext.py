@@ -2,23 +2,44 @@
 from __future__ import annotations
 
 import json
+import re
 from dataclasses import dataclass
-from pathlib import Path
 from typing import Any, NoReturn
 
 from .faults import BadFile, shown
+from .limits import FILE_LIMIT, front_of
 
-FILE_LIMIT = 16_777_216
 MOST_DEPTH = 127
 LOWEST, HIGHEST = -(2**63), 2**64 - 1
 MARK = b"\xef\xbb\xbf"
+SURROGATE = re.compile(r"\\u[dD][89a-fA-F]")
 
 
-@dataclass(frozen=True)
+@dataclass(frozen=True, slots=True)
 class NotWhole:
     """A number of JSON that isn't whole as `ice` reads it: `1.5`, `1.0`, `1e3`, `-0`."""
 
     text: str
+
+
+class Twice(dict[str, Any]):
+    """An object with a member that stands twice; the last of them stays, as `ice` reads it."""
+
+    def __init__(self, pairs: list[tuple[str, Any]]) -> None:
+        super().__init__(pairs)
+        names: set[str] = set()
+        self.name = next(name for name, _ in pairs if name in names or names.add(name))
+
+
+def object_of(pairs: list[tuple[str, Any]]) -> dict[str, Any]:
+    """An object of its members."""
+    value = dict(pairs)
+    return value if len(value) == len(pairs) else Twice(pairs)
+
+
+def text_of(number: NotWhole) -> str:
+    """What stands for a number that isn't whole where a value is written: its text."""
+    return number.text
 
 
 def real(text: str) -> NotWhole:
@@ -42,8 +63,10 @@ def constant(text: str) -> NoReturn:
 
 def depth(value: Any) -> int:
     """How many arrays and objects stand in one another at most."""
-    inner = value.values() if isinstance(value, dict) else value if isinstance(value, list) else ()
-    return isinstance(value, (dict, list)) + max(map(depth, inner), default=0)
+    if not isinstance(value, (dict, list)):
+        return 0
+    inner = value.values() if isinstance(value, dict) else value
+    return 1 + max((depth(part) for part in inner if isinstance(part, (dict, list))), default=0)
 
 
 def parse(data: bytes) -> Any:
@@ -54,8 +77,15 @@ def parse(data: bytes) -> Any:
         raise BadFile("no JSON: a byte order mark stands in front; leave it out")
     try:
         text = data.decode()
-        value = json.loads(text, parse_int=integer, parse_float=real, parse_constant=constant)
-        json.dumps(value, ensure_ascii=False, default=vars).encode()
+        value = json.loads(
+            text,
+            parse_int=integer,
+            parse_float=real,
+            parse_constant=constant,
+            object_pairs_hook=object_of,
+        )
+        if SURROGATE.search(text):
+            json.dumps(value, ensure_ascii=False, default=text_of).encode()
         levels = depth(value)
     except UnicodeDecodeError as fault:
         raise BadFile(f"no JSON: byte {fault.start + 1} is no UTF-8") from None
@@ -73,7 +103,7 @@ def parse(data: bytes) -> Any:
 def read(file: str) -> Any:
     """The value of a file in JSON; BadFile names the file where it is none."""
     try:
-        return parse(Path(file).read_bytes())
+        return parse(front_of(file))
     except BadFile as fault:
         raise BadFile(f"{file}: {fault}") from None
 

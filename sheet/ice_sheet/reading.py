@@ -7,11 +7,11 @@ import io
 from typing import NamedTuple, NoReturn
 
 from .faults import BadTable, Fault, shown
+from .limits import FILE_LIMIT
 
 HEADS = ["bidder", "bid", "lo", "hi"]
 MARKS = {",": "commas", ";": "semicolons", "\t": "tabs"}
 WORKBOOKS = (b"PK\x03\x04", b"\xd0\xcf\x11\xe0")
-FILE_LIMIT = 16_777_216
 
 
 class Row(NamedTuple):

@@ -1,9 +1,12 @@
 """Single bids, joined into a round file: which are put aside, and why."""
 import json
+import resource
 import shutil
 import subprocess
+import sys
 import tempfile
 import unittest
+from pathlib import Path
 
 from support import ROOT, collect
 from test_market import EXCHANGE, FLAT
@@ -19,6 +22,18 @@ def files(*bids):
     return {"m.json": EXCHANGE, **named}, "m.json", *named
 
 
+def limited(folder, memory, *words):
+    """The command in a process that may take so many bytes of memory."""
+    return subprocess.run(
+        [sys.executable, str(ROOT / "examples/collect.py"), *words],
+        cwd=folder,
+        capture_output=True,
+        text=True,
+        check=False,
+        preexec_fn=lambda: resource.setrlimit(resource.RLIMIT_AS, (memory, memory)),
+    )
+
+
 class Collect(unittest.TestCase):
     """What goes into the round file."""
 
@@ -26,7 +41,9 @@ class Collect(unittest.TestCase):
         other = BID | {"lo": HI}
         status, made, errors = collect(*files(BID, {"bids": [other, BID]}, other))
         self.assertEqual((status, made), (0, {"bids": [BID, other, BID, other]}))
-        self.assertEqual(errors, ["4 bids taken, 0 put aside"])
+        again = "b has 4 bids, in 0.json, 1.json: bids.0, 1.json: bids.1 and 1 more"
+        told = [f"{again}: the first accepted one counts", "4 bids taken, 0 put aside"]
+        self.assertEqual(errors, told)
 
     def test_a_market_of_flat_bids(self):
         status, made, _ = collect({"m.json": FLAT, "b.json": BID}, "m.json", "b.json")
@@ -80,9 +97,71 @@ class Collect(unittest.TestCase):
         self.assertIn("0.json: bids.1: put aside: [2] at -", errors[0])
 
     def test_the_401st_bid(self):
-        status, made, errors = collect(*files({"bids": [BID] * 401}))
+        status, made, errors = collect(*files({"bids": [BID] * 399}, BID, BID))
         self.assertEqual((status, len(made["bids"])), (3, 400))
-        self.assertIn("0.json: bids.400: put aside: [4] at bids: a round has at most", errors[0])
+        self.assertEqual(errors[0], "2.json: put aside: [4] at bids: a round has at most 400 bids")
+
+    def test_a_file_of_more_than_400_bids_is_put_aside_as_a_whole(self):
+        status, made, errors = collect(*files({"bids": [BID] * 401}, BID))
+        self.assertEqual((status, made), (3, {"bids": [BID]}))
+        why = "0.json: put aside: [4] at bids: 401 bids: a round has at most 400 bids"
+        self.assertEqual(errors, [why, "1 bid taken, 1 put aside"])
+        # a line for each of 300,000
+        status, made, errors = collect(*files('{"bids":[' + "7," * 300_000 + "7]}", BID))
+        self.assertEqual((status, made, len(errors)), (3, {"bids": [BID]}, 2))
+
+    def test_of_one_file_the_first_20_bids_put_aside_have_a_line(self):
+        status, made, errors = collect(*files({"bids": [7] * 100 + [BID]}, 7))
+        self.assertEqual((status, made), (3, {"bids": [BID]}))
+        self.assertTrue(errors[19].startswith("0.json: bids.19: put aside"), errors[19])
+        self.assertEqual(errors[20], "0.json: and 80 more put aside")
+        self.assertTrue(errors[21].startswith("1.json: put aside"), errors[21])
+        self.assertEqual(errors[22:], ["1 bid taken, 101 put aside"])
+
+    def test_no_more_of_a_file_is_read_than_shows_that_it_is_too_long(self):
+        with tempfile.TemporaryDirectory() as folder:
+            for name, value in (("m.json", EXCHANGE), ("1.json", BID)):
+                (Path(folder) / name).write_text(json.dumps(value))
+            with open(Path(folder) / "0.json", "wb") as long:
+                long.truncate(1 << 30)
+            ran = limited(folder, 150 << 20, "m.json", "0.json", "1.json")
+        self.assertEqual((ran.returncode, ran.stdout), (3, json.dumps({"bids": [BID]}) + "\n"))
+        self.assertIn("0.json: put aside: the file is longer than 16,777,216 bytes", ran.stderr)
+
+    def test_a_member_that_stands_twice(self):
+        bid = '{"bidder": "b", "lo": %s, "hi": %s, "lo": %s}' % (LO, HI, LO)
+        why = "put aside: the member `lo` stands twice, and only one can be meant"
+        for text, place in ((bid, "0.json"), (f'{{"bids": [{bid}]}}', "0.json: bids.0")):
+            status, made, errors = collect(*files(text, BID))
+            self.assertEqual((status, made), (3, {"bids": [BID]}))
+            self.assertEqual(errors[0], f"{place}: {why}")
+        text = '{"bids": [], "bids": [%s]}' % json.dumps(BID)
+        status, made, errors = collect(*files(text, BID))
+        self.assertEqual((status, made), (3, {"bids": [BID]}))
+        self.assertEqual(errors[0], f"0.json: {why.replace('`lo`', '`bids`')}")
+
+    def test_a_folder_has_its_files_in_the_order_of_their_names(self):
+        other = BID | {"lo": HI}
+        with tempfile.TemporaryDirectory() as folder:
+            words = ["m.json", folder, "0.json"]
+            self.assertEqual(collect(files(BID)[0], *words)[:2], (0, {"bids": [BID]}))
+            self.assertEqual(collect(files(BID)[0], *words[:2])[:2], (0, {"bids": []}))
+            for name, value in (("2.json", BID), ("10.json", other), (".json", 7), ("3.txt", 7)):
+                (Path(folder) / name).write_text(json.dumps(value))
+            status, made, errors = collect(files(BID)[0], *words)
+        self.assertEqual((status, made), (0, {"bids": [other, BID, BID]}))
+        self.assertEqual(errors[0], f"{folder}/3.txt: not read: its name doesn't end in .json")
+
+    def test_the_bids_put_aside_do_not_overwrite_what_is_read(self):
+        for words in (["0.json", "--aside", "m.json"], ["0.json", "--aside", "./0.json"]):
+            status, made, errors = collect(files(BID)[0], "m.json", *words)
+            self.assertEqual((status, made), (1, None))
+            self.assertIn(f"--aside would overwrite {words[2].removeprefix('./')}", errors[-1])
+        with tempfile.TemporaryDirectory() as folder:
+            (Path(folder) / "1.json").write_text(json.dumps(BID))
+            words = ["m.json", folder, "--aside", f"{folder}/1.json"]
+            self.assertEqual(collect(files(BID)[0], *words)[0], 1)
+            self.assertEqual(json.loads((Path(folder) / "1.json").read_text()), BID)
 
     def test_bids_put_aside_are_written(self):
         bad = {**BID, "lo": [0, 0.5]}
@@ -104,6 +183,56 @@ class Collect(unittest.TestCase):
         ]:
             status, made, errors = collect(files(BID)[0], *words)
             self.assertEqual((status, made), (wanted, None), errors)
+
+
+class Senders(unittest.TestCase):
+    """Whose bid a file may have."""
+
+    CHOIR = {"bidder": "choir", "lo": [0, 60, 0, 0, 20], "hi": [0, 70, 0, 0, 30]}
+    OPERA = {"bidder": "opera", "lo": [55, 0, 0], "hi": [60, 0, 0]}
+
+    def collected(self, bids, *words):
+        """The bids that are taken on the market of the examples, and the lines."""
+        market = (ROOT / "examples/hall.json").read_bytes()
+        status, made, errors = collect({"m.json": market, **bids}, "m.json", *bids, *words)
+        return status, [bid["bidder"] for bid in made["bids"]], errors
+
+    def test_a_file_has_no_bid_of_another_bidder(self):
+        bids = {"1405-choir.json": self.OPERA, "1410-opera.json": self.OPERA}
+        status, taken, errors = self.collected(bids, "--named")
+        self.assertEqual((status, taken), (3, ["opera"]))
+        why = "the file is of `choir`, and the bid of `opera`"
+        self.assertEqual(errors, [f"1405-choir.json: put aside: {why}", "1 bid taken, 1 put aside"])
+        bids = {"1405-choir.json": {"bids": [self.CHOIR, self.OPERA]}}
+        status, taken, errors = self.collected(bids, "--named")
+        self.assertEqual((status, taken), (3, ["choir"]))
+        self.assertEqual(errors[0], f"1405-choir.json: bids.1: put aside: {why}")
+
+    def test_a_name_may_have_the_sign_that_cuts_it(self):
+        bid = {"bidder": "Alpine-Connect", "lo": [1], "hi": [1]}
+        for name, aside in (("14:05_1-Alpine-Connect.json", False), ("1405-Alpine.json", True)):
+            _, _, errors = self.collected({name: bid}, "--named")
+            self.assertEqual("the file is of" in errors[0], aside, errors)
+
+    def test_a_file_with_another_name_is_nobodys(self):
+        for name in ("choir.json", "late-choir.json", "1405-choir.txt", "1405choir.json", "1405-.json"):
+            status, taken, errors = self.collected({name: self.CHOIR}, "--named")
+            self.assertEqual((status, taken), (3, []))
+            self.assertIn("the file's name is not of the form TIME-NAME.json", errors[0])
+
+    def test_without_a_test_of_senders_what_looks_odd_is_named(self):
+        bids = {"1405-choir.json": {"bids": [self.OPERA, self.CHOIR]}, "1410-opera.json": self.OPERA}
+        status, taken, errors = self.collected(bids)
+        self.assertEqual((status, taken), (0, ["opera", "choir", "opera"]))
+        self.assertEqual(
+            errors,
+            [
+                "1405-choir.json has bids of opera, choir: --named tests who sent them",
+                "opera has 2 bids, in 1405-choir.json: bids.0, 1410-opera.json: the first accepted "
+                "one counts",
+                "3 bids taken, 0 put aside",
+            ],
+        )
 
 
 class Edited(unittest.TestCase):
