@@ -20,7 +20,7 @@ from ice_page.journal import Bounds, Journal, read_journal  # noqa: E402
 from ice_page.lines import BadJournal  # noqa: E402
 from ice_page.tables import ACCEPTED, Noting, told_by  # noqa: E402
 from ice_sheet import jsontext  # noqa: E402
-from ice_sheet.command import Words  # noqa: E402
+from ice_sheet.ending import Words  # noqa: E402
 from ice_sheet.faults import BadFile  # noqa: E402
 from ice_sheet.files import parts  # noqa: E402
 from ice_sheet.settings import LIMITS, settings_of  # noqa: E402
@@ -304,10 +304,10 @@ def keeps_of(word: str) -> list[Fraction]:
     """The parts that are kept, from 0 to 1, with 0 as the last one."""
     try:
         keeps = [Fraction(part) for part in word.split(",")]
-    except ZeroDivisionError:
-        raise ValueError from None
-    if keeps[-1] or not all(0 <= keep <= 1 for keep in keeps):
-        raise ValueError
+    except (ValueError, ZeroDivisionError):
+        keeps = []
+    if not keeps or keeps[-1] or not all(0 <= keep <= 1 for keep in keeps):
+        raise argparse.ArgumentTypeError("parts from 0 to 1 are due, with 0 as the last: 1,1/2,0")
     return keeps
 
 
@@ -315,9 +315,14 @@ def varied(word: str) -> list[tuple[str, int]]:
     """A setting and its values, as in `improve=0,50,200`."""
     name, _, values = word.partition("=")
     low, high = LIMITS[name] if name in LIMITS else (1, 0)
-    numbers = [int(value) for value in values.split(",")]
-    if not all(low <= number <= high for number in numbers):
-        raise ValueError
+    try:
+        numbers = [int(value) for value in values.split(",")]
+    except ValueError:
+        numbers = []
+    if not numbers or not all(low <= number <= high for number in numbers):
+        within = f"values of {name} are {low} to {high}: {name}={low},{high}"
+        names = f"the settings are {', '.join(LIMITS)}: improve=0,50"
+        raise argparse.ArgumentTypeError(within if name in LIMITS else names)
     return [(name, number) for number in numbers]
 
 
@@ -383,7 +388,7 @@ def table(
 
 def main(arguments: list[str] | None = None, run: Runner | None = None) -> int:
     """Prints the table, and answers the status."""
-    options = words().parse_args(arguments)
+    options = words().parse_intermixed_args(arguments)
     try:
         market = Market(
             read_exchange(options.market),

@@ -161,6 +161,14 @@ class Command(unittest.TestCase):
         for word in ("1/2", "2,0", "x", "1/0", "-1,0"):
             self.assertEqual(self.call("--keep", word)[0], 1, word)
 
+    def test_wrong_words_are_told_without_names_of_functions(self):
+        for words, told in (
+            (("--vary", "rounds=21"), "values of rounds are 0 to 20: rounds=0,20"),
+            (("--vary", "size=1"), "the settings are weight, close_regret, cap, "),
+            (("--keep", "2,0"), "parts from 0 to 1 are due, with 0 as the last: 1,1/2,0"),
+        ):
+            self.assertIn(told, self.call(*words)[2])
+
     def test_truths(self):
         def with_bid(**change):
             return {"bids": [{**ROUND["bids"][0], **change}, *ROUND["bids"][1:]]}

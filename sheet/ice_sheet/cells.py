@@ -24,22 +24,27 @@ def digits(text: str) -> str:
     return re.sub(GROUPS, "", text)
 
 
-def whole(cell: str) -> int:
-    """The whole number in a cell: `12`, `+12`, `-12` with any minus sign, and `12.0`."""
+def whole(cell: str, is_value: bool) -> int:
+    """The whole number in a cell: `12`, `+12`, `-12` with any minus sign, and `12.0`.
+
+    It is a value or a number of units: that decides what to do about decimals.
+    """
     text = cell.strip().translate(MINUS_SIGNS)
     found = WHOLE.fullmatch(text)
     if found and len(found[2]) <= MOST_DIGITS:
         return int(found[1] + found[2])
-    raise NotWhole("is too large" if found else reason(text))
+    raise NotWhole("is too large" if found else reason(text, is_value))
 
 
-def reason(text: str) -> str:
+def reason(text: str, is_value: bool) -> str:
     """Why a text is no whole number, and what to do."""
     if not text:
         return "has no number"
     if GROUPED.fullmatch(text):
         return f"has a thousands separator, as it seems: write {digits(text)}"
-    if found := DECIMAL.fullmatch(text):
+    if (found := DECIMAL.fullmatch(text)) and not is_value:
+        return "is a part of a unit: units are whole; make a smaller unit of the good"
+    if found:
         cents = f", here {digits(found[1])}{found[2]:0<2}" if len(found[2]) < 3 else ""
         return f"is a decimal value: numbers are whole; or take cents for all values{cents}"
     if SHORTENED.fullmatch(text):

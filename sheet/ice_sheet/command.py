@@ -92,7 +92,10 @@ def tell_summary(table: Table, others: list[str]) -> None:
 
 def made_of(options: argparse.Namespace) -> dict[str, Any]:
     """The file that is asked for; BadTable or BadFile where something is wrong."""
-    table = Reader(rows_of(front_of(options.table))).read()
+    rows, has_title = rows_of(front_of(options.table))
+    if has_title:
+        tell(f"the heads stand in line {rows[0].line}: what is above them is left out")
+    table = Reader(rows).read()
     if options.settings is None and options.text is None:
         return round_of(options, table)
     if faults := faults_of_market(table):

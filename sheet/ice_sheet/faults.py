@@ -5,7 +5,7 @@ from typing import NamedTuple
 
 from .spelling import spelled
 
-MOST_SHOWN = 20
+MOST_SHOWN, MOST_NOTED = 20, 1000
 
 
 class Fault(NamedTuple):
@@ -35,7 +35,8 @@ class BadTable(Exception):
         """A line for each fault, the first of them where they are many."""
         lines = [str(fault) for fault in self.faults[:MOST_SHOWN]]
         left = len(self.faults) - MOST_SHOWN
-        return lines + [f"and {left} more"] * (left > 0)
+        more = f"{left} more" if len(self.faults) < MOST_NOTED else "many more"
+        return lines + [f"and {more}"] * (left > 0)
 
 
 class BadFile(Exception):

@@ -4,6 +4,7 @@ from __future__ import annotations
 import codecs
 import csv
 import io
+import re
 from typing import NamedTuple, NoReturn
 
 from .faults import BadTable, Fault, shown
@@ -11,6 +12,8 @@ from .limits import FILE_LIMIT
 
 HEADS = ["bidder", "bid", "lo", "hi"]
 MARKS = {",": "commas", ";": "semicolons", "\t": "tabs"}
+SEPARATOR = re.compile(r'"?sep=."?', re.IGNORECASE)
+MOST_TITLES, MOST_ROWS = 10, 10_000
 WORKBOOKS = (b"PK\x03\x04", b"\xd0\xcf\x11\xe0")
 
 
@@ -54,41 +57,77 @@ def misread(data: bytes, fault: UnicodeDecodeError, wide: bool) -> str:
     )
 
 
-def mark_of(first: str) -> str:
-    """What cuts the cells: the mark at which the first line has the four heads."""
+class Heads(NamedTuple):
+    """Where the heads of a table stand.
+
+    That is the number of lines above them, the mark that cuts the cells, and whether one of the
+    lines above says something, as a title does.
+    """
+
+    above: int
+    mark: str
+    has_title: bool
+
+
+class Rows(NamedTuple):
+    """The lines of a table that have something in them, with the heads first."""
+
+    rows: list[Row]
+    has_title: bool
+
+
+def mark_of(line: str) -> str | None:
+    """What cuts the cells of a line that has the four heads; None for another line."""
     for mark in MARKS:
         try:
-            cells = next(csv.reader([first], delimiter=mark, skipinitialspace=True), [])
+            cells = next(csv.reader([line], delimiter=mark, skipinitialspace=True), [])
         except csv.Error:
             continue
         if [cell.strip().lower() for cell in cells[:4]] == HEADS:
             return mark
+    return None
+
+
+def heads_of(lines: list[str]) -> Heads:
+    """The heads, below Excel's line `sep=;` and up to ten lines of a title where these are there."""
+    titles: list[tuple[int, str]] = []
+    for number, line in enumerate(lines):
+        text = line.strip(" \t\r\n,;")
+        if not text or SEPARATOR.fullmatch(line.strip()):
+            continue
+        if mark := mark_of(line.rstrip("\r\n")):
+            return Heads(number, mark, bool(titles))
+        titles.append((number + 1, line))
+        if len(titles) > MOST_TITLES:
+            break
+    if not titles:
+        refuse(0, "the table is empty")
     marks = ", ".join(MARKS.values())
+    number, first = titles[0]
     refuse(
-        1,
+        number,
         f"the heads are {', '.join(HEADS)} and then the names of the goods, cut at {marks}; "
         f"here stands {shown(first)}",
     )
 
 
-def rows_of(data: bytes) -> list[Row]:
-    """The lines of a table that have something in them, with the heads first."""
-    text = text_of(data)
-    lines = [line for line in io.StringIO(text, newline="") if line.strip(" \t\r\n,;")]
-    if not lines:
-        refuse(0, "the table is empty")
-    mark = mark_of(lines[0].rstrip("\r\n"))
+def rows_of(data: bytes) -> Rows:
+    """The lines of a table from the heads on."""
+    lines = list(io.StringIO(text_of(data), newline=""))
+    heads = heads_of(lines)
     reader = csv.reader(
-        io.StringIO(text, newline=""), delimiter=mark, skipinitialspace=True, strict=True
+        lines[heads.above :], delimiter=heads.mark, skipinitialspace=True, strict=True
     )
-    rows = []
+    rows: list[Row] = []
     while True:
-        line = reader.line_num + 1
+        line = heads.above + reader.line_num + 1
         try:
             cells = [cell.strip() for cell in next(reader)]
         except StopIteration:
-            return rows
+            return Rows(rows, heads.has_title)
         except csv.Error:
             refuse(line, "a quotation mark that stands alone, or text behind a quoted cell")
         if any(cells):
             rows.append(Row(line, cells))
+        if len(rows) > MOST_ROWS:
+            refuse(line, f"more than {MOST_ROWS:,} lines: a market has at most 2,000 nodes")

@@ -5,7 +5,7 @@ from dataclasses import dataclass, field
 from typing import NamedTuple
 
 from .cells import NotWhole, is_lawful, letter, whole
-from .faults import BadTable, Fault, shown
+from .faults import MOST_NOTED, BadTable, Fault, shown
 from .reading import HEADS, Row
 
 MOST_GOODS, MOST_BIDDERS, MOST_TREE, MOST_NODES = 32, 40, 200, 2000
@@ -70,17 +70,19 @@ class Reader:
         self.read_heads()
         for row in self.rows[1:]:
             self.read_row(row)
-        if not self.bidders:
+        if len(self.rows) == 1:
             self.fault(self.rows[0].line, 0, "no bidder stands below the heads")
         if self.faults:
             raise BadTable(self.faults)
         return Table(self.goods, list(self.bidders.values()))
 
     def fault(self, line: int, column: int, words: str) -> None:
-        """Notes a fault; column 0 is the line as a whole."""
+        """Notes a fault; column 0 is the line as a whole. Of very many faults the rest isn't read."""
         head = self.heads[column - 1] if 0 < column <= len(self.heads) else ""
         place = letter(column) + (f" ({head})" if head else "")
         self.faults.append(Fault(line, place, words))
+        if len(self.faults) == MOST_NOTED:
+            raise BadTable(self.faults)
 
     def read_heads(self) -> None:
         """The goods that the heads name; `=` behind a name says that the good is exact."""
@@ -119,10 +121,12 @@ class Reader:
             words = "a bid is `own`, `xor` or `or`, with a `!` behind where its sign is meant"
             self.fault(row.line, 2, f"{shown(cells[1])}: {words}")
 
-    def number(self, line: int, column: int, cell: str, low: int, high: int) -> int:
+    def number(
+        self, line: int, column: int, cell: str, low: int, high: int, *, is_value: bool = False
+    ) -> int:
         """The whole number in a cell, from low to high; 0 where there is none."""
         try:
-            number = whole(cell)
+            number = whole(cell, is_value)
         except NotWhole as why:
             self.fault(line, column, f"{shown(cell)} {why}" if cell else str(why))
             return 0
@@ -157,7 +161,9 @@ class Reader:
         bidder.form = bidder.form or form
         before = len(self.faults)
         lo, hi = (
-            self.number(line, column, cells[column - 1], -MOST_VALUE, MOST_VALUE)
+            self.number(
+                line, column, cells[column - 1], -MOST_VALUE, MOST_VALUE, is_value=True
+            )
             for column in (3, 4)
         )
         units = self.amounts(line, cells, -MOST_UNITS, MOST_UNITS)

@@ -34,6 +34,18 @@ def limited(folder, memory, *words):
     )
 
 
+def called(output, *words):
+    """The command in a process with this standard output, on files of the checkout."""
+    return subprocess.run(
+        [sys.executable, "examples/collect.py", *words],
+        cwd=ROOT,
+        stdout=output,
+        stderr=subprocess.PIPE,
+        text=True,
+        check=False,
+    )
+
+
 class Collect(unittest.TestCase):
     """What goes into the round file."""
 
@@ -183,6 +195,20 @@ class Collect(unittest.TestCase):
         ]:
             status, made, errors = collect(files(BID)[0], *words)
             self.assertEqual((status, made), (wanted, None), errors)
+
+    def test_what_can_not_be_written_is_named(self):
+        status, made, errors = collect(files(BID)[0], "m.json", "0.json", "--aside", "/dev/full")
+        self.assertEqual((status, made), (7, None))
+        self.assertEqual(errors[-1], "/dev/full: No space left on device")
+        with open("/dev/full", "wb") as full:
+            ran = called(full, "examples/hall.json", "examples/hall-round.json")
+        told = "collect: standard output: No space left on device"
+        self.assertEqual((ran.returncode, ran.stderr.splitlines()[-1]), (7, told))
+
+    def test_bids_may_stand_behind_an_option(self):
+        words = ["m.json", "--named", "1-b.json", "--named", "2-b.json"]
+        made = collect({"m.json": EXCHANGE, "1-b.json": BID, "2-b.json": BID}, *words)[1]
+        self.assertEqual(made, {"bids": [BID, BID]})
 
 
 class Senders(unittest.TestCase):

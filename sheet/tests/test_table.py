@@ -43,6 +43,17 @@ class Taken(unittest.TestCase):
         self.check(SMALL.replace("s,own", '"s","own"'))
         self.check(SMALL.replace("bidder,bid", "Bidder,BID").replace("own", "Own"))
 
+    def test_lines_above_the_heads(self):
+        for mark in ",;\t":
+            for line in ("sep=,\n", "SEP=;\r\n", '"sep=\t"\n', "\nsep=;\n"):
+                self.check(line + SMALL.replace(",", mark))
+        title = "Berths of week 45;;;\n\nfor sale: 3\n"
+        status, made, errors = market(title + SMALL)
+        self.assertEqual((status, made["bidders"]), (0, BIDDERS))
+        self.assertEqual(errors[0], "the heads stand in line 4: what is above them is left out")
+        status, _, errors = market(title + SMALL.replace("30,40", "30,x"))
+        self.assertIn("t.csv: line 7, column D (hi)", errors[1])
+
     def test_spellings_of_numbers(self):
         self.check(SMALL.replace("-20,-10", "-20.0,-10.00"))
         self.check(SMALL.replace("-20,-10", "−20,–10"))
@@ -99,7 +110,9 @@ class Refused(unittest.TestCase):
 
     def test_units_and_owned_amounts(self):
         self.check(with_row("c,xor,1,2,1001,"), ("line 5, column E (A)", "-1,000 to 1,000"))
-        self.check(with_row("c,xor,1,2,,0.5"), ("line 5, column F (B)", "decimal"))
+        for cell in ("0.5", '"1,5"'):
+            words = "is a part of a unit: units are whole; make a smaller unit of the good"
+            self.check(with_row(f"c,xor,1,2,,{cell}"), ("line 5, column F (B)", words))
         package = "\nc,xor,1,2,1,"
         self.check(with_row("c,own,,,-1," + package), ("line 5, column E (A)", "0 to 1,000,000"))
         self.check(with_row("c,own,5,,1," + package), ("line 5, column C (lo)", "no values"))
@@ -164,6 +177,16 @@ class Refused(unittest.TestCase):
         self.check(SMALL + rows, *wanted)
         status, _, errors = market(SMALL + "c,xor,x,2,1,\n" * 30)
         self.assertEqual((status, len(errors), errors[-1]), (2, 21, "t.csv: and 10 more"))
+
+    def test_only_what_is_at_fault_is_told(self):
+        self.check(HEAD + "Bäcker,xor,1,2,1,\n", ("line 2, column A (bidder)", "no lawful name"))
+
+    def test_a_table_of_faults_alone_is_not_read_to_its_end(self):
+        for table in (SMALL + "c,xor,x,2,1,\n" * 5000, SMALL + "c,xor,1,2,1," + ",7" * 100_000):
+            status, made, errors = market(table)
+            self.assertEqual((status, made, len(errors)), (2, None, 21))
+            self.assertEqual(errors[-1], "t.csv: and many more")
+        self.check(SMALL + "c,xor,1,2,1,\n" * 20_000, ("line 10001: more than 10,000 lines",))
 
     def test_a_line_of_several_lines(self):
         table = SMALL.replace("b,xor", '"b\n",xor') + "c,xor,x,2,1,\n"
@@ -245,6 +268,13 @@ class Words(unittest.TestCase):
         ):
             status, output, errors = run(command.main, {"t.csv": SMALL}, *words)
             self.assertEqual((status, output), (1, ""), errors)
+
+    def test_settings_may_stand_behind_an_option(self):
+        text, trees = json.dumps(SETTINGS), "[]"
+        for words in (["--trees", "f", text], [text, "--trees", "f"]):
+            files = {"t.csv": SMALL, "f": trees}
+            status, output, errors = run(command.main, files, "t.csv", *words)
+            self.assertEqual((status, json.loads(output)["settings"]), (0, SETTINGS), errors)
 
 
 if __name__ == "__main__":
