@@ -1,6 +1,6 @@
 # shellcheck shell=bash
 # What an answer of the program says, in a line of words for whoever sits at the terminal. The launcher `ice` reads this file and
-# calls answer and describe; it gives `program`. Standard output is the program's own and stays as it is:
+# calls answer and describe; it gives `program`, and launch/ending.bash. Standard output is the program's own and stays as it is:
 #
 # - Where it is a file, the program writes into it, and its last records are read back from there when the program has ended.
 # - Where it is a terminal, a `tee` stands between, so that they are known here too.
@@ -40,29 +40,38 @@ find_place() {
 
 # Runs the program on the words, and sets `status` and `said`, the summary of what it wrote.
 answer() {
-    local begin ends held
+    local begin
     said=
-    if [ -t 1 ] && held=$(mktemp 2>/dev/null); then
-        exec 7<>"$held" 8>&1
-        rm -f "$held"
-        "$program" "$@" 7<&- 8>&- | tee /dev/fd/9 9>&1 >&8 7<&- 8>&- 2>/dev/null | summary >&7 8>&-
-        ends=("${PIPESTATUS[@]}")
-        said=$(cat "/proc/$$/fd/7" 2>/dev/null)
-        exec 7<&- 8>&-
-        status=${ends[0]}
-        # a terminal that takes no more
-        [ "${ends[1]}" = 0 ] || [ "$status" -ge 128 ] || status=7
+    if [ -t 1 ]; then
+        on_terminal "$@"
     elif [ -f /dev/fd/1 ] && [ -r "/proc/$$/fdinfo/1" ]; then
         find_place
-        "$program" "$@"
-        status=$?
+        run_program "$program" "$@"
         case $1:$status in
         run:0 | simulate:0 | *:[234569]) said=$(tail -c "+$((begin + 1))" "/proc/$$/fd/1" 2>/dev/null | summary) ;;
         esac
     else
-        "$program" "$@"
-        status=$?
+        run_program "$program" "$@"
     fi
+}
+
+# The same where standard output is a terminal: what is written goes through a `tee` beside, of which the summary comes back,
+# and its status, which isn't 0 where the terminal takes no more.
+on_terminal() {
+    local shown
+    exec 8>&1
+    coproc SHOWN {
+        tee /dev/fd/9 9>&1 >&8 2>/dev/null | summary
+        echo "shown ${PIPESTATUS[0]}"
+    }
+    exec 7>&"${SHOWN[1]}" 9<&"${SHOWN[0]}" 8>&-
+    eval "exec ${SHOWN[1]}>&- ${SHOWN[0]}<&-"
+    run_program "$program" "$@" >&7 7>&- 9<&-
+    exec 7>&-
+    said=$(cat <&9)
+    exec 9<&-
+    shown=$(field shown 2)
+    [ "$shown" = 0 ] || [ "$status" -ge 128 ] || status=7
 }
 
 # Field N of the last record of a name in what was said, or nothing.

@@ -47,6 +47,8 @@ class Taken(unittest.TestCase):
         for mark in ",;\t":
             for line in ("sep=,\n", "SEP=;\r\n", '"sep=\t"\n', "\nsep=;\n"):
                 self.check(line + SMALL.replace(",", mark))
+                said = market(line + SMALL.replace(",", mark))[2]
+                self.assertEqual(said, ["2 bidders, 2 goods, 2 packages"])
         title = "Berths of week 45;;;\n\nfor sale: 3\n"
         status, made, errors = market(title + SMALL)
         self.assertEqual((status, made["bidders"]), (0, BIDDERS))

@@ -1,0 +1,50 @@
+# shellcheck shell=bash
+# Runs a program so that it ends when its launcher does. The launchers `ice` and `ice-unproved` read this file and call
+# run_program; the program's standard input, output and error are theirs.
+#
+# - A signal TERM, INT or HUP to the launcher ends the program, and the launcher with the status that a shell gives: 143, 130
+#   or 129.
+# - Where the launcher is killed outright, as by the time-out of a caller in Python, nothing of it runs any more. So a watcher
+#   reads from a pipe that the launcher alone holds open, and ends the program when that closes before the launcher said so.
+#   It removes the folder `leftover` then, where the launcher has one.
+
+child=
+# Ends the program and the launcher, at a signal of this number.
+end_both() {
+    trap '' HUP INT TERM
+    [ -z "$child" ] || { kill "$child"; wait "$child"; } 2>/dev/null
+    echo ended >&6
+    exit "$((128 + $1))"
+}
+
+# Reads the program's number, and then a line when it has ended by itself.
+watch_program() {
+    local watched
+    trap '' HUP INT TERM
+    read -r watched
+    if ! read -r; then
+        kill "$watched"
+        [ -z "${leftover:-}" ] || rm -rf "$leftover"
+    fi
+}
+
+# Runs a program with its words to its end, and sets `status`. Descriptor 6 is the watcher's, and 5 is standard input, which
+# the shell would take from a program that it waits for in this way.
+run_program() {
+    exec 6> >(watch_program >/dev/null 2>&1)
+    { exec 5<&0; } 2>/dev/null || exec 5</dev/null
+    trap 'end_both 1' HUP
+    trap 'end_both 2' INT
+    trap 'end_both 15' TERM
+    "$@" <&5 5<&- 6>&- &
+    child=$!
+    echo "$child" >&6
+    exec 5<&-
+    wait "$child"
+    # shellcheck disable=SC2034 # the launchers read it
+    status=$?
+    child=
+    echo ended >&6
+    exec 6>&-
+    trap - HUP INT TERM
+}
