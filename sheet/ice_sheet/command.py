@@ -9,6 +9,7 @@ from . import ending, files, jsontext
 from .ending import REFUSED, WRITTEN, Words, write
 from .faults import BadFile, BadTable
 from .limits import front_of
+from .lots import notes_of_lots
 from .market import read_market
 from .matching import faults_of_round, notes_of_round
 from .names import slips
@@ -29,9 +30,10 @@ Bids from a table in CSV as spreadsheets write it.
 The first line has the heads `bidder`, `bid`, `lo`, `hi` and then the names of the goods; `=`
 behind a name says that the good is exact. Each other line is what a bidder owns, where its `bid`
 is `own`, or a package: `xor`, of which the bidder takes at most one, or `or`, of which it takes
-any. Below a good stand the units, those that are sold as numbers below 0. What a bidder wants for
+any; or `each`, any number of units of one good up to the one that stands there, with lo and hi for
+one unit. Below a good stand the units, those that are sold as numbers below 0. What a bidder wants for
 what it sells is a value below 0 too: who asks 500 to 600 writes lo -600, hi -500. A sale with a
-value above 0, and a purchase with one below 0, is refused unless its `bid` is `xor!` or `or!`."""
+value above 0, and a purchase with one below 0, is refused unless its `bid` is `xor!`, `or!` or `each!`."""
 STATUSES = (
     "status: 0 the file is written, 1 the words are wrong, 2 a file is refused (standard error has "
     "each line and column), 6 a file could not be read, 7 standard output failed, 8 want of memory, "
@@ -101,6 +103,8 @@ def made_of(options: argparse.Namespace) -> dict[str, Any]:
     if faults := faults_of_market(table):
         raise BadTable(faults)
     settings = read_settings(options)
+    for line in notes_of_lots(table):
+        tell(line)
     if not options.trees:
         tell_summary(table, [])
         return files.flat(table, settings)

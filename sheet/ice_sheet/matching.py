@@ -75,16 +75,22 @@ def notes_of_round(table: Table, market: Market) -> list[str]:
 
 
 def notes_of_bidder(bidder: Bidder, lots: list[Lot]) -> list[str]:
-    """The same of one bidder; a package is looked at beside the first one of its units."""
+    """The same of one bidder; a package is looked at beside the first one of its units.
+
+    Of a line `each` alike lots have the same values, and one that is looser stands for all.
+    """
     notes, turns = [], list(lots)
-    alike = {trade(lot.units) for lot in lots if sum(lot.units == each.units for each in lots) > 1}
+    lines = [(trade(units), line) for line, units, _, _ in bidder.packages]
+    alike = {words for words, line in lines if any(words == it and line != at for it, at in lines)}
     if alike:
         several = "; ".join(sorted(alike))
         notes.append(f"{bidder.name} has alike packages ({several}): they go by the order of lines")
+    looser: set[int] = set()
     for package in bidder.packages:
         lot = next(lot for lot in turns if lot.units == package.units)
         turns.remove(lot)
-        if is_looser(package, lot):
+        if is_looser(package, lot) and package.line not in looser:
+            looser.add(package.line)
             notes.append(
                 f"line {package.line}: {package.lo} to {package.hi} isn't within the {lot.lo} to "
                 f"{lot.hi} of the market: the bid will be refused by verdict 40"

@@ -10,7 +10,7 @@ from .reading import HEADS, Row
 
 MOST_GOODS, MOST_BIDDERS, MOST_TREE, MOST_NODES = 32, 40, 200, 2000
 MOST_UNITS, MOST_OWNED, MOST_VALUE = 1000, 10**6, 10**9
-FORMS = ("xor", "or")
+FORMS, EACH = ("xor", "or"), "each"
 NO_NAME = "is no lawful name: 1 to 32 of A-Z a-z 0-9 _ - . (as Baecker for Bäcker)"
 
 
@@ -115,10 +115,10 @@ class Reader:
         bidder = self.bidders.setdefault(name, Bidder(name, row.line))
         if bid == "own":
             self.read_own(bidder, row.line, cells)
-        elif bid.removesuffix("!") in FORMS:
+        elif bid.removesuffix("!") in (*FORMS, EACH):
             self.read_package(bidder, row.line, cells, bid)
         else:
-            words = "a bid is `own`, `xor` or `or`, with a `!` behind where its sign is meant"
+            words = "a bid is `own`, `xor`, `or` or `each`, with a `!` behind where its sign is meant"
             self.fault(row.line, 2, f"{shown(cells[1])}: {words}")
 
     def number(
@@ -153,11 +153,12 @@ class Reader:
         bidder.own = self.amounts(line, cells, 0, MOST_OWNED)
 
     def read_package(self, bidder: Bidder, line: int, cells: list[str], bid: str) -> None:
-        """A line of a package."""
-        form = bid.removesuffix("!")
+        """A line of a package, or of each number of units, which is lots of which any are taken."""
+        word = bid.removesuffix("!")
+        form = "or" if word == EACH else word
         if bidder.form not in ("", form):
             words = f"{bidder.name} has `{bidder.form}` above: all packages of a bidder are alike"
-            self.fault(line, 2, words)
+            self.fault(line, 2, words + ", and those of `each` are `or`" * (word == EACH))
         bidder.form = bidder.form or form
         before = len(self.faults)
         lo, hi = (
@@ -168,9 +169,30 @@ class Reader:
         )
         units = self.amounts(line, cells, -MOST_UNITS, MOST_UNITS)
         package = Package(line, units, lo, hi)
-        bidder.packages.append(package)
         if len(self.faults) == before:
             self.judge(package, is_meant=bid.endswith("!"))
+        if len(self.faults) == before and word == EACH:
+            bidder.packages += self.lots(package)
+        else:
+            bidder.packages.append(package)
+
+    def lots(self, each: Package) -> list[Package]:
+        """The lots of a line `each`, whose values are those of one unit."""
+        if len(each.units) != 1:
+            words = f"a line `each` has units of one good, and here are {len(each.units)}"
+            self.fault(each.line, 2, words)
+            return [each]
+        [(good, units)] = each.units.items()
+        lots = [
+            Package(each.line, {good: lot}, abs(lot) * each.lo, abs(lot) * each.hi)
+            for lot in lots_of(units)
+        ]
+        for lot in lots:
+            if value := next((it for it in (lot.lo, lot.hi) if abs(it) > MOST_VALUE), None):
+                words = f"{abs(lot.units[good])} units come to {value:,}, and a value is within "
+                self.fault(each.line, 0, f"{words}{MOST_VALUE:,} in size")
+                break
+        return lots
 
     def judge(self, package: Package, is_meant: bool) -> None:
         """Notes what is wrong with a package whose cells are all right."""
@@ -184,6 +206,17 @@ class Reader:
             self.fault(line, 4, sale_words(lo, hi))
         elif lo < 0 and min(amounts) > 0 and not is_meant:
             self.fault(line, 3, purchase_words(lo))
+
+
+def lots_of(units: int) -> list[int]:
+    """Lots of 1, 2, 4, 8 .. units and the rest: their sums are each number from 0 to all units."""
+    sign, left = (1 if units > 0 else -1), abs(units)
+    lots: list[int] = []
+    while left:
+        lot = min(2 ** len(lots), left)
+        lots.append(sign * lot)
+        left -= lot
+    return lots
 
 
 def sale_words(lo: int, hi: int) -> str:
@@ -219,7 +252,7 @@ def faults_of_bidder(bidder: Bidder) -> list[Fault]:
     """What is wrong with a bidder as a whole."""
     faults = []
     if not bidder.packages:
-        words = f"{bidder.name} has no package: write a line `xor` or `or`, or leave it out"
+        words = f"{bidder.name} has no package: write a line `xor`, `or` or `each`, or leave it out"
         faults.append(Fault(bidder.line, "", words))
     if bidder.nodes > MOST_TREE:
         words = (

@@ -134,7 +134,7 @@ class Refused(unittest.TestCase):
         self.check(with_row("c,xor,2,1,1,"), ("line 5, column C (lo)", "lo 2 is above hi 1"))
         self.check(with_row("c,xor,,1,1,"), ("line 5, column C (lo)", "has no number"))
         self.check(with_row("b,or,1,2,1,"), ("line 5, column B (bid)", "`xor` above"))
-        self.check(with_row("c,and,1,2,1,"), ("line 5, column B (bid)", "`own`, `xor` or `or`"))
+        self.check(with_row("c,and,1,2,1,"), ("line 5, column B (bid)", "`own`, `xor`, `or` or `each`"))
         self.check(with_row("c,,1,2,1,"), ("line 5, column B (bid)",))
 
     def test_bidders(self):
