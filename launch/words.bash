@@ -173,6 +173,11 @@ what_stands() {
     fi
 }
 
+# The first word of file N of the words, where it is a file that can be read again.
+first_word() {
+    [ ! -f "${words[$1]}" ] || head -c 12 "${words[$1]}" 2>/dev/null | LC_ALL=C sed -n '1s/[^a-z].*//p'
+}
+
 refused() {
     local file number place name stands words_of
     file=$(field refused 2) number=$(field refused 3) place=$(field refused 4)
@@ -183,6 +188,11 @@ refused() {
     name=$(name_of "$file" | tr -d '\n')
     stands=$(what_stands "${words[$file]}" "$number" "$place")
     words_of=$(fault "$number" "${words[0]}")
+    case $number:$place in
+    50:1)
+        [ "$(first_word "$file")" != statement ] || words_of="it is a statement: \`ice audit\` tests it"
+        ;;
+    esac
     case $number$stands in
     "2 "*"has flat bids") words_of="\`ice xor\` makes an exchange of them first" ;;
     esac
@@ -324,6 +334,8 @@ describe() {
             echo "no: the answer has the line of the first test that failed, and its name"
         elif [ "$test" = closed ]; then
             echo "$(name_of 1 | tr -d '\n') is $(stopped "$line")"
+        elif [ "${words[0]}:$line" = audit:1 ] && [ "$(first_word 1)" = ice ]; then
+            echo "$(name_of 1 | tr -d '\n') is no statement but a journal: \`ice check\` tests it"
         else
             echo "$(name_of 1 | tr -d '\n'), line $line: $(rule "$test")"
         fi

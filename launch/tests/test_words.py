@@ -195,6 +195,20 @@ class Words(unittest.TestCase):
         (self.top / "j").write_text(OPEN)
         self.assertEqual(self.told("no 8 closed\n", 3, "check", "j"), "j is right as far as it goes, to line 8: it closes nothing, and ends with `end open`")
 
+    def test_the_command_for_another_file_is_named(self):
+        (self.top / "s").write_text("statement a\nsettings 50 0 9 0 5 9\n")
+        for words in (("check", "s"), ("replay", "s", "0")):
+            self.assertEqual(self.told("refused 1 50 1\n", 2, *words), "s is refused: line 1 `statement a`: it is a statement: `ice audit` tests it (number 50)")
+        (self.top / "j").write_text(OPEN)
+        self.assertEqual(self.told("no 1 order\n", 3, "audit", "j"), "j is no statement but a journal: `ice check` tests it")
+        self.assertEqual(self.told("no 2 order\n", 3, "audit", "s"), "s, line 2: another record belongs here")
+
+    def test_help_behind_a_command(self):
+        for words in (("check", "--help"), ("run", "-h"), ("--help",)):
+            for launcher in ("./ice", TOP / "ice-unproved"):
+                ran = subprocess.run([launcher, *words], cwd=self.top, env=self.settings("", 6), capture_output=True, text=True, check=False)
+                self.assertEqual((ran.returncode, ran.stdout[:11], ran.stderr), (0, "usage: ice ", ""))
+
     def test_files_that_are_not_read(self):
         self.assertEqual(self.told("unread 1\n", 6, "check", "absent"), "absent could not be read: there is no such file")
         self.assertEqual(self.told("settle 0\nunread 2\n", 6, "run", "m", "launch"), "launch (round 1) could not be read: it is a folder")
