@@ -41,6 +41,20 @@ def coins_of(word: str) -> int:
     return coins
 
 
+class OldName(argparse.Action):
+    """An option by the name that it had before: it is taken, with a word."""
+
+    def __call__(
+        self,
+        parser: argparse.ArgumentParser,
+        namespace: argparse.Namespace,
+        values: Any,
+        option_string: str | None = None,
+    ) -> None:
+        print(f"{NAME}: {option_string} is called --unit-coins now", file=sys.stderr)
+        setattr(namespace, self.dest, values)
+
+
 def words() -> Words:
     """The words that are understood."""
     parser = Words(
@@ -58,11 +72,18 @@ def words() -> Words:
     parser.add_argument("folder", metavar="FOLDER", nargs="?", help="where the tables go")
     parser.add_argument("--json", action="store_true", help="one document in place of a folder")
     parser.add_argument(
-        "--round",
+        "--unit-coins",
         metavar="COINS",
         type=coins_of,
-        help="payments in whole coins too, of which a unit has so many, as 1 or 100, by the "
-        "largest remainder: their sum stays",
+        help="payments in whole coins too: how many coins a unit of the values has, 100 where these "
+        "are euros and 1 where they are cents; by the largest remainder: their sum stays",
+    )
+    parser.add_argument(
+        "--round",
+        dest="unit_coins",
+        type=coins_of,
+        action=OldName,
+        help=argparse.SUPPRESS,
     )
     parser.add_argument(
         "--semicolon",
@@ -184,7 +205,7 @@ def meant(arguments: Sequence[str] | None) -> argparse.Namespace:
 def read(options: argparse.Namespace, aside: BinaryIO) -> list[Table]:
     """The tables of the journal, whose bids are put aside."""
     with reading(options.journal), source(options.journal) as stream:
-        tables = read_tables(stream, options.round, aside)
+        tables = read_tables(stream, options.unit_coins, aside)
     with writing(TEMPORARY):
         aside.flush()
     return tables

@@ -163,7 +163,7 @@ class Coins(unittest.TestCase):
     def test_the_sum_stays(self):
         for file in (HALL, SEASON):
             for coins in (1, 10, 100):
-                rows = tables(file, "--round", str(coins))["payments"]
+                rows = tables(file, "--unit-coins", str(coins))["payments"]
                 self.assertEqual(rows[0], [*HEADS["payments"].split(","), "coins"])
                 found = [Fraction(row[-1]) for row in rows[1:]]
                 exact = [Fraction(int(row[7]), int(row[8])) for row in rows[1:]]
@@ -181,7 +181,7 @@ class Forms(unittest.TestCase):
             self.assertEqual(found, HEADS, file)
 
     def test_a_document(self):
-        status, output, _ = run(str(HALL), "--json", "--round", "1")
+        status, output, _ = run(str(HALL), "--json", "--unit-coins", "1")
         found = json.loads(output)
         self.assertEqual((status, list(found)), (0, list(HEADS)))
         hall = found["payments"][0]
@@ -190,6 +190,18 @@ class Forms(unittest.TestCase):
         self.assertEqual(found["trades"][0]["units"], -1)
         self.assertIsNone(found["settlements"][1]["violation"])
         self.assertEqual(found["bids"][0]["node"], None)
+
+    def test_the_name_that_the_option_had_before(self):
+        now = run(str(HALL), "--json", "--unit-coins", "1")
+        status, output, errors = run(str(HALL), "--json", "--round", "1")
+        self.assertEqual((status, output), now[:2])
+        self.assertEqual(errors, "ice-table: --round is called --unit-coins now\n")
+        self.assertEqual(now[2], "")
+
+    def test_cents(self):
+        for coins, wanted in (("1", ["-57", "57"]), ("100", ["-57.5", "57.5"])):
+            rows = tables(HALL, "--unit-coins", coins)["payments"]
+            self.assertEqual([row[-1] for row in rows[1:3]], wanted)
 
     def test_semicolons(self):
         rows = tables(HALL, "--semicolon")["payments"]
@@ -207,8 +219,8 @@ class Stops(unittest.TestCase):
             [journal],
             [journal, "folder", "--json"],
             [journal, "--json", "--semicolon"],
-            [journal, "--json", "--round", "0"],
-            [journal, "--json", "--round", "coin"],
+            [journal, "--json", "--unit-coins", "0"],
+            [journal, "--json", "--unit-coins", "coin"],
         ):
             status, output, errors = run(*words)
             self.assertEqual((status, output), (1, ""), words)
