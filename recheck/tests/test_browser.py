@@ -1,58 +1,80 @@
 """The page for browsers answers as the second opinion does, in a headless Chromium."""
 import base64
 import hashlib
-import html
 import json
 import re
-import shutil
-import subprocess
 import tempfile
 import unittest
 from pathlib import Path
 
 import mutants
 from support import HERE, JOURNALS, ROOT, check, gap, rows
+from tab import CHROMIUM, Tab
 
 PAGE = HERE.parent / "ice-recheck.html"
-CHROMIUM = next(filter(None, map(shutil.which, ("chromium", "chromium-browser"))), None)
-OPTIONS = ("--headless", "--no-sandbox", "--disable-gpu", "--virtual-time-budget=10000")
-ANSWERS = """
-const files = %s;
-const answers = files.map((file) => {
-  const content = Uint8Array.from(atob(file), (letter) => letter.charCodeAt(0));
-  const [{ line, status }, gap] = [check(content), check(content, readSpent)];
+HALL = (ROOT / "examples" / "hall-session.journal").read_bytes()
+BYTES = "Uint8Array.from(atob(%s), (letter) => letter.charCodeAt(0))"
+ANSWERS = f"""
+%s.map((file) => {{
+  const content = {BYTES % "file"};
+  const [{{ line, status }}, gap] = [check(content), check(content, readSpent)];
   return [line, status, gap.line, gap.status, sha256(content)];
-});
-document.body.textContent = JSON.stringify(answers);
+}})
 """
 DROP = """
-const data = new DataTransfer();
-const bytes = Uint8Array.from(atob(%s), (letter) => letter.charCodeAt(0));
-data.items.add(new File([bytes], "<b>&.journal"));
-document.dispatchEvent(new DragEvent("drop", { dataTransfer: data, cancelable: true }));
+((...files) => {
+  const data = new DataTransfer();
+  files.forEach((file) => data.items.add(file));
+  document.dispatchEvent(new DragEvent("drop", { dataTransfer: data, cancelable: true }));
+})(%s)
 """
+# Workers that judge nothing until a test says what they answer.
+STILL = """
+window.made = [];
+window.Worker = class {
+  constructor() { made.push(this); }
+  postMessage(file) { this.file = file; }
+  terminate() { this.isEnded = true; }
+};
+"""
+# Two million bids behind the prices: minutes of work, and a file of 58 MB.
+LONG = """
+new File([%s, "submit nobody 0 0\\nverdict 45\\n".repeat(2000000)], "long.journal")
+"""
+
+
+def file(content: bytes, name: str) -> str:
+    """A file, as a script makes it."""
+    encoded = json.dumps(base64.b64encode(content).decode())
+    return f"new File([{BYTES % encoded}], {json.dumps(name)})"
 
 
 @unittest.skipUnless(CHROMIUM, "no Chromium is here")
 class Browser(unittest.TestCase):
-    """The page, with a script behind its own."""
+    """The page in a browser."""
 
-    def body(self, script: str) -> str:
-        """What stands in the page's body, without scripts, when the script has run."""
-        with tempfile.TemporaryDirectory() as folder:
-            page = Path(folder, "page.html")
-            source = PAGE.read_text().replace("</body>", f"<script>{script}</script></body>")
-            page.write_text(source)
-            command = [CHROMIUM, *OPTIONS, f"--user-data-dir={folder}/user", "--dump-dom"]
-            how = {"stdout": subprocess.PIPE, "stderr": subprocess.DEVNULL, "timeout": 300}
-            ran = subprocess.run([*command, page.as_uri()], check=True, **how)
-        body = re.search(r"<body>(.*)</body>", ran.stdout.decode(), re.DOTALL)[1]
-        return re.sub(r"<script>.*?</script>", "", body, flags=re.DOTALL)
+    @classmethod
+    def setUpClass(cls):
+        cls.tab = Tab()
+        cls.addClassCleanup(cls.tab.close)
+
+    def setUp(self):
+        self.tab.show(PAGE)
+
+    def drop(self, *files: str) -> None:
+        """Drops files on the page."""
+        self.tab.run(DROP % ", ".join(files))
+
+    def shown(self, *files: str) -> str:
+        """The words of the answer to files that are dropped."""
+        self.drop(*files)
+        self.tab.wait("document.getElementById('line') !== null")
+        return self.tab.run("document.getElementById('answer').innerText")
 
     def agree(self, journals: list[bytes]) -> None:
         """Whether each answer and each digest is that of Python."""
         files = json.dumps([base64.b64encode(journal).decode() for journal in journals])
-        answers = json.loads(html.unescape(self.body(ANSWERS % files)))
+        answers = self.tab.run(ANSWERS % files)
         self.assertEqual(len(answers), len(journals))
         for journal, answer in zip(journals, answers):
             digest = hashlib.sha256(journal).hexdigest()
@@ -79,25 +101,71 @@ class Browser(unittest.TestCase):
         self.agree([f"ice 1 session\n{line}\n".encode("latin-1") for line in lines])
 
     def test_a_file_that_is_dropped(self):
-        journal = (ROOT / "examples" / "hall-session.journal").read_bytes()
-        body = self.body(DROP % json.dumps(base64.b64encode(journal).decode()))
-        shown = html.unescape(re.sub(r"<[^>]*>", "|", body))
-        self.assertIn('<p id="line">yes 0 0/1</p>', body)
+        shown = self.shown(file(HALL, "<b>&.journal"))
+        self.assertIn("yes 0 0/1\n", shown)
         self.assertIn("<b>&.journal, 1696 bytes", shown)
-        self.assertIn(hashlib.sha256(journal).hexdigest(), shown)
-        self.assertIn("Nothing of it is proved", shown)
+        self.assertIn(hashlib.sha256(HALL).hexdigest(), shown)
+        self.assertIn("Nothing of it is proved", self.tab.run("document.body.innerText"))
         self.assertIn("The regret is 0, and the surplus 0/1.", shown)
-        cells = [text for text in shown.split("|") if text.strip()]
-        payments = cells[cells.index("choir") :][:8]
-        self.assertEqual(payments, ["choir", "115/2", "60", "5", "5/2", "1", "1", "0"])
+        self.assertIn("choir\t115/2\t60\t5\t5/2\t1\t1\t0\n", shown)
 
     def test_a_damaged_file_that_is_dropped(self):
-        journal = (ROOT / "examples" / "hall-session.journal").read_bytes()
-        damaged = journal.replace(b"payment choir 5 5/2 115/2", b"payment choir 5 5/2 119/2")
+        damaged = HALL.replace(b"payment choir 5 5/2 115/2", b"payment choir 5 5/2 119/2")
         line = 1 + damaged.split(b"payment choir")[0].count(b"\n")
-        body = self.body(DROP % json.dumps(base64.b64encode(damaged).decode()))
-        self.assertIn(f'<p id="line">no {line} payment</p>', body)
-        self.assertNotIn("<table", body)
+        self.assertIn(f"no {line} payment\n", self.shown(file(damaged, "damaged")))
+        self.assertEqual(self.tab.run("document.querySelectorAll('table').length"), 0)
+
+    def test_the_last_file_has_the_answer(self):
+        self.tab.run(STILL)
+        self.drop(file(HALL, "large"))
+        self.drop(file(HALL[:-1], "small"))
+        self.assertEqual(self.tab.run("made.map((one) => one.isEnded === true)"), [True, False])
+        for number, line in ((1, "the small one"), (0, "the large one")):
+            answer = json.dumps({"line": line, "status": 2, "told": {}, "digest": ""})
+            data = f"{{ data: {{ answer: {answer} }} }}"
+            self.tab.run(f"made[{number}].onmessage({data})")
+            self.tab.run(f"made[{number}].onmessage({{ data: {{ lines: 7 }} }})")
+            shown = self.tab.run("document.body.innerText")
+            self.assertIn("the small one", shown)
+            self.assertNotIn("the large one", shown)
+            self.assertNotIn("7 lines", shown)
+
+    def test_several_files(self):
+        shown = self.shown(file(HALL, "one"), file(HALL, "two"))
+        self.assertIn("one alone was judged; 1 more file was left out", shown)
+        shown = self.shown(file(HALL, "one"), file(HALL, "two"), file(HALL, "three"))
+        self.assertIn("yes 0 0/1\n", shown)
+        self.tab.wait("document.body.innerText.includes('2 more files were left out')")
+        self.drop(file(HALL, "one"))
+        self.tab.wait("!document.body.innerText.includes('left out')")
+
+    def test_the_same_file_again(self):
+        with tempfile.TemporaryDirectory() as folder:
+            journal = Path(folder, "a.journal")
+            for content, answer in ((HALL, "yes 0 0/1"), (b"x", "refused 1 51 1")):
+                journal.write_bytes(content)
+                self.tab.choose("file", journal)
+                self.tab.wait(f"document.body.innerText.includes('{answer}\\n')")
+                self.assertEqual(self.tab.run("document.getElementById('file').value"), "")
+
+    def test_a_long_file_is_judged_beside_the_page(self):
+        front = json.dumps(HALL[: HALL.index(b"submit")].decode())
+        self.drop(LONG % front)
+        self.tab.wait("/[1-9][0-9]* lines read/.test(document.body.innerText)")
+        self.assertEqual(self.tab.run("document.getElementById('line')"), None)
+        self.tab.run("document.getElementById('stop').click()")
+        shown = self.tab.run("document.body.innerText")
+        self.assertIn("No answer\n", shown)
+        self.assertIn("long.journal: stopped before its end", shown)
+        self.assertEqual(self.tab.run("document.getElementById('progress').childNodes.length"), 0)
+        self.assertIn("yes 0 0/1\n", self.shown(file(HALL, "short")))
+
+    def test_names_that_turn_what_is_beside(self):
+        shown = self.shown(file(HALL, "a\u202ex\u2067\u200f\u0007.journal"))
+        self.assertIn("a\\u{202e}x\\u{2067}\\u{200f}\\u{7}.journal, 1696 bytes", shown)
+        self.assertNotRegex(shown, "[\u202e\u2067\u200f\u0007]")
+        self.shown(file(HALL, "\u05d0.\u05d1"))
+        self.tab.wait("document.querySelector('bdi').textContent === '\u05d0.\u05d1'")
 
     @unittest.skipUnless((ROOT / "tests" / "files").is_dir(), "the tables aren't here")
     def test_a_gap_that_is_dropped(self):
@@ -109,18 +177,19 @@ class Browser(unittest.TestCase):
             ("spent-without", ("so 5 is missed", "payments are not known.")),
         ):
             journal = (files / f"{name}.session").read_bytes()
-            body = self.body(DROP % json.dumps(base64.b64encode(journal).decode()))
+            shown = self.shown(file(journal, name))
             for text in shows:
-                self.assertIn(text, body)
+                self.assertIn(text, shown)
         forged = journal.replace(b"spent 0 5", b"spent 0 4")
-        body = self.body(DROP % json.dumps(base64.b64encode(forged).decode()))
-        self.assertIn('<p id="line">no 22 closed</p>', body)
-        self.assertIn("fails its tests: no 25 above.", body)
-        self.assertNotIn("is missed at most", body)
+        shown = self.shown(file(forged, "forged"))
+        self.assertIn("no 22 closed\n", shown)
+        self.assertIn("fails its tests: no 25 above.", shown)
+        self.assertNotIn("is missed at most", shown)
 
     def test_nothing_is_asked_of_a_network(self):
         source = PAGE.read_text()
-        self.assertIn("default-src 'none'", source)
+        policy = "default-src 'none'; script-src 'unsafe-inline'; worker-src blob:;"
+        self.assertIn(policy, source)
         self.assertEqual(re.findall(r"https?:|src=|href=|fetch\(|import", source), [])
 
 
