@@ -153,6 +153,25 @@ class Asked(unittest.TestCase):
         self.assertEqual(warns("--bidder", "b"), [])
         self.assertEqual(warns("--check", "--program", self.program("exit 70")), ["no verdict"])
 
+    def test_words_of_the_program(self):
+        # The last line that it says is told where its answer isn't the one that is due; an open
+        # journal has none. What it says before goes on at once.
+        opened, words = sample("open.session"), "echo ice: it stops at line 26 >&2"
+        for journal, body, told in (
+            (opened, f'{words}; echo "no 26 closed"; exit 3', ""),
+            (opened, f'{words}; echo "no 25 row"; exit 3', "ice: it stops at line 26\n"),
+            (opened, f'{words}; exit 70', "ice: it stops at line 26\n"),
+            (
+                opened,
+                f'echo ice: building >&2; {words}; echo "no 26 closed"; exit 3',
+                "ice: building\n",
+            ),
+            (sample(SESSION), 'printf "a\\033[2Jb\\nlast" >&2; echo "yes 0 0/1"', "a\\x1b[2Jb\n"),
+        ):
+            program = self.program(f"cat >/dev/null; {body}")
+            status, _, errors = run(journal, "--check", "--program", program)
+            self.assertEqual((status, errors), (0, told), body)
+
     def test_bad_journal_ends_the_program(self):
         status, _, errors = run(
             "ice 1 assign\n", "--check", "--program", self.program('cat >/dev/null; echo "yes 0"')

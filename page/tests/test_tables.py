@@ -3,15 +3,19 @@ import contextlib
 import csv
 import io
 import json
+import os
 import tempfile
+import tracemalloc
 import unittest
 from fractions import Fraction
 from pathlib import Path
+from unittest import mock
 
 from support import ROOT, SAMPLES, sample
 
 from ice_page import table_command
-from ice_page.tables import rounded
+from ice_page.tables import read_tables, rounded
+from ice_page.terminal import Ending
 
 HALL = ROOT / "examples/hall-session.journal"
 SEASON = ROOT / "examples/season-session.journal"
@@ -207,6 +211,45 @@ class Forms(unittest.TestCase):
         rows = tables(HALL, "--semicolon")["payments"]
         self.assertTrue(rows[0][0].startswith("\ufeffbidder"))
         self.assertEqual(rows[1][3:7], ["37,5", "75", "2", "-57,5"])
+
+
+class Sizes(unittest.TestCase):
+    """Bids of any number, in little memory."""
+
+    def test_many_bids(self):
+        # Two thousand bids of nobody, each of which took more than a kilobyte.
+        bid = "submit b 1 5 1 18\n"
+        journal = sample("two-settlements.session").replace(
+            bid, "submit nobody 0 0\nverdict 45\n" * 2000 + bid
+        )
+        count = journal.count("submit ")
+        self.assertGreater(count, 2000)
+        with table_command.Aside() as aside:
+            tracemalloc.start()
+            self.addCleanup(tracemalloc.stop)
+            *_, bids = read_tables(io.BytesIO(journal.encode()), None, aside)
+            found = sum(1 for row in bids.rows if len(row) == len(bids.heads))
+            peak = tracemalloc.get_traced_memory()[1]
+        self.assertEqual(found, count)
+        self.assertLess(peak, 500_000)
+
+    def test_places_that_take_no_more(self):
+        with tempfile.TemporaryDirectory() as folder:
+            file = Path(folder, "bids.csv")
+            file.symlink_to("/dev/full")
+            status, _, errors = run(str(HALL), folder)
+            said = f"ice-table: {file}: No space left on device\n"
+            self.assertEqual((status, errors), (7, said))
+        with mock.patch.object(tempfile, "tempdir", "/nowhere"):
+            status, _, errors = run(str(HALL), "--json")
+        self.assertEqual((status, "/nowhere" in errors), (7, True))
+        aside = table_command.Aside()
+        self.addCleanup(aside.close)
+        full = os.open("/dev/full", os.O_RDWR)
+        os.dup2(full, aside.fileno())
+        os.close(full)
+        with self.assertRaisesRegex(Ending, "^a temporary file: No space left"):
+            aside.write(b"x" * (1 << 20))
 
 
 class Stops(unittest.TestCase):
