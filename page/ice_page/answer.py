@@ -18,6 +18,11 @@ LIMITS = {
     "den": "prices with a denominator above 2^32",
 }
 
+UNSEEN = (
+    "; it can’t say that others were shown the same prices and cut, nor that your set and your "
+    "Vickrey discount are those of the journal"
+)
+
 
 class Fact(NamedTuple):
     """A number at a glance: what it is, the number itself, a note, and a class of its colour."""
@@ -100,7 +105,7 @@ def checked(view: View) -> Fact:
     by = f"asked of {foreign(answer.asked)} for this page" if answer.asked else "as told to this page"
     by = by if view.alone or expected.startswith("no ") else f"{said}, {by}"
     if expected.startswith("yes "):
-        more = "; it can’t say that others were shown the same prices" * view.journal.of_statement
+        more = UNSEEN * view.journal.of_statement
         return Fact(name, "yes", f"{by}: every test passed{more}", "good")
     where = "where bids are awaited" if words.awaited(view.journal) else "where it stopped"
     up_to = "" if view.alone else f"line {numbers.whole(view.journal.end.line - 1)}, "

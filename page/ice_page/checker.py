@@ -46,6 +46,8 @@ class Answer:
 def due(journal: Journal) -> str:
     """The answer that the checker gives on this journal or statement where every test passes."""
     stop = journal.end
+    if journal.of_statement and stop.word == "open":
+        return f"no {stop.line} order"
     if journal.of_statement:
         payment = journal.payments[0].payment
         return f"yes {payment.numerator}/{payment.denominator}"

@@ -1,6 +1,6 @@
-"""A statement: what one bidder may see of a session that closed, and nothing else.
+"""A statement: what one bidder may see of a session, and nothing else.
 
-It is read into a journal with this one bidder, so a page of it can't show anything more.
+That of a session which waits for bids ends with `end open`, behind the prices. It is read into a journal with this one bidder, so a page of it can't show anything more.
 """
 from __future__ import annotations
 
@@ -37,7 +37,9 @@ class StatementReader(Reader):
             return False
         self.read_own_set(settlement, "offered", "provisional")
         settlement.prices = self.prices(self.lines.take("prices"))
-        return True
+        if self.lines.word == "end":
+            self.end("open")
+        return self.journal.stop is None
 
     def read_own_set(self, settlement: Settlement, head: str, seeks: str) -> None:
         """The bidder's set in what a search found."""
