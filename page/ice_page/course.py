@@ -22,6 +22,7 @@ from .markup import (
     tag,
     text,
 )
+from .small_lines import lines_part
 from .view import View
 
 REASONS = {
@@ -53,6 +54,7 @@ def course_section(view: View) -> str:
     """The section, or nothing where there is nothing to tell."""
     both = [tag("div", part) for part in (regret_table(view), price_tables(view)) if part]
     parts = tag("div", "".join(both), class_="pair") if both else ""
+    parts += "" if view.alone else lines_part(view)
     if len(view.journal.settlements) > 1 and not view.alone:
         parts += Rounds(view).whole()
     return tag("h2", "How it went") + parts if parts else ""

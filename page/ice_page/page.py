@@ -10,6 +10,7 @@ from .course import course_section
 from .fair import fair_section
 from .markup import foreign, key, tag, text
 from .own import bids_section, nets_section
+from .rival_part import rival_section
 from .trees import trees_section
 from .tries import tries_part
 from .view import View
@@ -61,6 +62,7 @@ def whole_page(view: View) -> str:
         nets_section(view),
         bids_section(view),
         course_section(view) + tries_part(view),
+        rival_section(view),
         trees_section(view),
         certificates_section(view),
     )
