@@ -13,6 +13,8 @@ from typing import NamedTuple
 from . import numbers, words
 from .journal import Bounds, Journal, Settlement
 
+OTHERS = "Another trade may then be the rival."
+
 
 class Part(NamedTuple):
     """A bidder's part of the regret, what it has open, and whether its two sets differ."""
@@ -134,8 +136,10 @@ def asking_words(asked: list[str], left: int, most: int) -> str:
     who, once = f"So {words.listed(asked)} need to be asked", "they have told their values"
     if len(asked) == 1:
         who, once = f"So {asked[0]} alone needs to be asked", "it has told its values"
+    if not left:
+        return f"{who}: once {once} of what differs, it is known which is worth more. {OTHERS}"
     closes = f" (the session closes at {numbers.whole(most)})" if most else ""
     return (
         f"{who}: once {once} of what differs, whichever of the two is the final one, the other can "
-        f"be worth {numbers.whole(left)} more at most{closes}. Another trade may then be the rival."
+        f"be worth {numbers.whole(left)} more at most{closes}. {OTHERS}"
     )

@@ -92,7 +92,7 @@ class Asked(unittest.TestCase):
     def test_all_that_have_something_open(self):
         words = page_of(opened(HALL, 0)).root.seen()
         self.assertIn("35 lies open, 20 of it with choir. So choir and opera need to be", words)
-        self.assertIn("can be worth 0 more at most", words)
+        self.assertIn("once they have told their values of what differs, it is known", words)
 
     def test_one_alone(self):
         # 117 of 120 lie with Charter-Sud, and without it 3 is no more than the 35 that close.

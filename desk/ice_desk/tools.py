@@ -1,0 +1,78 @@
+"""The programs that the desk calls: `ice`, and what stands in examples/ and page/."""
+from __future__ import annotations
+
+import os
+import signal
+import subprocess
+import sys
+import tempfile
+from pathlib import Path
+from typing import IO, NamedTuple
+
+from .stop import INTERRUPTED, Stop, plain
+
+TOP = Path(__file__).resolve().parents[2]
+PROGRAM, COLLECT = TOP / "ice", TOP / "examples" / "collect.py"
+DIGEST, TABLE = TOP / "page" / "ice-digest", TOP / "page" / "ice-table"
+MOST_OUTPUT, MOST_LINES = 65_536, 40
+
+
+class Ran(NamedTuple):
+    """How a program ended: its status, and the front of what it wrote on its two outputs."""
+
+    status: int
+    output: str
+    errors: list[str]
+
+
+def hear_signals() -> None:
+    """Ends by an exception at the signals that ask for an end, so that all is left in order."""
+
+    def end(number: int, _frame: object) -> None:
+        raise Stop(INTERRUPTED + number, "interrupted: nothing was put into its place")
+
+    for number in (signal.SIGTERM, signal.SIGHUP, signal.SIGINT):
+        signal.signal(number, end)
+
+
+def front(stream: IO[bytes]) -> str:
+    """The front of a stream that was written from its start."""
+    stream.seek(0)
+    return stream.read(MOST_OUTPUT).decode("utf-8", "replace")
+
+
+def run(*words: object, into: Path | None = None) -> Ran:
+    """Runs a program, whose standard output goes into a file where one is named."""
+    with tempfile.TemporaryFile() as errors, open_output(into) as output:
+        process = subprocess.Popen(
+            list(map(str, words)), stdin=subprocess.DEVNULL, stdout=output, stderr=errors
+        )
+        try:
+            status = process.wait()
+        except BaseException:
+            process.terminate()
+            process.wait()
+            raise
+        told = [plain(line) for line in front(errors).splitlines()]
+        more = [f"and {len(told) - MOST_LINES} more lines"] if len(told) > MOST_LINES else []
+        return Ran(status, "" if into else front(output), told[:MOST_LINES] + more)
+
+
+def open_output(into: Path | None) -> IO[bytes]:
+    """Where standard output goes: a file, or one without a name."""
+    return tempfile.TemporaryFile() if into is None else into.open("wb")
+
+
+def python(script: Path, *words: object, into: Path | None = None) -> Ran:
+    """Runs a script in Python as this one runs."""
+    return run(sys.executable, script, *words, into=into)
+
+
+def tests_senders() -> bool:
+    """Whether `collect.py` can test that a file has bids of the bidder in its name alone."""
+    return "--named" in python(COLLECT, "--help").output
+
+
+def whole(path: str | os.PathLike[str]) -> Path:
+    """A path that no program takes for an option."""
+    return Path(path).absolute()

@@ -1,0 +1,209 @@
+"""One round: its bids are collected, the session is run and checked, and all files are made."""
+from __future__ import annotations
+
+import tempfile
+from dataclasses import dataclass, field
+from pathlib import Path
+
+from ice_page import command as page
+from ice_page.checker import due
+from ice_page.journal import Journal
+from ice_page.words import awaited
+
+from .collecting import collect, late
+from .folder import Folder, read_journal, round_file
+from .public import public_page
+from .staged import Staged
+from .stop import NO, OPEN, REFUSED, Stop
+from .tools import DIGEST, PROGRAM, TABLE, Ran, python, run, whole
+
+CLOSED, SPENT, LIMIT = 0, 4, 5
+MOST_PUBLISHED = 1 << 20
+
+
+@dataclass
+class Options:
+    """What the words ask for: the program, and what pages and digests are to have."""
+
+    program: Path = PROGRAM
+    salt: str | None = None
+    coins: int | None = None
+    is_empty: bool = False
+    is_trial: bool = False
+    shown: list[str] = field(default_factory=list)
+
+
+@dataclass
+class Held:
+    """What a round came to: the journal, the digest to publish, and lines on what was collected."""
+
+    journal: Journal
+    number: int
+    digest: str
+    told: list[str]
+    files: list[str] = field(default_factory=list)
+
+
+class Turn:
+    """The round that is due in a folder."""
+
+    def __init__(self, folder: Folder, staged: Staged, options: Options) -> None:
+        self.folder, self.staged, self.options = folder, staged, options
+        self.rounds = folder.rounds()
+        self.told: list[str] = []
+        self.answer = ""
+
+    def hold(self) -> Held:
+        """Does all of it; Stop at the first thing that is wrong, with nothing put into place."""
+        self.gather()
+        journal = self.run()
+        self.check(journal)
+        digest = self.digest()
+        held = Held(journal, len(self.rounds), digest, self.told)
+        if not self.options.is_trial:
+            self.pages(held)
+            held.files = self.staged.place()
+        return held
+
+    # The bids
+
+    def gather(self) -> None:
+        """Collects the bids of the round that is awaited, where any came."""
+        number, journal = len(self.rounds) + 1, self.folder.held()
+        waits = journal is not None and awaited(journal) and journal.last.number == number - 1
+        came = bool(self.folder.bids(number)[0])
+        if waits and (came or self.options.is_empty):
+            collected = collect(self.folder, self.staged, number)
+            self.rounds.append(collected.path)
+            self.told += collected.told
+            return
+        if came and not waits:
+            self.told.append(f"bids-{number} is left for the next time: its round isn't open yet")
+        self.look_back(number - 1)
+
+    def look_back(self, number: int) -> None:
+        """Says where bids of the last round came behind its file."""
+        if number:
+            with tempfile.TemporaryDirectory(dir=self.staged.room) as room:
+                with Staged(Path(room), ()) as other:
+                    said = late(self.folder, other, number)
+            self.told += [said] if said else []
+
+    # The journal
+
+    def run(self) -> Journal:
+        """Runs the session, and gives its journal."""
+        path, program = self.staged.path(self.folder.journal), self.options.program
+        ran = run(program, "run", self.folder.market, *self.rounds, into=path)
+        if ran.status in (SPENT, LIMIT):
+            self.keep_stopped(path, ran)
+        if ran.status not in (CLOSED, OPEN):
+            raise Stop(ran.status, said(ran, "run"))
+        return read_journal(path)
+
+    def keep_stopped(self, path: Path, ran: Ran) -> None:
+        """Keeps the journal of a run that came to no end, under a name of its own, and stops."""
+        name = f"{self.folder.stem}-stopped.journal"
+        path.replace(self.folder.file(name))
+        raise Stop(ran.status, f"{said(ran, 'run')}\nwhat was found stands in {name}")
+
+    def check(self, journal: Journal) -> None:
+        """Has the journal checked; Stop where the answer isn't the one that it asks for."""
+        path = self.staged.path(self.folder.journal)
+        ran = run(self.options.program, "check", path)
+        self.answer, wanted = ran.output.strip(), due(journal)
+        if self.answer != wanted or ran.status not in (CLOSED, NO):
+            found = self.answer or said(ran, "check")
+            raise Stop(NO, f"the checker says `{found}`, where `{wanted}` is due")
+
+    # The digest
+
+    def digest(self) -> str:
+        """The digest to publish, behind those that are published already, which have to hold."""
+        salt = [f"--salt={whole(self.options.salt)}"] if self.options.salt else []
+        path, listed = self.staged.path(self.folder.journal), self.folder.file("published")
+        before = published(listed)
+        if before:
+            ran = python(DIGEST, *salt, path, listed)
+            others = [line for line in ran.output.splitlines() if line.startswith("other ")]
+            if ran.status:
+                told = "\n".join(others or ran.errors)
+                raise Stop(ran.status, f"digests that were published don't hold:\n{told}")
+        ran = python(DIGEST, *salt, path)
+        if ran.status:
+            raise Stop(ran.status, said(ran, "ice-digest"))
+        line = ran.output.strip()
+        lines = before if line in before else [*before, line]
+        self.staged.put(self.folder.published, "".join(f"{each}\n" for each in lines).encode())
+        return line
+
+    # The pages
+
+    def pages(self, held: Held) -> None:
+        """Makes the operator's page, the public one, and those of the bidders."""
+        path, digest = self.staged.path(self.folder.journal), [f"--digest={held.digest}"]
+        checked, journal = [f"--checked={self.answer}"], held.journal
+        self.page(path, self.folder.page, *checked, *digest)
+        lines = published(self.staged.path(self.folder.published))
+        public = public_page(journal, lines, self.public_words(), self.answer)
+        self.staged.put(self.folder.public, public.encode())
+        names = [bidder.name for bidder in journal.bidders]
+        if journal.end.word == "closed":
+            self.close(path, names)
+            return
+        for name in names:
+            own = [f"--bidder={name}", *checked, *digest]
+            self.page(path, f"{name}-{held.number}.html", *own)
+
+    def public_words(self) -> dict[str, str]:
+        """What the words say of pages, by the name of the option."""
+        pairs = (word.partition("=") for word in self.options.shown)
+        return {name.removeprefix("--"): value for name, _, value in pairs}
+
+    def page(self, source: Path, name: str, *words: str) -> None:
+        """Makes a page of a file."""
+        told = [*self.options.shown, *words]
+        made = page.main([str(source), "-o", str(self.staged.path(name)), *told])
+        if made:
+            raise Stop(made, f"no page {name} was made")
+
+    def close(self, path: Path, names: list[str]) -> None:
+        """Makes the tables, and each bidder's statement with its page."""
+        program, tables = self.options.program, self.folder.tables
+        coins = [f"--round={self.options.coins}"] if self.options.coins else []
+        made = self.staged.room / tables
+        ran = python(TABLE, path, made, *coins)
+        if ran.status:
+            raise Stop(ran.status, said(ran, "ice-table"))
+        for table in sorted(made.iterdir()):
+            self.staged.put(f"{tables}/{table.name}", table.read_bytes())
+        for name in names:
+            statement = self.staged.path(f"{name}.statement")
+            ran = run(program, "statement", path, name, into=statement)
+            if ran.status:
+                raise Stop(ran.status, said(ran, "statement"))
+            self.audit(statement, name)
+
+    def audit(self, statement: Path, name: str) -> None:
+        """Has a statement audited, and makes its page."""
+        ran = run(self.options.program, "audit", statement)
+        answer = ran.output.strip()
+        if ran.status or not answer.startswith("yes "):
+            raise Stop(ran.status or NO, f"{name}.statement: the audit says `{answer}`")
+        self.page(statement, f"{name}.html", f"--checked={answer}")
+
+
+def said(ran: Ran, what: str) -> str:
+    """What a program said of its end."""
+    return "\n".join(ran.errors) or f"{what} ended with status {ran.status}"
+
+
+def published(path: Path) -> list[str]:
+    """The lines of a list of digests; none where there is no such file."""
+    if not path.exists():
+        return []
+    with path.open("rb") as stream:
+        data = stream.read(MOST_PUBLISHED + 1)
+    if len(data) > MOST_PUBLISHED:
+        raise Stop(REFUSED, f"{path.name} is longer than {MOST_PUBLISHED:,} bytes")
+    return data.decode("ascii", "replace").splitlines()
