@@ -6,12 +6,12 @@ from dataclasses import dataclass, field
 from pathlib import Path
 
 from ice_page import command as page
-from ice_page.checker import due
 from ice_page.journal import Journal
 from ice_page.words import awaited
 
 from .collecting import collect, late
-from .folder import Folder, read_journal, round_file
+from .folder import Folder, read_journal
+from .judge import answer, said
 from .public import public_page
 from .staged import Staged
 from .stop import NO, OPEN, REFUSED, Stop
@@ -57,7 +57,8 @@ class Turn:
         """Does all of it; Stop at the first thing that is wrong, with nothing put into place."""
         self.gather()
         journal = self.run()
-        self.check(journal)
+        path = self.staged.path(self.folder.journal)
+        self.answer = answer(self.options.program, path, journal)
         digest = self.digest()
         held = Held(journal, len(self.rounds), digest, self.told)
         if not self.options.is_trial:
@@ -106,15 +107,6 @@ class Turn:
         name = f"{self.folder.stem}-stopped.journal"
         path.replace(self.folder.file(name))
         raise Stop(ran.status, f"{said(ran, 'run')}\nwhat was found stands in {name}")
-
-    def check(self, journal: Journal) -> None:
-        """Has the journal checked; Stop where the answer isn't the one that it asks for."""
-        path = self.staged.path(self.folder.journal)
-        ran = run(self.options.program, "check", path)
-        self.answer, wanted = ran.output.strip(), due(journal)
-        if self.answer != wanted or ran.status not in (CLOSED, NO):
-            found = self.answer or said(ran, "check")
-            raise Stop(NO, f"the checker says `{found}`, where `{wanted}` is due")
 
     # The digest
 
@@ -191,11 +183,6 @@ class Turn:
         if ran.status or not answer.startswith("yes "):
             raise Stop(ran.status or NO, f"{name}.statement: the audit says `{answer}`")
         self.page(statement, f"{name}.html", f"--checked={answer}")
-
-
-def said(ran: Ran, what: str) -> str:
-    """What a program said of its end."""
-    return "\n".join(ran.errors) or f"{what} ended with status {ran.status}"
 
 
 def published(path: Path) -> list[str]:

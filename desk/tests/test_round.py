@@ -81,7 +81,7 @@ class Rounds(Desk):
     def test_the_same_call_again_changes_nothing(self):
         self.open()
         self.bids_come(1)
-        self.open()
+        self.round()
         before = self.files()
         self.assertEqual(self.round()[0], 9)
         self.assertEqual(self.files(), before)
