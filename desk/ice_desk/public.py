@@ -62,10 +62,10 @@ def head_section(view: Public) -> str:
         regret = numbers.whole(journal.last.regret) + view.with_unit
         facts.append(fact("could be missed, at most", regret, "the regret"))
     if journal.payments:
-        facts.append(fact("cut", exact(journal.cut) + view.with_unit, "of each Vickrey discount"))
+        facts.append(fact("cut", exact(journal.cut) + view.with_unit, "comes off each Vickrey discount"))
         surplus = exact(journal.surplus) + view.with_unit
         facts.append(fact("surplus", surplus, "what all pay together"))
-    facts.append(fact("checker’s answer", checked(view), "every test, of the whole journal"))
+    facts.append(fact("checker’s answer", checked(view), "on the whole journal"))
     made = tag("p", text(view.made), class_="soft") if view.made else ""
     return tag("h1", text(view.title)) + made + tag("dl", "".join(facts), class_="facts")
 

@@ -8,7 +8,7 @@ from . import numbers, words
 from .checker import due
 from .gap import missed, regret_bounds, spent_words, stands
 from .markup import box, drawing, exact, foreign, tag, text
-from .trades import trades_part
+from .trades import doesnt_add_up, trades_part
 from .view import View
 
 LIMITS = {
@@ -197,6 +197,9 @@ def lead(view: View) -> str:
     if journal.kind == "session" and not journal.payments and not standing:
         best = "" if view.alone else ": this is the best trade found so far"
         says += f" Nothing is settled{best}."
+    if not view.alone and doesnt_add_up(view):
+        odds = "The sets of this journal don’t add up to what it states."
+        says = tag("strong", odds, class_="bad") + " " + says
     if checked(view).value == "no":
         refused = f"The {view.judge} doesn’t accept this {view.file}."
         says = tag("strong", refused, class_="bad") + " " + says

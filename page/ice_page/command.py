@@ -10,6 +10,7 @@ from .checker import PROGRAM, Answer, Checker
 from .fair_file import read_fair
 from .gap import ask_gap
 from .journal import BadJournal, Journal, Lines
+from .names import name_all, read_names
 from .page import whole_page
 from .statement import read_file
 from .terminal import DONE, LAST_STATUSES, Words, count_of, ends, reading, say, source
@@ -87,6 +88,11 @@ def words() -> Words:
         "--gap",
         metavar="TEXT",
         help="what ice gap JOURNAL wrote, where the branches are spent; --check asks it too",
+    )
+    parser.add_argument(
+        "--names",
+        metavar="FILE",
+        help="full names of bidders and goods: a table in CSV with the heads name and full name",
     )
     return parser
 
@@ -169,6 +175,8 @@ def meant(arguments: Sequence[str] | None) -> argparse.Namespace:
         parser.error("the page would overwrite the journal")
     if options.page and options.fair and is_same(options.fair, options.page):
         parser.error("the page would overwrite the fair prices")
+    if options.page and options.names and is_same(options.names, options.page):
+        parser.error("the page would overwrite the names")
     return options
 
 
@@ -185,6 +193,9 @@ def main(arguments: Sequence[str] | None = None) -> int:
     if options.fair is not None:
         with reading(options.fair):
             fair = read_fair(options.fair, journal)
+    if options.names is not None:
+        with reading(options.names):
+            name_all(journal, read_names(options.names))
     view = View(
         journal,
         answer,

@@ -39,6 +39,11 @@ def tag(name: str, body: str = "", **attributes: Attribute) -> str:
     return f'<{name}{"".join(words)}>{body}</{name}>'
 
 
+def to_bidder(number: int, name: str) -> str:
+    """A bidder's name, which leads to its tree on the page."""
+    return tag("a", text(name), href=f"#bidder-{number}")
+
+
 def exact(number: Fraction | int) -> str:
     """A number as a decimal, with its exact value where that is a fraction."""
     fraction = numbers.ratio(number)

@@ -19,7 +19,7 @@ def sellers_part(view: View) -> str:
         return ""
     names = ", ".join(text(view.journal.bidders[number].name) for number in swaps)
     return (
-        tag("p", "What sellers get, next to what they asked", class_="strong sold")
+        tag("h3", "What sellers get, next to what they asked")
         + tag("div", "".join(lines), class_="advice sellers")
         + key(
             f"reserve: what a seller asked at least, by its lower values{in_unit(view)}",

@@ -19,7 +19,9 @@ from .markup import (
     table,
     tag,
     text,
+    to_bidder,
 )
+from .rival import fits
 from .sellers import sellers_part
 from .view import View
 
@@ -35,14 +37,13 @@ def trades_part(view: View) -> str:
         return ""
     unlisted = idle(view)
     listed = [number for number in view.bidders if number not in unlisted]
-    names = ", ".join(text(view.journal.bidders[number].name) for number in unlisted)
+    names = ", ".join(to_bidder(number, view.journal.bidders[number].name) for number in unlisted)
     others = f"{len(unlisted)} more own nothing and trade nothing: {names}" if names else ""
-    odds = '<b class="bad">The sets of this journal don’t add up to what it states.</b>'
     return (
         (Payments(view, listed).whole() if view.journal.payments else short_list(view, listed))
         + Matrix(view, listed).whole()
         + sellers_part(view)
-        + key(others, odds if doesnt_add_up(view) else "")
+        + key(others)
     )
 
 
@@ -74,6 +75,7 @@ def doesnt_add_up(view: View) -> bool:
         any(good.exact and count for good, count in zip(journal.goods, left)),
         sum(view.worths) != view.total,
         bool(journal.payments) and paid != journal.surplus,
+        not all(map(fits, journal.settlements)),
     )
     return any(odds)
 
@@ -82,7 +84,7 @@ def named(view: View, number: int, more: str = "") -> str:
     """The head of a bidder's row; narrow screens have its trade in words there, and more."""
     bidder, units = view.journal.bidders[number], view.units[number]
     trade = text(words.trade(units, view.journal.goods)) + more
-    return row_head(text(bidder.name) + tag("div", trade, class_="narrow soft"), "name")
+    return row_head(to_bidder(number, bidder.name) + tag("div", trade, class_="narrow soft"), "name")
 
 
 def look(view: View, number: int) -> str | None:
@@ -102,7 +104,8 @@ def short_list(view: View, listed: list[int]) -> str:
         for number in listed
     ]
     foot = row(row_head("all", "name"), cell(numbers.whole(sum(view.worths)), "right"))
-    return table("Each bidder’s trade", head, rows, foot, shown="narrow")
+    heading = tag("h2", "Who trades what", class_="narrow")
+    return heading + table("Each bidder’s trade", head, rows, foot, shown="narrow")
 
 
 class Payments:
@@ -124,7 +127,9 @@ class Payments:
             column_head(f"cut at {exact(self.cut)}", "bars wider"),
         )
         rows = [self.bidder(number) for number in self.listed]
-        return table("What each pays", head, rows, self.sums(), "paid") + self.legend()
+        caption = "What each pays"
+        listed = table(caption, head, rows, self.sums(), "paid")
+        return tag("h2", caption) + listed + self.legend()
 
     def bidder(self, number: int) -> str:
         """The row of a bidder."""
@@ -216,12 +221,14 @@ class Matrix:
         rows = map(self.bidder, self.listed)
         foot = self.traded() + self.left_over()
         legend = tag("div", self.legend(), class_="wider")
-        return table("Who trades what", head, rows, foot, style, shown="wider") + legend
+        caption = "Who trades what"
+        drawn = table(caption, head, rows, foot, style, shown="wider")
+        return tag("h2", caption, class_="wider") + drawn + legend
 
     def bidder(self, number: int) -> str:
         """The row of a bidder."""
         bidder, units = self.journal.bidders[number], self.view.units[number]
-        cells = [row_head(text(bidder.name), "name")]
+        cells = [row_head(to_bidder(number, bidder.name), "name")]
         for count, owned in zip(units, bidder.owned):
             side = "buy" if count > 0 else "sell" if count < 0 else "soft"
             cells.append(cell(numbers.signed(count) or "·" * (owned > 0), f"unit {side}"))

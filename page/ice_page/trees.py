@@ -318,7 +318,8 @@ def card(view: View, number: int) -> str:
         tag("div", drawing.whole(), class_="wider"),
         outline(drawing),
     ]
-    return tag("article", "".join(parts), class_="broad" if drawing.width > BROAD else None)
+    look = "broad" if drawing.width > BROAD else None
+    return tag("article", "".join(parts), id=f"bidder-{number}", class_=look)
 
 
 def trees_section(view: View) -> str:

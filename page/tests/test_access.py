@@ -28,11 +28,12 @@ def contrast(one: tuple[float, ...], other: tuple[float, ...]) -> float:
 
 
 def palettes() -> list[dict[str, tuple[int, ...]]]:
-    """The colours in light and in dark."""
+    """The colours in light, in dark, and on paper, where all but some are those in light."""
     found = []
     for block in re.findall(r":root \{([^}]*)\}", STYLES):
         pairs = re.findall(r"--(\w+): #([0-9a-f]{6})", block)
-        found.append({name: tuple(bytes.fromhex(colour)) for name, colour in pairs})
+        light = found[0] if found else {}
+        found.append({**light, **{name: tuple(bytes.fromhex(each)) for name, each in pairs}})
     return found
 
 
@@ -121,9 +122,10 @@ class Access(unittest.TestCase):
             self.assertTrue(all(float(number) >= 0 for number in box), file)
 
     def test_contrast_in_light_and_dark(self):
-        both = palettes()
-        self.assertEqual(len(both), 2)
-        for colours in both:
+        found = palettes()
+        self.assertEqual(len(found), 3)
+        self.assertEqual(found[2]["paper"], (255, 255, 255))
+        for colours in found:
             for word in WORDS:
                 for paper in ("paper", "tint"):
                     self.assertGreaterEqual(
@@ -146,9 +148,13 @@ class Access(unittest.TestCase):
         for file, page in self.pages:
             names = set(self.names(page.root))
             self.assertFalse(
-                names & {"script", "link", "img", "iframe", "object", "form", "a", "image", "use"},
+                names & {"script", "link", "img", "iframe", "object", "form", "image", "use"},
                 file,
             )
+            marks = [each.attributes["id"] for each in page.root.all("article")]
+            self.assertEqual(len(set(marks)), len(marks), file)
+            for link in page.root.all("a"):
+                self.assertIn(link.attributes["href"].removeprefix("#"), marks, file)
         self.assertNotRegex(STYLES, r"url\(|@import|http")
 
     def test_classes_have_styles(self):
