@@ -6,7 +6,8 @@ from dataclasses import dataclass, field
 from pathlib import Path
 
 from ice_page import command as page
-from ice_page.journal import Journal
+from ice_page.journal import BadJournal, Journal
+from ice_page.names import name_all, read_names
 from ice_page.words import awaited
 
 from .collecting import collect, late
@@ -137,7 +138,8 @@ class Turn:
         checked, journal = [f"--checked={self.answer}"], held.journal
         self.page(path, self.folder.page, *checked, *digest)
         lines = published(self.staged.path(self.folder.published))
-        public = public_page(journal, lines, self.public_words(), self.answer)
+        shown = self.public_words()
+        public = public_page(self.public_journal(path), lines, shown, self.answer)
         self.staged.put(self.folder.public, public.encode())
         names = [bidder.name for bidder in journal.bidders]
         if journal.end.word == "closed":
@@ -146,6 +148,16 @@ class Turn:
         for name in names:
             own = [f"--bidder={name}", *checked, *digest]
             self.page(path, f"{name}-{held.number}.html", *own)
+
+    def public_journal(self, path: Path) -> Journal:
+        """The journal again, with full names of goods where a table has them."""
+        journal, table = read_journal(path), self.public_words().get("names")
+        if table:
+            try:
+                name_all(journal, read_names(table))
+            except BadJournal as fault:
+                raise Stop(REFUSED, f"{table}: {fault}") from None
+        return journal
 
     def public_words(self) -> dict[str, str]:
         """What the words say of pages, by the name of the option."""

@@ -29,13 +29,11 @@ def read_names(name: str) -> dict[str, str]:
     first = lines[0] if lines else ""
     cut = next((each for each in ";\t" if each in first), ",")
     found: dict[str, str] = {}
-    rows = csv.reader(lines, delimiter=cut)
-    for number, row in enumerate(rows, 1):
-        cells = [cell.strip() for cell in row]
-        if number == 1:
-            if [cell.lower() for cell in cells[:2]] != HEADS:
-                raise BadNames("line 1: the heads are `name` and `full name`")
-        elif any(cells):
+    rows = [[cell.strip() for cell in row] for row in csv.reader(lines, delimiter=cut)]
+    if not rows or [cell.lower() for cell in rows[0][:2]] != HEADS:
+        raise BadNames("line 1: the heads are `name` and `full name`")
+    for number, cells in enumerate(rows[1:], 2):
+        if any(cells):
             take(found, cells, number)
     return found
 
