@@ -36,6 +36,8 @@ def collect(folder: Folder, staged: Staged, number: int) -> Collected:
     ran = python(COLLECT, *named, f"--aside={aside}", folder.market, *bids, into=path)
     if ran.status not in (TAKEN, SOME_ASIDE):
         raise Stop(ran.status, "\n".join(ran.errors) or f"collect ended with {ran.status}")
+    if not aside.exists():
+        aside.write_text('{"aside": []}\n')
     shorter = [line.replace(f"{folder.path}/", "") for line in ran.errors]
     return Collected(path, told + shorter + ([] if named else [UNTESTED]))
 

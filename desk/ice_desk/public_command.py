@@ -4,8 +4,6 @@ from __future__ import annotations
 import sys
 from pathlib import Path
 
-from ice_page.command import write
-
 from .folder import read_journal
 from .public import DIGEST, public_page
 from .stop import DONE, REFUSED, UNWRITTEN, Stop, Words, plain, unread, unwritten
@@ -52,6 +50,15 @@ def digests_of(name: str | None) -> list[str]:
     return lines
 
 
+def write(text: str, page: Path | None) -> None:
+    """Writes the page to a file or to standard output."""
+    if page:
+        page.write_bytes(text.encode(errors="replace"))
+        return
+    sys.stdout.buffer.write(text.encode(errors="replace"))
+    sys.stdout.buffer.flush()
+
+
 def main(arguments: list[str] | None = None) -> int:
     """Makes the page, and answers the status."""
     parser = words()
@@ -68,7 +75,7 @@ def main(arguments: list[str] | None = None) -> int:
         print(f"{NAME}: {plain(str(stop))}", file=sys.stderr)
         return stop.status
     try:
-        write(public_page(journal, digests, shown, options.checked), options.page)
+        write(public_page(journal, digests, shown, options.checked), page)
     except OSError as fault:
         print(f"{NAME}: {plain(str(unwritten(fault, 'standard output')))}", file=sys.stderr)
         return UNWRITTEN

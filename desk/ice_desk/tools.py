@@ -9,7 +9,7 @@ import tempfile
 from pathlib import Path
 from typing import IO, NamedTuple
 
-from .stop import INTERRUPTED, Stop, plain
+from .stop import INTERRUPTED, Stop, plain, unread
 
 TOP = Path(__file__).resolve().parents[2]
 PROGRAM, COLLECT = TOP / "ice", TOP / "examples" / "collect.py"
@@ -44,9 +44,7 @@ def front(stream: IO[bytes]) -> str:
 def run(*words: object, into: Path | None = None) -> Ran:
     """Runs a program, whose standard output goes into a file where one is named."""
     with tempfile.TemporaryFile() as errors, open_output(into) as output:
-        process = subprocess.Popen(
-            list(map(str, words)), stdin=subprocess.DEVNULL, stdout=output, stderr=errors
-        )
+        process = started(list(map(str, words)), output, errors)
         try:
             status = process.wait()
         except BaseException:
@@ -56,6 +54,14 @@ def run(*words: object, into: Path | None = None) -> Ran:
         told = [plain(line) for line in front(errors).splitlines()]
         more = [f"and {len(told) - MOST_LINES} more lines"] if len(told) > MOST_LINES else []
         return Ran(status, "" if into else front(output), told[:MOST_LINES] + more)
+
+
+def started(words: list[str], output: IO[bytes], errors: IO[bytes]) -> subprocess.Popen[bytes]:
+    """A program that was started; Stop where it can't be."""
+    try:
+        return subprocess.Popen(words, stdin=subprocess.DEVNULL, stdout=output, stderr=errors)
+    except OSError as fault:
+        raise unread(fault, words[0]) from None
 
 
 def open_output(into: Path | None) -> IO[bytes]:

@@ -15,7 +15,7 @@ from .folder import Folder, read_journal
 from .judge import answer, said
 from .public import public_page
 from .staged import Staged
-from .stop import NO, OPEN, REFUSED, Stop
+from .stop import NO, OPEN, REFUSED, Stop, unread
 from .tools import DIGEST, PROGRAM, TABLE, Ran, python, run, whole
 
 CLOSED, SPENT, LIMIT = 0, 4, 5
@@ -201,8 +201,11 @@ def published(path: Path) -> list[str]:
     """The lines of a list of digests; none where there is no such file."""
     if not path.exists():
         return []
-    with path.open("rb") as stream:
-        data = stream.read(MOST_PUBLISHED + 1)
+    try:
+        with path.open("rb") as stream:
+            data = stream.read(MOST_PUBLISHED + 1)
+    except OSError as fault:
+        raise unread(fault, path) from None
     if len(data) > MOST_PUBLISHED:
         raise Stop(REFUSED, f"{path.name} is longer than {MOST_PUBLISHED:,} bytes")
     return data.decode("ascii", "replace").splitlines()
