@@ -13,7 +13,7 @@ from . import told
 from .folder import Folder
 from .staged import Staged
 from .stop import DONE, OPEN, REFUSED, UNWRITTEN, Stop, Words, plain, unread, unwritten
-from .tools import PROGRAM, hear_signals, whole
+from .tools import PROGRAM, signals_heard, whole
 from .turn import Held, Options, Turn
 
 NAME = "ice-round"
@@ -116,9 +116,8 @@ def main(arguments: list[str] | None = None) -> int:
     given = sys.argv[1:] if arguments is None else arguments
     again = [word for word in given if word not in ("--try", "--empty")]
     command = shlex.join([sys.argv[0], *again])
-    hear_signals()
     try:
-        with alone(folder.market):
+        with signals_heard(), alone(folder.market):
             held = hold(folder, options_of(parsed))
         lines = told.trial(held) if parsed.trial else told.told(held, folder, command)
     except Stop as stop:

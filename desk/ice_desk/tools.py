@@ -6,8 +6,9 @@ import signal
 import subprocess
 import sys
 import tempfile
+from contextlib import contextmanager
 from pathlib import Path
-from typing import IO, NamedTuple
+from typing import IO, Iterator, NamedTuple
 
 from .stop import INTERRUPTED, Stop, plain, unread
 
@@ -15,6 +16,7 @@ TOP = Path(__file__).resolve().parents[2]
 PROGRAM, COLLECT = TOP / "ice", TOP / "examples" / "collect.py"
 DIGEST, TABLE = TOP / "page" / "ice-digest", TOP / "page" / "ice-table"
 MOST_OUTPUT, MOST_LINES = 65_536, 40
+SIGNALS = (signal.SIGTERM, signal.SIGHUP, signal.SIGINT)
 
 
 class Ran(NamedTuple):
@@ -25,14 +27,19 @@ class Ran(NamedTuple):
     errors: list[str]
 
 
-def hear_signals() -> None:
+@contextmanager
+def signals_heard() -> Iterator[None]:
     """Ends by an exception at the signals that ask for an end, so that all is left in order."""
 
     def end(number: int, _frame: object) -> None:
         raise Stop(INTERRUPTED + number, "interrupted: nothing was put into its place")
 
-    for number in (signal.SIGTERM, signal.SIGHUP, signal.SIGINT):
-        signal.signal(number, end)
+    before = {number: signal.signal(number, end) for number in SIGNALS}
+    try:
+        yield
+    finally:
+        for number, heard in before.items():
+            signal.signal(number, heard)
 
 
 def front(stream: IO[bytes]) -> str:

@@ -14,7 +14,7 @@ from .compared import told
 from .folder import read_journal
 from .judge import answer, said
 from .stop import DONE, REFUSED, UNWRITTEN, Stop, Words, plain, unwritten
-from .tools import PROGRAM, hear_signals, run, whole
+from .tools import PROGRAM, run, signals_heard, whole
 from .without import Json, market_of, rounds_left
 
 NAME, MUCH = "ice-without", 10
@@ -111,9 +111,9 @@ def main(arguments: list[str] | None = None) -> int:
         parser.error("--rounds wants a whole number from 0 to 20")
     if options.market and os.path.exists(options.market):
         parser.error("FILE is there already: name a new one")
-    hear_signals()
     try:
-        lines = compare(options)
+        with signals_heard():
+            lines = compare(options)
     except Stop as stop:
         for line in str(stop).splitlines():
             print(f"{NAME}: {plain(line)}", file=sys.stderr)

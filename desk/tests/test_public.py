@@ -2,11 +2,9 @@
 import re
 import unittest
 
-from support import EXAMPLES, SEASON, TOP, Desk
+from support import EXAMPLES, NAMES, SEASON, Desk
 
-PUBLIC = TOP / "desk" / "ice-public"
 JOURNAL = SEASON.read_text()
-NAMES = re.findall(r"(?m)^bidder (\S+)", JOURNAL)
 
 
 def with_other_bids(journal: str) -> str:
@@ -42,7 +40,7 @@ class Public(Desk):
         """The page of a journal."""
         file = self.folder / "some.journal"
         file.write_text(journal)
-        status, page, errors = self.call(PUBLIC, "some.journal", *words)
+        status, page, errors = self.public("some.journal", *words)
         self.assertEqual((status, errors), (0, ""))
         return page
 
@@ -85,7 +83,7 @@ class Public(Desk):
         (self.folder / "list").write_text(f"{line} salted\n")
         self.assertIn("behind the salt", self.page(JOURNAL, "list"))
         (self.folder / "list").write_text(f"{line}\n<b>\n")
-        status, _, errors = self.call(PUBLIC, "some.journal", "list")
+        status, _, errors = self.public("some.journal", "list")
         self.assertEqual(status, 2)
         self.assertIn("line 2 is no digest", errors)
 
@@ -108,10 +106,10 @@ class Public(Desk):
             (1, (SEASON, "one", "two")),
         ):
             with self.subTest(words):
-                found, output, _ = self.call(PUBLIC, *words)
+                found, output, _ = self.public(*words)
                 self.assertEqual((found, output), (status, ""))
         self.page(JOURNAL)
-        self.assertEqual(self.call(PUBLIC, "some.journal", "-o", "some.journal")[0], 1)
+        self.assertEqual(self.public("some.journal", "-o", "some.journal")[0], 1)
         self.assertEqual((self.folder / "some.journal").read_text(), JOURNAL)
 
 

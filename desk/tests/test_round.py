@@ -10,9 +10,9 @@ import sys
 import time
 import unittest
 
-from support import HERE, ROUND, SEASON, Desk
+from support import NAMES, PROGRAM, SEASON, TOP, Desk
 
-NAMES = re.findall(r"(?m)^bidder (\S+)", SEASON.read_text())
+ROUND = TOP / "desk" / "ice-round"
 FRONT = re.compile(r"(front|whole) (\d+) (\d+) ([0-9a-f]{64})")
 
 
@@ -205,9 +205,8 @@ class Stops(Desk):
         for number in range(4):
             if number:
                 self.bids_come(number)
-            words = (ROUND, "meridian.json", f"--program={HERE / 'program'}")
             before = self.files()
-            status, _, errors = self.call(*words)
+            status, _, errors = self.round(market="meridian.json")
             if number == 3:
                 self.assertEqual((status, self.files()), (2, before))
                 self.assertIn("Meridian.html and meridian.html would be one file", errors)
@@ -259,7 +258,7 @@ class Stops(Desk):
 
     def test_a_full_output(self):
         with open("/dev/full", "w", encoding="utf-8") as full:
-            words = [sys.executable, ROUND, "market.json", f"--program={HERE / 'program'}"]
+            words = [sys.executable, ROUND, "market.json", PROGRAM]
             ran = subprocess.run(
                 words, cwd=self.folder, env=self.where, stdout=full, stderr=subprocess.PIPE, check=False
             )

@@ -3,14 +3,12 @@ import json
 import re
 import unittest
 
-from support import EXAMPLES, HERE, TOP, Desk
+from support import EXAMPLES, HALL, TOP, Desk
 
 from ice_desk.compared import Pair, Share
 from ice_desk.folder import read_journal
 from ice_desk.without import market_of, rounds_left
 
-WITHOUT = TOP / "desk" / "ice-without"
-HALL = EXAMPLES / "hall-session.journal"
 SESSIONS = sorted(EXAMPLES.glob("*-session.journal")) + sorted(
     file for file in (TOP / "page" / "tests" / "samples").glob("*.session")
 )
@@ -96,11 +94,6 @@ class Markets(unittest.TestCase):
 
 class Command(Desk):
     """The command, and what it says."""
-
-    def without(self, *words: object, **settings: str) -> tuple[int, str, str]:
-        """Runs it on the hall's session, which a stand-in runs again without the opera."""
-        named = {"JOURNAL": str(HALL), "WITHOUT": str(HERE / "hall-without-opera.journal")}
-        return self.call(WITHOUT, *words, f"--program={HERE / 'program'}", **{**named, **settings})
 
     def test_by_hand(self):
         # The trade is worth 60 - 20 = 40, and without the hall 0. Without the choir it is 35 by the
