@@ -127,7 +127,7 @@ pub record WalksOn (target : ℤ) (g : Groups) (r : Record) (closed : Bool) (aft
 abbrev pub StopsAt : ℤ → Groups → Record → Fault → Type 0
 StopsAt target g r fault = (y : Rule) × (fault ≡ Here y)
     × FailsStep (trees_of g.stated.exchange) (exact_of g.stated.exchange) g.log.weights target (version_of_head g.head)
-      g.log.walk.sides g.log.before r y
+    g.log.walk.sides g.log.before r y
 
 abbrev pub TakesAimed : ℤ → Groups → Record → Result Bool Fault → Groups → Type 0
 TakesAimed target g r (Ok closed) after = WalksOn target g r closed after
