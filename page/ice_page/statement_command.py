@@ -1,15 +1,16 @@
 """The command that writes a bidder's statement, also of a session that waits for bids."""
 from __future__ import annotations
 
-import sys
+from typing import Sequence
 
-from .command import NO_JOURNAL, UNREAD, UNWRITTEN, WRITTEN, Words
 from .journal import BadJournal
 from .statements import Watched, write_statements
+from .terminal import DONE, LAST_STATUSES, Words, ends, reading, source, standard_output
 
+NAME, SHOWN = "ice-statement", 40
 STATUSES = (
     "status: 0 it is written, 1 the words are wrong, 2 the file is no journal that closed or waits "
-    "for bids, or has no such bidder, 6 it could not be read, 7 standard output failed"
+    f"for bids, or has no such bidder, 6 it could not be read, 7 standard output failed, {LAST_STATUSES}"
 )
 
 
@@ -27,7 +28,7 @@ class Kept:
 def words() -> Words:
     """The words that are understood."""
     parser = Words(
-        prog="ice-statement",
+        prog=NAME,
         epilog=STATUSES,
         allow_abbrev=False,
         description="Writes what one bidder may see of a session, as a statement. Of one that "
@@ -49,30 +50,19 @@ def statement_of(journal: str, name: str) -> bytes:
         kept.append(Kept())
         return kept[-1]
 
-    with open(0 if journal == "-" else journal, "rb", buffering=0) as stream:
+    with source(journal) as stream:
         write_statements(Watched(stream), make)
     if not kept:
-        raise BadJournal(f"no bidder is named {name!r}")
+        raise BadJournal(f"no bidder is named `{name[:SHOWN]}`")
     return bytes(kept[0].data)
 
 
-def main(arguments: list[str] | None = None) -> int:
+@ends(NAME)
+def main(arguments: Sequence[str] | None = None) -> int:
     """Writes a statement, and answers the status."""
-    options = words().parse_args(arguments)
-    try:
+    options = words().read(arguments)
+    with reading(options.journal):
         data = statement_of(options.journal, options.bidder)
-    except BadJournal as fault:
-        print(f"ice-statement: {options.journal}: {fault}", file=sys.stderr)
-        return NO_JOURNAL
-    except OSError as fault:
-        print(f"ice-statement: {options.journal}: {fault.strerror}", file=sys.stderr)
-        return UNREAD
-    try:
-        sys.stdout.buffer.write(data)
-        sys.stdout.buffer.flush()
-    except OSError as fault:
-        # Nothing more is written when the process ends.
-        sys.stdout = None  # type: ignore[assignment]
-        print(f"ice-statement: standard output: {fault.strerror}", file=sys.stderr)
-        return UNWRITTEN
-    return WRITTEN
+    with standard_output() as out:
+        out.buffer.write(data)
+    return DONE

@@ -9,11 +9,11 @@ import os
 import tempfile
 from fractions import Fraction
 from pathlib import Path
-from typing import TYPE_CHECKING, BinaryIO, Iterator, Sequence, TextIO
+from typing import TYPE_CHECKING, Any, BinaryIO, Iterator, Sequence, TextIO
 
 from .tables import Table, Value, read_tables
 from .terminal import DONE, LAST_STATUSES, UNWRITTEN, Ending, Words, count_of, ends, reading
-from .terminal import source, standard_output, writing
+from .terminal import say, source, standard_output, writing
 
 if TYPE_CHECKING:
     from _typeshed import ReadableBuffer as Buffer
@@ -51,7 +51,7 @@ class OldName(argparse.Action):
         values: Any,
         option_string: str | None = None,
     ) -> None:
-        print(f"{NAME}: {option_string} is called --unit-coins now", file=sys.stderr)
+        say(f"{NAME}: {option_string} is called --unit-coins now")
         setattr(namespace, self.dest, values)
 
 

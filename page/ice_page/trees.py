@@ -319,7 +319,8 @@ def card(view: View, number: int) -> str:
         outline(drawing),
     ]
     look = "broad" if drawing.width > BROAD else None
-    return tag("article", "".join(parts), id=f"bidder-{number}", class_=look)
+    anchor = None if view.alone else f"bidder-{number}"
+    return tag("article", "".join(parts), id=anchor, class_=look)
 
 
 def trees_section(view: View) -> str:
