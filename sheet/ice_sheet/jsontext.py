@@ -3,6 +3,7 @@ from __future__ import annotations
 
 import json
 import re
+from collections import Counter
 from dataclasses import dataclass
 from typing import Any, NoReturn
 
@@ -27,8 +28,8 @@ class Twice(dict[str, Any]):
 
     def __init__(self, pairs: list[tuple[str, Any]]) -> None:
         super().__init__(pairs)
-        names: set[str] = set()
-        self.name = next(name for name, _ in pairs if name in names or names.add(name))
+        names = [name for name, _ in pairs]
+        self.name = next(name for name, count in Counter(names).items() if count > 1)
 
 
 def object_of(pairs: list[tuple[str, Any]]) -> dict[str, Any]:

@@ -80,7 +80,8 @@ def mark_of(line: str) -> str | None:
     """What cuts the cells of a line that has the four heads; None for another line."""
     for mark in MARKS:
         try:
-            cells = next(csv.reader([line], delimiter=mark, skipinitialspace=True), [])
+            reader = csv.reader([line], delimiter=mark, skipinitialspace=True)
+            cells: list[str] = next(reader, [])
         except csv.Error:
             continue
         if [cell.strip().lower() for cell in cells[:4]] == HEADS:

@@ -86,7 +86,8 @@ class Reader:
 
     def read_heads(self) -> None:
         """The goods that the heads name; `=` behind a name says that the good is exact."""
-        line, names = self.rows[0].line, {}
+        line = self.rows[0].line
+        names: dict[str, int] = {}
         for column, head in enumerate(self.heads[len(HEADS) :], len(HEADS) + 1):
             if not head:
                 continue
