@@ -108,6 +108,20 @@ class Noted:
                 yield settlement, Bid(name, low, high, fields[0], node)
 
 
+class Told(NamedTuple):
+    """All bids of a journal, settlement by settlement."""
+
+    bids: list[list[Bid]]
+
+
+def told_by(noted: Noted) -> Told:
+    """The bids behind each settlement, all of them in memory: of journals that one made oneself."""
+    told = Told([[] for _ in noted.settlements])
+    for settlement, bid in noted.bids():
+        told.bids[settlement].append(bid)
+    return told
+
+
 def rounded(numbers: list[Fraction], coins: int) -> list[Fraction]:
     """The numbers in whole coins, of which a unit has so many, by the largest remainder.
 

@@ -197,11 +197,11 @@ class TreeDrawing:
         side = self.nodes[node.children[0]].kind if item.note else node.kind
         body = dot(x, y, 8, f"node {side}{look}")
         body += label(x, y + 3.2, str(node.number), f"id{look}", "middle")
-        for number, words in enumerate(item.words):
+        for number, said in enumerate(item.words):
             last = number == len(item.words) - 1
             note = tag("tspan", item.note, class_="soft") if item.note and last else ""
             style = "strong" if look else "soft"
-            body += label(x + LINE, y + 4 + LINE * number, text(words) + note, style)
+            body += label(x + LINE, y + 4 + LINE * number, text(said) + note, style)
         return body
 
     def interval(self, place: int) -> str:

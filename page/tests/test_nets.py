@@ -6,7 +6,7 @@ from fractions import Fraction
 from unittest import mock
 
 from drawn import all_sets, drawn_tree, profiles
-from support import ROOT, SAMPLES, sample
+from support import ROOT, SAMPLES
 
 from ice_page import nets, rules
 from ice_page.journal import Bidder, Lines, Node, read_journal

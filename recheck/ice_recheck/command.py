@@ -2,7 +2,6 @@
 from __future__ import annotations
 
 import os
-import sys
 from collections.abc import Callable
 
 from .journals import LIMIT, Answer, check, gap
@@ -16,7 +15,7 @@ USAGE = """usage: ice-recheck JOURNAL
 Judge a journal as `ice check` does, what it states where its branches are spent as `ice gap`, and a
 statement as `ice audit`: the same line on standard output, and the same exit status. 0: yes, or a
 gap. 1: the words are no command. 2: the file is refused. 3: no, a test failed. 6: the file could
-not be read. 7: standard output failed. 8: want of memory.
+not be read. 7: standard output failed. 8: want of memory. 130: an interrupt.
 
 It is a second opinion, written from docs/formats.md and docs/definitions.md alone, and shares no
 line with the program. Nothing of it is proved."""
@@ -65,6 +64,8 @@ def main(words: list[str], name: str = "ice-recheck") -> int:
             answer = answer_to(words[-1], judge)
         except MemoryError:
             return 8
+        except KeyboardInterrupt:
+            return 130
     try:
         os.write(1, f"{answer.line}\n".encode())
     except OSError:

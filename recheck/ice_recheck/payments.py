@@ -15,6 +15,8 @@ def read_payments(
     """The surplus, where the cut and all payments are those due."""
     records = journal.records
     vickrey = [final.value - best for best in without]
+    cut: Fraction
+    surplus: Fraction
     cut, surplus = records.take("threshold").fields
     discounts = [max(Fraction(0), most - cut) for most in vickrey]
     rest = final.value - sum(discounts)

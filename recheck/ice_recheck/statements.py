@@ -36,7 +36,7 @@ class Statement:
 
     def read_set(self, form: str) -> NodeSet:
         """A satisfied set of the bidder."""
-        (inside,) = self.records.take(form).fields
+        inside: NodeSet = self.records.take(form).fields[0]
         test_set(self.records, self.exchange, 0, inside)
         return inside
 
@@ -99,6 +99,7 @@ def read_close(statement: Statement, bounds: Bounds, kept: NodeSet) -> Fraction:
     records = statement.records
     cut, surplus = records.take("threshold").fields
     records.test(cut >= 0 and surplus >= 0, Rule.ORDER)
+    payment: Fraction
     _, vickrey, discount, payment = statement.take_own("payment").fields
     records.test(any(kept) or vickrey == 0, Rule.PAYMENT)
     due = max(Fraction(0), vickrey - cut)

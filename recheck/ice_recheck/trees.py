@@ -45,7 +45,8 @@ class Tree:
 
     def outer(self, node: int) -> set[int]:
         """The node and all that it stands inside of."""
-        found, above = set(), node
+        found: set[int] = set()
+        above: int | None = node
         while above is not None:
             found.add(above)
             above = self.parents[above]
