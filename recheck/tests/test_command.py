@@ -5,10 +5,11 @@ import sys
 import tempfile
 import unittest
 from pathlib import Path
+from unittest import mock
 
 from support import COMMAND, ROOT, answer
 
-from ice_recheck import journals
+from ice_recheck import command, journals
 
 SAMPLE = ROOT / "examples" / "sample.journal"
 
@@ -88,6 +89,10 @@ class Statuses(unittest.TestCase):
         limited = f"ulimit -v 120000; exec {sys.executable} {COMMAND} /dev/zero"
         ran = subprocess.run(["bash", "-c", limited], capture_output=True, check=False)
         self.assertEqual((ran.returncode, ran.stdout), (8, b""))
+
+    def test_an_interrupt(self):
+        with mock.patch.object(command, "answer_to", side_effect=KeyboardInterrupt):
+            self.assertEqual(command.main([str(SAMPLE)]), 130)
 
 
 class Order(unittest.TestCase):
