@@ -56,6 +56,14 @@ class Element:
                 found += part.all(name, class_)
         return found
 
+    def all_of_them(self) -> list[Element]:
+        """All elements in it, in their order."""
+        found = []
+        for part in self.parts:
+            if isinstance(part, Element):
+                found += [part, *part.all_of_them()]
+        return found
+
     def seen(self) -> str:
         """The words that a wide screen shows: all but titles of drawings, captions and styles."""
         hidden = ("title", "style", "caption")

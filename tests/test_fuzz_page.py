@@ -1,0 +1,78 @@
+"""The fuzzer of pages, tables, digests, sheets and bids: some turns, and whether it notices what it must."""
+import subprocess
+import sys
+import tempfile
+import unittest
+from importlib.machinery import SourceFileLoader
+from importlib.util import module_from_spec, spec_from_loader
+from pathlib import Path
+
+from harness.program import TESTS
+
+TURNS = 200
+PAGE = "<!DOCTYPE html>\n<html><head><title>x</title></head><body>{}</body></html>\n"
+
+
+def fuzzer():
+    """The fuzzer as a module."""
+    spec = spec_from_loader("fuzz_page", SourceFileLoader("fuzz_page", str(TESTS / "fuzz_page")))
+    made = module_from_spec(spec)
+    sys.modules["fuzz_page"] = made
+    spec.loader.exec_module(made)
+    return made
+
+
+class FuzzPage(unittest.TestCase):
+    """What the fuzzer stands on."""
+
+    def test_some_turns(self):
+        words = [sys.executable, TESTS / "fuzz_page", "--turns", str(TURNS), "--seed", "gate", "--of", "page"]
+        ran = subprocess.run(words, capture_output=True, text=True)
+        self.assertEqual(ran.returncode, 0, ran.stdout + ran.stderr)
+
+    def test_what_it_notices(self):
+        fuzz = fuzzer()
+
+        def says(text, status=0):
+            """A command that says a text."""
+
+            def main(_):
+                print(text)
+                return status
+
+            return main
+
+        def writes(text):
+            """A command that writes a page."""
+
+            def main(words):
+                Path(words[0], "page").write_text(text, encoding="utf-8")
+                return 0
+
+            return main
+
+        with tempfile.TemporaryDirectory() as made:
+            for main, is_page, why in (
+                (says("fine"), False, None),
+                (says("a\x1bb"), False, "the terminal is told"),
+                (says("a\u202eb"), False, "the terminal is told"),
+                (says("a\x9bb"), False, "the terminal is told"),
+                (says("want of memory", 8), False, "status 8"),
+                (writes(PAGE.format("<p>x</p>")), True, None),
+                (writes(PAGE.format("a\u2066b")), True, "page is told"),
+                (writes(PAGE.format("<script>x</script>")), True, "the element script"),
+                (writes(PAGE.format('<p onclick="x">x</p>')), True, "the attribute onclick"),
+                (writes(PAGE.format('<p href="x">x</p>')), True, "the attribute href"),
+            ):
+                call = fuzz.Call(main, ("OUT",), TESTS, is_page)
+                if why is None:
+                    self.assertEqual(fuzz.judge(call, Path(made)), 0)
+                    continue
+                with self.assertRaisesRegex(fuzz.Failure, why):
+                    fuzz.judge(call, Path(made))
+            with self.assertRaises(AssertionError):
+                fuzz.judge(fuzz.Call(writes(PAGE.format("<p>")), ("OUT",), TESTS, True), Path(made))
+
+
+if __name__ == "__main__":
+    unittest.main()
