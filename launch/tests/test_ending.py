@@ -109,6 +109,15 @@ class Ending(unittest.TestCase):
         self.assertEqual(os.waitstatus_to_exitcode(ended), 130)
         self.assertFalse(self.is_there(program))
 
+    def test_what_is_not_proved_gives_its_answer_and_its_status(self):
+        (self.top / "rt").write_text('#!/bin/sh\necho "no 7 $6"\necho "run=ended status=3 proved=no" >&2\n')
+        ran = subprocess.run(["./ice-unproved", "check", "j"], cwd=self.top, env=self.where, capture_output=True, text=True, check=False)
+        self.assertEqual((ran.returncode, ran.stdout), (3, f"no 7 {self.top}/j\n"), ran.stderr)
+        (self.top / "rt").write_text('#!/bin/sh\necho "run=none proved=no" >&2\nexit 1\n')
+        ran = subprocess.run(["./ice-unproved", "check", "j"], cwd=self.top, env=self.where, capture_output=True, text=True, check=False)
+        self.assertEqual((ran.returncode, "run=none proved=no" in ran.stderr), (70, True), ran.stderr)
+        self.assertEqual(list((self.top / "temporary").iterdir()), [])
+
     def test_the_program_reads_standard_input(self):
         file = self.top / "crates/ice_cli/out/ice_cli"
         file.write_text("#!/bin/sh\ncat\n")
