@@ -10,7 +10,7 @@ from pathlib import Path
 
 from . import numbers
 from .checker import PROGRAM, Answer
-from .journal import Group, Journal
+from .journal import Journal
 from .lines import BLOCK
 from .markup import foreign, text
 from .view import View

@@ -5,7 +5,7 @@ import csv
 from collections import Counter
 from pathlib import Path
 
-from .journal import BadJournal, Journal
+from .journal import BadJournal, Journal, Judged
 
 HEADS = ["name", "full name"]
 FILE_LIMIT, MOST_LETTERS = 65_536, 60
@@ -56,7 +56,7 @@ def name_all(journal: Journal, names: dict[str, str]) -> None:
 
     BadNames where nobody and nothing has one of the names; but a statement has one bidder alone.
     """
-    held = {each.name for each in (*journal.bidders, *journal.goods)}
+    held = {bidder.name for bidder in journal.bidders} | {good.name for good in journal.goods}
     strange = [name for name in names if name not in held]
     if strange and not journal.of_statement:
         raise BadNames(f"no bidder and no good is named `{strange[0][:SHOWN]}`")
@@ -64,7 +64,7 @@ def name_all(journal: Journal, names: dict[str, str]) -> None:
         bidder.name = names.get(bidder.name, bidder.name)
     journal.goods = [good._replace(name=names.get(good.name, good.name)) for good in journal.goods]
     for settlement in journal.settlements:
-        bids = Counter()
+        bids: Counter[Judged] = Counter()
         for bid, times in settlement.bids.items():
             who = bid.who if bid.bidder is None else journal.bidders[bid.bidder].name
             bids[bid._replace(who=who)] += times
