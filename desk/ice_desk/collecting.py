@@ -58,4 +58,5 @@ def late(folder: Folder, staged: Staged, number: int) -> str:
 def bids_of(path: Path) -> list[Any]:
     """The bids of a round file."""
     value = jsontext.read(str(path))
-    return value["bids"] if isinstance(value, dict) and "bids" in value else []
+    bids: list[Any] = value["bids"] if isinstance(value, dict) and "bids" in value else []
+    return bids

@@ -49,7 +49,8 @@ def told(before: Journal, now: Journal, name: str, much: int) -> Iterator[str]:
     """All lines."""
     found = pairs(before, now)
     yield f"without {name}, by the last bounds of all others:"
-    yield f"  total value {numbers.whole(total(before))} before, {numbers.whole(total(now))} without"
+    totals = [numbers.whole(total(journal)) for journal in (before, now)]
+    yield f"  total value {totals[0]} before, {totals[1]} without"
     yield f"  regret {regret(before)} before, {regret(now)} without"
     yield f"  surplus {words.amount(before.surplus)} before, {words.amount(now.surplus)} without"
     yield from map(line, found)

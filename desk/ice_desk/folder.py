@@ -20,15 +20,20 @@ ROUND = re.compile(r"round-([1-9][0-9]?)\.json")
 MOST_ROUNDS = 20
 
 
-def read_journal(path: Path, kept: str | None = None) -> Journal:
-    """The journal in a file; Stop where it is none."""
+def read(path: Path, kept: str | None = None) -> Journal:
+    """The journal or the statement in a file; Stop where it is neither."""
     try:
         with path.open("rb", buffering=0) as stream:
-            journal = read_file(Lines(stream), kept)
+            return read_file(Lines(stream), kept)
     except BadJournal as fault:
         raise Stop(REFUSED, f"{path.name}: {plain(str(fault))}") from None
     except OSError as fault:
         raise unread(fault, path) from None
+
+
+def read_journal(path: Path) -> Journal:
+    """The journal of a session in a file; Stop where it is none."""
+    journal = read(path)
     if journal.of_statement or journal.kind != "session":
         raise Stop(REFUSED, f"{path.name}: no journal of a session")
     return journal

@@ -1,4 +1,4 @@
-"""The checker's answer on a journal, which has to be the one that the journal asks for."""
+"""The answer on a journal or a statement, which has to be the one that the file asks for."""
 from __future__ import annotations
 
 from pathlib import Path
@@ -16,10 +16,11 @@ def said(ran: Ran, what: str) -> str:
 
 
 def answer(program: Path, path: Path, journal: Journal) -> str:
-    """What the checker says of the journal in a file; Stop where it isn't what is due."""
-    ran = run(program, "check", path)
+    """What is said of the journal or the statement in a file; Stop where it isn't what is due."""
+    command = "audit" if journal.of_statement else "check"
+    ran = run(program, command, path)
     found, wanted = ran.output.strip(), due(journal)
     if found != wanted or ran.status not in (DONE, NO):
-        found = found or said(ran, "check")
-        raise Stop(NO, f"the checker says `{found}`, where `{wanted}` is due")
+        found = found or said(ran, command)
+        raise Stop(NO, f"{path.name}: ice {command} says `{found}`, where `{wanted}` is due")
     return found

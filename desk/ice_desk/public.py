@@ -62,7 +62,8 @@ def head_section(view: Public) -> str:
         regret = numbers.whole(journal.last.regret) + view.with_unit
         facts.append(fact("could be missed, at most", regret, "the regret"))
     if journal.payments:
-        facts.append(fact("cut", exact(journal.cut) + view.with_unit, "comes off each Vickrey discount"))
+        cut = exact(journal.cut) + view.with_unit
+        facts.append(fact("cut", cut, "comes off each Vickrey discount"))
         surplus = exact(journal.surplus) + view.with_unit
         facts.append(fact("surplus", surplus, "what all pay together"))
     facts.append(fact("checker’s answer", checked(view), "on the whole journal"))

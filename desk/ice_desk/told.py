@@ -96,7 +96,8 @@ def moved(journal: Journal, before: Settlement, now: Settlement) -> Iterator[str
     for good, old, new in pairs:
         if old != new:
             yield f"price of {good.name} {words.amount(old)} before, {words.amount(new)} now"
-    names = [bidder.name for bidder, is_new in zip(journal.bidders, resettled(before, now)) if is_new]
+    others = zip(journal.bidders, resettled(before, now))
+    names = [bidder.name for bidder, is_new in others if is_new]
     if names:
         yield f"another provisional set: {words.listed(names)}"
     if before.regret == now.regret and before.prices == now.prices:

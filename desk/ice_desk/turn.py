@@ -11,11 +11,11 @@ from ice_page.names import name_all, read_names
 from ice_page.words import awaited
 
 from .collecting import collect, late
-from .folder import Folder, read_journal
+from .folder import Folder, read, read_journal
 from .judge import answer, said
 from .public import public_page
 from .staged import Staged
-from .stop import NO, OPEN, REFUSED, Stop, unread
+from .stop import OPEN, REFUSED, Stop, unread
 from .tools import DIGEST, PROGRAM, TABLE, Ran, python, run, whole
 
 CLOSED, SPENT, LIMIT = 0, 4, 5
@@ -190,11 +190,8 @@ class Turn:
 
     def audit(self, statement: Path, name: str) -> None:
         """Has a statement audited, and makes its page."""
-        ran = run(self.options.program, "audit", statement)
-        answer = ran.output.strip()
-        if ran.status or not answer.startswith("yes "):
-            raise Stop(ran.status or NO, f"{name}.statement: the audit says `{answer}`")
-        self.page(statement, f"{name}.html", f"--checked={answer}")
+        found = answer(self.options.program, statement, read(statement, name))
+        self.page(statement, f"{name}.html", f"--checked={found}")
 
 
 def published(path: Path) -> list[str]:

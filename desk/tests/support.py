@@ -77,7 +77,7 @@ def play(folder: Path) -> None:
 
 
 class Desk(unittest.TestCase):
-    """Each test works in a folder of its own, with the season's market and a stand-in that ran it."""
+    """Each test has a folder of its own, with the season's market and a stand-in that ran it."""
 
     opened: dict[str, bytes] = {}
 

@@ -10,7 +10,7 @@ import sys
 import time
 import unittest
 
-from support import NAMES, PROGRAM, SEASON, TOP, Desk
+from support import NAMES, PROGRAM, SEASON, TOP, Desk, fronts
 
 ROUND = TOP / "desk" / "ice-round"
 FRONT = re.compile(r"(front|whole) (\d+) (\d+) ([0-9a-f]{64})")
@@ -157,7 +157,18 @@ class Stops(Desk):
     def test_the_checker_says_no(self):
         self.open()
         self.bids_come(1)
-        self.stops(3, "the checker says `no 7 value`, where `no 111 closed` is due", WRONG="1")
+        last = fronts(SEASON.read_text())[1].count("\n")
+        wanted = f"ice check says `no 7 value`, where `no {last} closed` is due"
+        self.stops(3, wanted, WRONG="1")
+
+    def test_the_audit_says_another_payment(self):
+        """The stand-in takes each payment from the statement, so here it is told a wrong one."""
+        self.open()
+        for number in (1, 2):
+            self.bids_come(number)
+            self.round()
+        self.bids_come(3)
+        self.stops(3, "Meridian.statement: ice audit says `yes 7`", AUDIT="yes 7")
 
     def test_the_run_is_refused(self):
         self.open()
@@ -199,7 +210,7 @@ class Stops(Desk):
         self.stops(6, "No such file")
 
     def test_names_of_files_that_fall_together(self):
-        """A bidder of the name of the market would have the operator's page for its own at the end."""
+        """A bidder of the market's name would have the operator's page for its own at the end."""
         market = self.folder / "market.json"
         market.rename(self.folder / "meridian.json")
         for number in range(4):
@@ -259,9 +270,8 @@ class Stops(Desk):
     def test_a_full_output(self):
         with open("/dev/full", "w", encoding="utf-8") as full:
             words = [sys.executable, ROUND, "market.json", PROGRAM]
-            ran = subprocess.run(
-                words, cwd=self.folder, env=self.where, stdout=full, stderr=subprocess.PIPE, check=False
-            )
+            how = {"cwd": self.folder, "env": self.where, "stderr": subprocess.PIPE}
+            ran = subprocess.run(words, stdout=full, check=False, **how)
         self.assertEqual(ran.returncode, 7)
         self.assertTrue(os.path.exists(self.folder / "published"))
 

@@ -47,7 +47,8 @@ def take(found: dict[str, str], cells: list[str], number: int) -> None:
         why = f"a full name has at most {MOST_LETTERS} letters, and no control characters"
         raise BadNames(f"line {number}: {why}")
     if short in found or full in found.values():
-        raise BadNames(f"line {number}: `{(short if short in found else full)[:SHOWN]}` stands twice")
+        twice = short if short in found else full
+        raise BadNames(f"line {number}: `{twice[:SHOWN]}` stands twice")
     found[short] = full
 
 

@@ -2,7 +2,7 @@
 from __future__ import annotations
 
 from . import numbers
-from .course import older
+from .course import SHOWN_NARROW, older
 from .journal import Settlement
 from .markup import cell, column_head, key, row, row_head, table, tag, text
 from .rival import Change, Part, changes, fits, parts, told
@@ -57,8 +57,15 @@ def parts_table(view: View, held: list[Settlement]) -> str:
             "much its part can shrink",
             f"{numbers.plural(others, 'bidder')} with the same set in both" if others else "",
             unit,
+            earlier("settlements", count),
         )
     )
+
+
+def earlier(what: str, count: int) -> str:
+    """Where earlier ones stand, on narrow screens that leave some out."""
+    says = tag("span", f"earlier {what} stand on a wider screen", class_="narrow")
+    return says if count > SHOWN_NARROW else ""
 
 
 def parts_row(name: str, found: list[Part]) -> str:
@@ -95,6 +102,7 @@ def changes_table(view: View) -> str:
         + key(
             "the change of its part between the final trade and the rival of before",
             "other trades: what comes of another final trade or rival behind the round",
+            earlier("rounds", count),
         )
     )
 

@@ -37,7 +37,7 @@ def trades_part(view: View) -> str:
         return ""
     unlisted = idle(view)
     listed = [number for number in view.bidders if number not in unlisted]
-    names = ", ".join(to_bidder(number, view.journal.bidders[number].name) for number in unlisted)
+    names = ", ".join(to_bidder(each, view.journal.bidders[each].name) for each in unlisted)
     others = f"{len(unlisted)} more own nothing and trade nothing: {names}" if names else ""
     return (
         (Payments(view, listed).whole() if view.journal.payments else short_list(view, listed))
@@ -84,7 +84,8 @@ def named(view: View, number: int, more: str = "") -> str:
     """The head of a bidder's row; narrow screens have its trade in words there, and more."""
     bidder, units = view.journal.bidders[number], view.units[number]
     trade = text(words.trade(units, view.journal.goods)) + more
-    return row_head(to_bidder(number, bidder.name) + tag("div", trade, class_="narrow soft"), "name")
+    below = tag("div", trade, class_="narrow soft")
+    return row_head(to_bidder(number, bidder.name) + below, "name")
 
 
 def look(view: View, number: int) -> str | None:

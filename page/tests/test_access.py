@@ -151,7 +151,7 @@ class Access(unittest.TestCase):
                 names & {"script", "link", "img", "iframe", "object", "form", "image", "use"},
                 file,
             )
-            marks = [each.attributes["id"] for each in page.root.all("article")]
+            marks = [each.attributes.get("id") for each in page.root.all("article")]
             self.assertEqual(len(set(marks)), len(marks), file)
             for link in page.root.all("a"):
                 self.assertIn(link.attributes["href"].removeprefix("#"), marks, file)

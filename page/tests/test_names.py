@@ -88,6 +88,10 @@ class Ways(unittest.TestCase):
                 card = cards[link.attributes["href"][1:]]
                 self.assertEqual(card.all("h3")[0].text, link.text)
 
+    def test_a_page_of_one_bidder_tells_no_number(self):
+        (card,) = page_of(HALL, "--bidder", "opera").root.all("article")
+        self.assertNotIn("id", card.attributes)
+
     def test_payments_and_trades_have_headings(self):
         heads = [head.text for head in page_of(HALL).root.all("h2")]
         self.assertEqual(heads[:2], ["What each pays", "Who trades what"])
