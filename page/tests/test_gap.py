@@ -151,6 +151,17 @@ class Asking(unittest.TestCase):
         page = self.page(AT_FINAL, "no 9 closed", "no 12 above")
         self.assertIn("don’t rely on it", page.facts()["gap of the search"][1])
 
+    def test_a_file_that_changes_meanwhile(self):
+        program = Path(self.program("no 9 closed", "gap final 0 10"))
+        program.write_text(f"{program.read_text()}".replace("exit", f'echo >>"{self.journal}"\nexit', 1))
+        self.journal.write_text(AT_FINAL)
+        page = self.folder / "page.html"
+        words = ["--check", "--program", str(program), "-o", str(page)]
+        status, errors = call(str(self.journal), *words)
+        self.assertEqual((status, len(self.asked())), (0, 2), errors)
+        note = Page(page.read_text()).facts()["gap of the search"][1]
+        self.assertEqual(note, "as the journal states: not tested")
+
     def test_it_is_asked_of_no_other_journal(self):
         self.page(sample("two-settlements.session"), "yes 0 0/1", "no 1 spent")
         self.page(AT_FINAL, "no 4 exchange", "gap final 0 10")
