@@ -170,8 +170,18 @@ def own_facts(view: View, bidder: int) -> list[Fact]:
         verb, note = "you pay", "that value less what you keep"
         if payment < 0:
             verb, note = "you receive", "minus that value, and what you keep"
-        found.append(Fact(verb, exact(abs(payment)) + view.with_unit, note))
+        found.append(Fact(verb, exact(abs(payment)) + view.with_unit, note + in_coins(view, payment)))
     return found
+
+
+def in_coins(view: View, payment: Fraction) -> str:
+    """What a payment is in whole coins: by the largest remainder of all payments, one of two."""
+    if view.unit_coins is None:
+        return ""
+    below, rest = divmod(payment * view.unit_coins, 1)
+    ends = sorted(abs(Fraction(coins, view.unit_coins)) for coins in {below, below + (rest > 0)})
+    told = " or ".join(numbers.decimal(end) + view.with_unit for end in ends)
+    return f"; in whole coins {told}" + (", as all payments are rounded" if rest else "")
 
 
 def lead(view: View) -> str:

@@ -13,8 +13,8 @@ from .journal import BadJournal, Journal, Lines
 from .names import name_all, read_names
 from .page import whole_page
 from .statement import read_file
-from .terminal import DONE, LAST_STATUSES, Words, count_of, ends, reading, say, source
-from .terminal import standard_output, writing
+from .terminal import BAD_WORDS, DONE, LAST_STATUSES, Ending, Words, coins_of, count_of, ends
+from .terminal import reading, say, source, standard_output, writing
 from .view import View
 
 NAME = "ice-page"
@@ -59,6 +59,13 @@ def words() -> Words:
         "--unit", metavar="U", default="", help='the unit of the values, such as "k€"'
     )
     parser.add_argument("--bidder", metavar="NAME", help="a page for this bidder alone")
+    parser.add_argument(
+        "--unit-coins",
+        metavar="COINS",
+        type=coins_of,
+        help="with --bidder, or of a statement: its payment in whole coins too; how many coins a unit "
+        "of the values has, 100 where these are euros and 1 where they are cents",
+    )
     parser.add_argument("--date", metavar="D", default="", help="the date of the page, as you like")
     parser.add_argument(
         "--made-by",
@@ -190,6 +197,8 @@ def main(arguments: Sequence[str] | None = None) -> int:
         journal, answer = read(options)
         bidder = number_of(journal, options.bidder)
         gap = gap_of(options, journal, answer)
+    if options.unit_coins is not None and bidder is None:
+        raise Ending(BAD_WORDS, "--unit-coins goes with --bidder: ice-table has all payments in coins")
     if options.fair is not None:
         with reading(options.fair):
             fair = read_fair(options.fair, journal)
@@ -202,6 +211,7 @@ def main(arguments: Sequence[str] | None = None) -> int:
         title=options.title or name,
         source=name,
         unit=options.unit,
+        unit_coins=options.unit_coins,
         bidder=bidder,
         round=options.round,
         date=options.date,

@@ -12,7 +12,7 @@ from pathlib import Path
 from typing import TYPE_CHECKING, Any, BinaryIO, Iterator, Sequence, TextIO
 
 from .tables import Table, Value, read_tables
-from .terminal import DONE, LAST_STATUSES, UNWRITTEN, Ending, Words, count_of, ends, reading
+from .terminal import DONE, LAST_STATUSES, UNWRITTEN, Ending, Words, coins_of, ends, reading
 from .terminal import say, source, standard_output, writing
 
 if TYPE_CHECKING:
@@ -31,14 +31,6 @@ STATUSES = (
     "error names the line), 6 it could not be read, 7 a table could not be written, "
     f"{LAST_STATUSES}"
 )
-
-
-def coins_of(word: str) -> int:
-    """How many coins a unit has: a whole number from 1 on."""
-    coins = count_of(word)
-    if coins < 1:
-        raise argparse.ArgumentTypeError("a unit has 1 coin or more")
-    return coins
 
 
 class OldName(argparse.Action):

@@ -46,6 +46,14 @@ def count_of(word: str) -> int:
     return int(word)
 
 
+def coins_of(word: str) -> int:
+    """How many coins a unit has: a whole number from 1 on."""
+    coins = count_of(word)
+    if coins < 1:
+        raise argparse.ArgumentTypeError("a unit has 1 coin or more")
+    return coins
+
+
 def say(line: str) -> None:
     """Says a line on standard error, where there is one that takes it."""
     try:

@@ -24,6 +24,7 @@ class View:
     title: str
     source: str
     unit: str = ""
+    unit_coins: int | None = None
     bidder: int | None = None
     round: int | None = None
     date: str = ""

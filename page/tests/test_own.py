@@ -207,6 +207,22 @@ class OnItsPage(unittest.TestCase):
                     if verdict in ("42", "43"):
                         self.assertRegex(row[2], "could leave|you may lack up to")
 
+    def test_a_payment_in_coins(self):
+        def told(name: str, coins: str) -> str:
+            page = run(HALL, "--bidder", name, "--unit-coins", coins)[1]
+            return re.search("in whole coins (.*?)<", page)[1]
+
+        both = ", as all payments are rounded"
+        self.assertEqual(told("choir", "1"), "57 or 58" + both)
+        self.assertEqual(told("choir", "2"), "57.5")
+        self.assertEqual(told("hall", "1"), "57 or 58" + both)
+        self.assertEqual(told("opera", "100"), "0")
+        without = run(HALL, "--bidder", "choir")[1]
+        self.assertNotIn("in whole coins", without)
+        for words in (("--unit-coins", "1"), ("--bidder", "choir", "--unit-coins", "0")):
+            status, page, errors = run(HALL, *words)
+            self.assertEqual((status, page), (1, ""), errors)
+
     def test_at_most_400_bids_of_a_round(self):
         bids = [("opera 0 0", "46")] * 401
         rows = page_of(with_bids(HALL, *bids), "--bidder", "opera").table("Your bids")
