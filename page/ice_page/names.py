@@ -29,7 +29,11 @@ def read_names(name: str) -> dict[str, str]:
     first = lines[0] if lines else ""
     cut = next((each for each in ";\t" if each in first), ",")
     found: dict[str, str] = {}
-    rows = [[cell.strip() for cell in row] for row in csv.reader(lines, delimiter=cut)]
+    table = csv.reader(lines, delimiter=cut, strict=True)
+    try:
+        rows = [[cell.strip() for cell in row] for row in table]
+    except csv.Error as fault:
+        raise BadNames(f"no table in CSV: {fault}") from None
     if not rows or [cell.lower() for cell in rows[0][:2]] != HEADS:
         raise BadNames("line 1: the heads are `name` and `full name`")
     for number, cells in enumerate(rows[1:], 2):

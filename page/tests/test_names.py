@@ -45,6 +45,7 @@ class Named(unittest.TestCase):
             ("name,full name\nchoir,A\nchoir,B\n", "line 3: `choir` stands twice"),
             ("name,full name\nchoir,A\nopera,A\n", "line 3: `A` stands twice"),
             ("name,full name\nchoir,A\u202eB\n", "no control characters"),
+            ('name,full name\nchoir,"A\nopera,B\n', "no table in CSV"),
             ("name,full name\nchoir," + "A" * 61 + "\n", "at most 60 letters"),
             (b"name,full name\nchoir,\xfc\n", "no UTF-8"),
             ("name,full name\n" + "\n" * 65_536, "longer than 65,536 bytes"),
