@@ -43,6 +43,7 @@ NobodyOverpays market bounds final payments =
     → IsWorth market.exact (tree_of market.trees b) (weights_of v b) (trades_of market final b) worth
     → AtMost (times (whole_number (pos k)) (fraction_at payments b)) (whole_number worth)
 
+-- the headline of a session
 pub record Headline (s : Session) : Type 0 where
   -- Feasible: each bidder's final set is a satisfied set of its tree, no good is bought that isn't
   -- sold, and nobody gives what it doesn't own.

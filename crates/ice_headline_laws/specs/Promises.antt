@@ -21,5 +21,6 @@ pub record ShowsRegret (s : Session) : Type 0 where
   pub attained : lead s.closed.settlement.rival.sets s.closed.settlement.final.sets
       (perturbed_weights s.closed.settlement.final.sets (final_bounds s)) ≡ s.closed.settlement.regret
 
+-- every right session has such a rival
 abbrev pub RivalShowsRegret : Type 0
 RivalShowsRegret = (s : Session) → IsRight s → ShowsRegret s
