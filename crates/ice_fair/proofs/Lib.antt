@@ -1,5 +1,4 @@
 pub mod Nearness
-pub mod Larger
 pub mod Evenness
 pub mod Weights
 pub mod Passing

@@ -2,22 +2,22 @@
 -- stand, and is read as that head with its value.
 use Rattle.std.proofs.Common.{◌≡◌, suc, Bool, true, false, cond, ℤ, refl, sym, ◌∙◌, ap, subst, arith, ◌⊎◌, inl, inr}
 use Rattle.std.specs.Prelude.{Option, Some, None, option_map, int_lt, IsSome, if◌then◌else◌}
-use Rattle.std.proofs.lemmas.Bool.{eq-eqb, false≢true}
+use Rattle.std.proofs.lemmas.Bool.{false≢true}
 use Rattle.std.proofs.lemmas.Option.{none-some, same_Some}
 use Rattle.ice_defs.specs.declared.Group.{Group}
-use Rattle.ice_defs.specs.declared.Group.TheVariants.{Assign, Final, Rival, Provisional, Without}
+use Rattle.ice_defs.specs.declared.Group.TheVariants.{Assign, Final}
 use Rattle.ice_journal.specs.Records.{Record, Kind, regret_kind}
 use Rattle.ice_journal.specs.Records as line
 use Rattle.ice_section.specs.Section.{may_end}
 use Rattle.ice_journal_laws.specs.declared.rule.Rule.{Rule}
 use Rattle.ice_journal_laws.specs.declared.rule.Rule.TheVariants as rule
-use Rattle.ice_journal_laws.specs.Fields.{head_value}
 use Rattle.ice_journal_laws.specs.State.{Place, at_section, at_group, State, begun}
 use Rattle.ice_journal_laws.specs.Checks.{is_checked}
 use Rattle.ice_journal_laws.specs.Next.{next, to_line, after_section, past_section}
 use Rattle.ice_journal_laws.specs.Tests.{Fails, is_valued}
 use Rattle.ice_journal_laws.specs.Progress.{Progress, nothing, other_kind, passing, failed, out_of_memory, after_head, TakesOn, passes_on, fails_at, list_fails_at, IsAfter}
 use Rattle.ice_journal_laws.specs.Showing.{head_of_group}
+use Rattle.ice_journal_laws.proofs.CarriedGroup.{head_says}
 use Rattle.ice_journal_laws.proofs.Places.{fails_order}
 use Rattle.ice_journal_laws.proofs.Settling.{head_opens, head_spent}
 use Rattle.ice_gap_laws.specs.Gap.{Gap, next_group, gap_in, at_gap_sets, GapProgress, checking, in_group, no_gap, is_closed, from_stop, unless_stopped, IsGapAfter, StatesNone}
@@ -38,13 +38,6 @@ abbrev StandAlike : State → Group → ℤ → ℤ → Type 0
 StandAlike s g value bound =
     (TakesOn s (head_of_group g value) (passing (at_gap_sets (gap_of g value bound) s)) × TakesOn s (line.spent value bound) (closed_at s))
     ⊎ (TakesOn s (head_of_group g value) (order_at s) × TakesOn s (line.spent value bound) (order_at s))
-
-head_has : (g : Group) (value : ℤ) → is_valued g ≡ true → head_value g (head_of_group g value) ≡ Some value
-head_has Assign value v = absurd (false≢true v)
-head_has Final value v = refl
-head_has Rival value v = refl
-head_has Provisional value v = refl
-head_has (Without b) value v = ap (λ (t : Bool). cond t (Some value) None) (eq-eqb b b refl)
 
 -- behind the exchange of a regret journal
 module _ (s : State) (value bound : ℤ) where
@@ -80,7 +73,7 @@ at_place : (s : State) (kind : Kind) (place : Place) (g : Group) (value bound : 
 at_place s kind (at_group Assign) g value bound v e = absurd (none-some g e)
 at_place s kind (at_group mine) g value bound v e =
     subst (λ (x : Group). is_valued x ≡ true → StandAlike (record s { place = at_group mine; kind = kind }) x value bound) (same_Some mine g e)
-    (λ w. inl (head_opens (record s { kind = kind }) mine (head_of_group mine value) value (head_has mine value w), head_spent (record s { kind = kind }) mine (line.spent value bound) refl)) v
+    (λ w. inl (head_opens (record s { kind = kind }) mine (head_of_group mine value) value (head_says mine value w), head_spent (record s { kind = kind }) mine (line.spent value bound) refl)) v
 at_place s regret_kind at_section g value bound v e =
     subst (λ (x : Group). StandAlike (record s { place = at_section; kind = regret_kind }) x value bound) (same_Some Final g e) (behind_section s value bound (may_end s.section) refl)
 at_place s kind other g value bound v e = absurd (none-some g e)

@@ -5,7 +5,7 @@ use Rattle.std.specs.List.{AllByRecursion}
 use Rattle.std.proofs.lemmas.Bool.{eqb-true, eqb-false, false≢true}
 use Rattle.std.proofs.lemmas.Option.{none-some, same_Some}
 use Rattle.std.proofs.lemmas.Int.{ints}
-use Rattle.std.proofs.lemmas.List.{append-nil, append_assoc, map-append, length-replicate, length-map}
+use Rattle.std.proofs.lemmas.List.{append-nil, append_assoc, length-replicate, length-map}
 use Rattle.ice_defs.proofs.Lists.{all_push}
 use Rattle.ice_defs.proofs.Starts.{meets_free_side, meets_without}
 use Rattle.ice_defs.specs.Set.{NodeSet}
@@ -37,8 +37,9 @@ use Rattle.ice_journal_laws.specs.Tests.{Fails, Complete, is_valued, Taken, IsCl
 use Rattle.ice_journal_laws.specs.Progress.{Progress, nothing, other_kind, passing, failed, out_of_memory, TakesOn, passes_on, fails_at, list_fails_at, IsAfter, Leads}
 use Rattle.ice_journal_laws.specs.Progress as progress
 use Rattle.ice_journal_laws.proofs.Assigning.{AreSatisfied, set_passes}
+use Rattle.ice_journal_laws.proofs.CarriedGroup.{begins_log}
 use Rattle.ice_journal_laws.proofs.Faultless.{covered}
-use Rattle.ice_journal_laws.proofs.Grouping.{IsLeftOut, left_more, step_passes, of_same}
+use Rattle.ice_journal_laws.proofs.Grouping.{IsLeftOut, left_more, step_passes, of_same, set_text}
 use Rattle.ice_journal_laws.proofs.Leading.{leads_more}
 use Rattle.ice_journal_laws.proofs.Plaining.{length_after, changed_length}
 use Rattle.ice_journal_laws.proofs.Heads.{all_left}
@@ -109,9 +110,6 @@ Known before (no_gap n) = Unit {0}
 
 -- ---- the sets
 
-set_text : (front : List Record) (first : Record) (sets : Assignment) (x : NodeSet) → (front ++ first ∷ map line.set sets) ++ line.set x ∷ [] ≡ front ++ first ∷ map line.set (sets ++ x ∷ [])
-set_text front first sets x = append_assoc front (first ∷ map line.set sets) (line.set x ∷ []) ∙ ap (λ (rs : List Record). front ++ first ∷ rs) (sym (map-append line.set sets (x ∷ [])))
-
 no_steps : (front : List Record) (first : Record) (sets : Assignment) → front ++ first ∷ map line.set sets ≡ front ++ first ∷ map line.set sets ++ []
 no_steps front first sets = sym (append-nil (front ++ first ∷ map line.set sets))
 
@@ -139,13 +137,6 @@ step_counts version_1 goods m other x count e = absurd (none-some x e)
 step_counts version_2 goods m other x count e = absurd (none-some x e)
 
 -- a log follows the sets
-pub log_follows : (s : State) (g : Group) (found : Stated) → is_valued g ≡ true → after_sets s g found ≡ go_to (at_log g found (start_of (trees_at s) g ∷ []) (all_zero (goods_at s))) s
-log_follows s Assign found v = absurd (false≢true v)
-log_follows s Final found v = refl
-log_follows s Rival found v = refl
-log_follows s Provisional found v = refl
-log_follows s (Without b) found v = refl
-
 -- behind the log the group is left
 pub log_leaves : (s : State) (g : Group) (found : Stated) → is_valued g ≡ true → is_in_group (after_log s g found).place ≡ false
 log_leaves s Assign found v = absurd (false≢true v)
@@ -196,7 +187,7 @@ module _ (front : List Record) (gap : Gap) (t : State) (from : Stopped front gap
           → Then ((front ++ spent_record gap ∷ map line.set sets) ++ line.set x ∷ []) after
       by true last h =
           of_same (to_line (suc n) (go_to (at_log gap.group (stated gap.value (sets ++ x ∷ [])) (start_of (trees_at Now) gap.group ∷ []) (all_zero (goods_at Now))) Now)) after
-          (ap (λ (s : State). Some (to_line (suc n) s)) (sym (log_follows (AtSets n sets) gap.group (with_set (stated gap.value sets) x) from.is.valued)) ∙ h)
+          (ap (λ (s : State). Some (to_line (suc n) s)) (sym (begins_log (AtSets n sets) gap.group (with_set (stated gap.value sets) x) from.is.valued)) ∙ h)
           (Then ((front ++ spent_record gap ∷ map line.set sets) ++ line.set x ∷ [])) (
             front,
             t,

@@ -33,10 +33,11 @@ use Rattle.ice_journal_laws.proofs.Leading.{failed_passes}
 use Rattle.ice_journal_laws.proofs.Settling.{head_spent}
 use Rattle.ice_journal_laws.proofs.Sets.{set_on, sets_complete}
 use Rattle.ice_journal_laws.proofs.CarriedSets.{count_there, fit}
+use Rattle.ice_journal_laws.proofs.CarriedGroup.{begins_log}
 use Rattle.ice_journal_laws.proofs.CarriedLog.{step_takes}
 use Rattle.ice_gap_laws.specs.Gap.{Gap, next_group, before_head, at_gap_sets, with_target, GapProgress, checking, in_group, at_close, ended, no_gap, from_stop, in_its_group, IsGapAfter, GapLeads, stays, goes}
 use Rattle.ice_gap_laws.specs.Laws.{EndsThere, IsShownGap, gap_records, GapIsWritten}
-use Rattle.ice_gap_laws.proofs.Right.{log_follows, log_leaves}
+use Rattle.ice_gap_laws.proofs.Right.{log_leaves}
 use Rattle.ice_gap_laws.proofs.Heading.{gap_of, closed_at}
 
 -- ---- pieces
@@ -114,7 +115,7 @@ module _ (now : State) (g : Group) (p : Proved) (bound : ℤ) (valued : is_value
 
       same : InLog (suc n) (start_of (trees_at now) g ∷ []) (all_zero (goods_at now)) ≡ in_its_group Mine (passing Last)
       same = sym (
-          ap (λ (t : State). in_its_group Mine (passing (to_line (suc n) t))) (log_follows (go_to (at_sets g (record { value = p.value; sets = front })) (to_line n now)) g (record { value = p.value; sets = front ++ x ∷ [] }) valued)
+          ap (λ (t : State). in_its_group Mine (passing (to_line (suc n) t))) (begins_log (go_to (at_sets g (record { value = p.value; sets = front })) (to_line n now)) g (record { value = p.value; sets = front ++ x ∷ [] }) valued)
           ∙ ap (λ (sets : Assignment). in_group Mine (to_line (suc n) (go_to (at_log g (record { value = bound; sets = sets }) (start_of (trees_at now) g ∷ []) (all_zero (goods_at now))) now))) e
           )
   sets_lead n front (y ∷ rest) x e =

@@ -25,7 +25,7 @@ use Rattle.ice_journal_laws.proofs.CarriedSets.{sets_carry}
 use Rattle.ice_journal_laws.proofs.CarriedLog.{passing_log_carries}
 
 -- the value in the head of a group
-head_says : (g : Group) (value : ℤ) → is_valued g ≡ true → head_value g (head_of_group g value) ≡ Some value
+pub head_says : (g : Group) (value : ℤ) → is_valued g ≡ true → head_value g (head_of_group g value) ≡ Some value
 head_says Assign value v = absurd (false≢true v)
 head_says Final value v = refl
 head_says Rival value v = refl
@@ -57,7 +57,7 @@ pub head_takes : (s : State) (g : Group) (value : ℤ) → is_valued g ≡ true 
 head_takes s g value v n = head_takes_on (to_line n s) g value v
 
 -- where the sets are all there, the log begins
-begins_log : (s : State) (g : Group) (found : Stated) → is_valued g ≡ true → after_sets s g found ≡ go_to (at_log g found (start_of (trees_at s) g ∷ []) (all_zero (goods_at s))) s
+pub begins_log : (s : State) (g : Group) (found : Stated) → is_valued g ≡ true → after_sets s g found ≡ go_to (at_log g found (start_of (trees_at s) g ∷ []) (all_zero (goods_at s))) s
 begins_log s Assign found v = absurd (false≢true v)
 begins_log s Final found v = refl
 begins_log s Rival found v = refl

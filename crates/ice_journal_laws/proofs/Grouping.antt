@@ -159,7 +159,7 @@ head_begins t s g r n after is pass e P begins = by (head_value g r) refl e
 
 -- ---- the sets
 
-set_text : (front : List Record) (first : Record) (sets : Assignment) (x : NodeSet) → (front ++ first ∷ map line.set sets) ++ line.set x ∷ [] ≡ front ++ first ∷ map line.set (sets ++ x ∷ [])
+pub set_text : (front : List Record) (first : Record) (sets : Assignment) (x : NodeSet) → (front ++ first ∷ map line.set sets) ++ line.set x ∷ [] ≡ front ++ first ∷ map line.set (sets ++ x ∷ [])
 set_text front first sets x = append_assoc front (first ∷ map line.set sets) (line.set x ∷ []) ∙ ap (λ (rs : List Record). front ++ first ∷ rs) (sym (map-append line.set sets (x ∷ [])))
 
 no_log : (front : List Record) (first : Record) (found : Stated) → front ++ first ∷ map line.set found.sets ≡ front ++ proved_records first (so_far found [])

@@ -2,26 +2,27 @@ use Rattle.std.proofs.Common.{◌≡◌, ◌∙◌, ◌^◌, ◌*◌, ◌*ℤ◌
 use mir.Syntax.{w128}
 use Rattle.std.proofs.lemmas.Int.{ints}
 use Rattle.ice_defs.proofs.Products.{product_high, product_low}
+use Rattle.ice_certificate.proofs.Products.{product_read}
 use Rattle.ice_turns.proofs.program.least_above.Goals as goal
 
--- the factors as they are read, and bounds of their product
-product : (c : goal.After-from) → to_z w128 (of_z w128 c.from.result) *ℤ to_z w128 (of_z w128 c.args.number) ≡ pos c.args.den *ℤ c.args.number
-product c =
-    let one : to_z w128 (of_z w128 c.from.result) ≡ pos c.args.den = omega (arith, ints, c.from.ensures, c.requires.den) in
-    let other : to_z w128 (of_z w128 c.args.number) ≡ c.args.number = omega (arith, ints, c.requires.low, c.requires.high) in
-    ap (λ z. z *ℤ to_z w128 (of_z w128 c.args.number)) one ∙ ap (λ z. (pos c.args.den) *ℤ z) other
-
+-- bounds of the product, and the product as it is read
 most : (c : goal.After-from) → (pos c.args.den *ℤ c.args.number) ≤ℤ pos ((2 ^ 49) * (2 ^ 32))
 most c = product_high (pos c.args.den) c.args.number (2 ^ 32) (2 ^ 49) (omega (arith, ints)) (omega (arith, ints, c.requires.den)) c.requires.high
 
 least : (c : goal.After-from) → neg_ℤ (pos ((2 ^ 49) * (2 ^ 32))) ≤ℤ (pos c.args.den *ℤ c.args.number)
 least c = product_low (pos c.args.den) c.args.number (2 ^ 32) (2 ^ 49) (omega (arith, ints)) (omega (arith, ints, c.requires.den)) c.requires.low
 
+low : (c : goal.After-from) → neg_ℤ (pos (2 ^ 89)) ≤ℤ c.args.number
+low c = omega (arith, ints, c.requires.low)
+
+high : (c : goal.After-from) → c.args.number ≤ℤ pos (2 ^ 89)
+high c = omega (arith, ints, c.requires.high)
+
 pub overflow_mul-result : goal.overflow_mul-result
-overflow_mul-result c = omega (arith, ints, product c, least c, most c)
+overflow_mul-result c = omega (arith, ints, product_read _ _ _ c.from.ensures c.requires.den (low c) (high c), least c, most c)
 
 made : (c : goal.After-from) → to_z w128 (of_z w128 (to_z w128 (of_z w128 c.from.result) *ℤ to_z w128 (of_z w128 c.args.number))) ≡ pos c.args.den *ℤ c.args.number
-made c = ap (λ z. to_z w128 (of_z w128 z)) (product c) ∙ omega (arith, ints, least c, most c)
+made c = ap (λ z. to_z w128 (of_z w128 z)) (product_read _ _ _ c.from.ensures c.requires.den (low c) (high c)) ∙ omega (arith, ints, least c, most c)
 
 pub overflow_sub-result : goal.overflow_sub-result
 overflow_sub-result c = omega (arith, ints, made c, least c, most c, c.requires.less_low, c.requires.less_high)
