@@ -6,7 +6,7 @@ use Rattle.std.proofs.lemmas.Option.{none-some}
 use Rattle.ice_defs.specs.Exchange.{Exchange}
 use Rattle.ice_edge.specs.declared.status.Status.{Status}
 use Rattle.ice_edge.specs.declared.status.Status.TheVariants.{Done, Words, Input, No, Spent, Limit, ReadFault, WriteFault, NoMemory, StillOpen}
-use Rattle.ice_branch_laws.specs.Branches.{enough_for_session}
+use Rattle.ice_session_laws.specs.Branches.{enough_for_session}
 use Rattle.ice_command_parts.specs.Call.{Call}
 use Rattle.ice_words.specs.Command.{check, best, regret, xor, replay, gen, run, migrate, simulate, statement, audit, fair, gap, IsCommand}
 use Rattle.ice_session_commands.specs.RunServed.{RunAnswers, RunRefused, RunUnread}

@@ -6,7 +6,7 @@ use Rattle.ice_edge.specs.declared.status.Status.TheVariants.{Done, Input, No, L
 use Rattle.ice_defs.specs.Exchange.{Exchange}
 use Rattle.ice_defs.specs.Round.{Submission}
 use Rattle.ice_read.specs.RoundFile.{bids_of}
-use Rattle.ice_branch_laws.specs.Branches.{enough_for_session, enough_for_regret}
+use Rattle.ice_session_laws.specs.Branches.{enough_for_session, enough_for_regret}
 use Rattle.ice_words.specs.Command.{check, regret, run, IsCommand}
 use Rattle.ice_command_parts.specs.Call.{Call, IsTold, FaultRose, OverlongRose, SinkFaultRose, file_limit, journal_limit}
 use Rattle.ice_command_parts.specs.Files.{IsExchangeOf}

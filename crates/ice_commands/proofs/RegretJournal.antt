@@ -63,9 +63,9 @@ use Rattle.ice_write.proofs.Writable.{writable}
 use Rattle.ice_write_session.specs.Records.{final_records, spent_records}
 use Rattle.ice_write_session.specs.Writable.{IsWritable, IsWritableRegret}
 use Rattle.ice_session_laws.proofs.Worth.{IsWorth, worth_is, worth_is_total}
-use Rattle.ice_branch_laws.specs.Branches.{enough_for_regret}
-use Rattle.ice_branch_laws.specs.Laws.{FinalIsSpent, RivalIsSpent}
-use Rattle.ice_branch_laws.proofs.Regrets.{spent_regret_has_few}
+use Rattle.ice_session_laws.specs.Branches.{enough_for_regret}
+use Rattle.ice_session_laws.specs.BranchLaws.{FinalIsSpent, RivalIsSpent}
+use Rattle.ice_session_laws.proofs.BranchRegrets.{spent_regret_has_few}
 use Rattle.ice_command_parts.specs.Call.{Call, file_limit, OfFile}
 use Rattle.ice_command_parts.specs.Files.{IsExchangeOf}
 use Rattle.ice_command_parts.specs.Journals.{HasExchangeOf, HasFewerThan}

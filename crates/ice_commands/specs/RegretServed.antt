@@ -12,7 +12,7 @@ use Rattle.ice_journal_laws.specs.Written.{regretted_records}
 use Rattle.ice_journal_laws.specs.Theorems.{Says, IsRightRegret}
 use Rattle.ice_journal_laws.specs.Stops.{IsSpent}
 use Rattle.ice_journal_laws.specs.SoFar.{IsUnstopped, IsSoFar}
-use Rattle.ice_branch_laws.specs.Branches.{enough_for_regret}
+use Rattle.ice_session_laws.specs.Branches.{enough_for_regret}
 use Rattle.ice_command_parts.specs.Call.{Call, FaultRose, file_limit, OfFile, IsRefused}
 use Rattle.ice_command_parts.specs.Files.{IsExchangeOf, IsExchangeFault}
 use Rattle.ice_command_parts.specs.Lines.{refused_line, unread_line}

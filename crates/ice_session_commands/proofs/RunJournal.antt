@@ -36,7 +36,7 @@ use Rattle.ice_session_laws.specs.Written.{begun_records, run_records, round_rec
 use Rattle.ice_round.proofs.GoingOn.{more_rounds}
 use Rattle.ice_session_laws.proofs.Sessions.{run_is_unended, run_closes}
 use Rattle.ice_session_laws.proofs.RoundStops.{round_is_unended, round_stops, round_stays_open}
-use Rattle.ice_branch_laws.specs.Branches.{enough_for_session}
+use Rattle.ice_session_laws.specs.Branches.{enough_for_session}
 use Rattle.ice_command_parts.specs.declared.refusal.Refusal.{Refusal}
 use Rattle.ice_command_parts.specs.declared.refusal.Refusal.TheVariants as refusal
 use Rattle.ice_command_parts.specs.Call.{Call, FaultRose, file_limit, OfFile, IsRefused}

@@ -36,7 +36,7 @@ use Rattle.ice_session_laws.specs.Laws.{PricesSought, sought_records}
 use Rattle.ice_session_laws.specs.Written.{run_records}
 use Rattle.ice_session_laws.proofs.Rounds.{round_begins, opening_going}
 use Rattle.ice_session_laws.proofs.Ends.{spends, is_limited, opening_may_be_written, closing_may_be_written, spent_may_be_written, limit_may_be_written}
-use Rattle.ice_branch_laws.proofs.Sessions.{spent_session_has_few}
+use Rattle.ice_session_laws.proofs.BranchSessions.{spent_session_has_few}
 use Rattle.ice_command_parts.specs.Parts.{IsSaid}
 use Rattle.ice_command_parts.proofs.Writing.{nothing_more, failed_piece}
 use Rattle.ice_session_commands.specs.SessionEnds.{EndsSettling, without_memory, opens, closes, limits}

@@ -35,7 +35,7 @@ use Rattle.ice_session_laws.specs.Laws.{sought_records}
 use Rattle.ice_session_laws.specs.Written.{begun_records, run_records, round_records, closed_session, IsSpentJournal, IsLimitedJournal}
 use Rattle.ice_session_laws.proofs.Sessions.{run_is_unended, run_closes}
 use Rattle.ice_session_laws.proofs.RoundStops.{round_is_unended}
-use Rattle.ice_branch_laws.specs.Branches.{enough_for_session}
+use Rattle.ice_session_laws.specs.Branches.{enough_for_session}
 use Rattle.ice_proxy.specs.Sessions.{IsProxyFrom, HoldTruths, AreAccepted, HoldThroughout}
 use Rattle.ice_proxy.proofs.Sessions.{proxies_hold, proxies_reach_regret}
 use Rattle.ice_proxy_laws.specs.Journals.{SubmitsProxies}

@@ -15,7 +15,7 @@ use Rattle.ice_journal_laws.specs.Theorems.{Says}
 use Rattle.ice_journal_laws.specs.Stops.{IsSpent}
 use Rattle.ice_journal_laws.specs.SoFar.{IsUnstopped}
 use Rattle.ice_session_laws.specs.Stops.{IsLimited, OpenSession, open_records, IsRightOpen}
-use Rattle.ice_branch_laws.specs.Branches.{enough_for_session}
+use Rattle.ice_session_laws.specs.Branches.{enough_for_session}
 use Rattle.ice_command_parts.specs.Call.{Call, FaultRose, file_limit, OfFile, IsRefused}
 use Rattle.ice_command_parts.specs.Files.{IsExchangeOf, IsExchangeFault, IsRoundFault}
 use Rattle.ice_command_parts.specs.Lines.{refused_line, unread_line}

@@ -19,7 +19,7 @@ use Rattle.ice_write_session.specs.Records.{closing_records, spent_records, limi
 use Rattle.ice_session_laws.specs.Running.{IsInRound}
 use Rattle.ice_session_laws.specs.Laws.{sought_records}
 use Rattle.ice_session_laws.specs.Written.{run_records, round_records, IsSpentJournal, IsLimitedJournal}
-use Rattle.ice_branch_laws.specs.Branches.{enough_for_session}
+use Rattle.ice_session_laws.specs.Branches.{enough_for_session}
 
 -- behind settlements that went on: nothing is written of the next one, or it opened a round; it
 -- closes; a search was spent; or its pricing ended at a limit

@@ -17,7 +17,7 @@ use Rattle.ice_journal_laws.specs.Theorems.{Says}
 use Rattle.ice_journal_laws.specs.Stops.{IsSpent}
 use Rattle.ice_journal_laws.specs.SoFar.{IsSoFar, IsUnstopped}
 use Rattle.ice_session_laws.specs.Stops.{IsLimited}
-use Rattle.ice_branch_laws.specs.Branches.{enough_for_session}
+use Rattle.ice_session_laws.specs.Branches.{enough_for_session}
 use Rattle.ice_proxy.specs.Sessions.{IsProxySession, HoldThroughout, AreAccepted}
 use Rattle.ice_proxy.specs.Laws.{NoTradeBeatsAtTruths}
 use Rattle.ice_proxy_laws.specs.Journals.{SubmitsProxies}

@@ -15,8 +15,8 @@ use Rattle.ice_bound.proofs.Fixings.{free_fixings, marked_fixings}
 use Rattle.ice_refute.specs.Waiting.{nodes_of, free_count}
 use Rattle.ice_refute.proofs.Kept.{free_count-le, nodes_of-with_mark}
 use Rattle.ice_refute.proofs.Counting.{log_is_short}
-use Rattle.ice_branch_laws.specs.Branches.{node_total}
-use Rattle.ice_branch_laws.specs.Laws.{GroupLogIsShort}
+use Rattle.ice_session_laws.specs.Branches.{node_total}
+use Rattle.ice_session_laws.specs.BranchLaws.{GroupLogIsShort}
 
 free_nodes : (ts : List Tree) → sum (nodes_of (free_side ts)) ≡ sum_by (λ (t : Tree). length t) ts
 free_nodes [] = refl

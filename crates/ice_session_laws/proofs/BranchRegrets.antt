@@ -2,8 +2,8 @@
 use Rattle.std.proofs.Common.{inl, inr, arith}
 use Rattle.ice_defs.specs.Weighing.{lower_weights, perturbed_weights}
 use Rattle.ice_defs.specs.declared.Group.TheVariants.{Final, Rival}
-use Rattle.ice_branch_laws.specs.Laws.{SpentRegretHasFew}
-use Rattle.ice_branch_laws.proofs.Logs.{group_log_is_short}
+use Rattle.ice_session_laws.specs.BranchLaws.{SpentRegretHasFew}
+use Rattle.ice_session_laws.proofs.BranchLogs.{group_log_is_short}
 
 pub spent_regret_has_few : SpentRegretHasFew
 spent_regret_has_few ex bounds (inl (spent, is)) =

@@ -26,9 +26,9 @@ use Rattle.ice_round.specs.Searches.{final_search, settlement_branches, IsSettle
 use Rattle.ice_round.specs.Ends.{at_final, at_rival, at_without, at_provisional}
 use Rattle.ice_round.proofs.GoingOn.{more_rounds}
 use Rattle.ice_session_laws.specs.Running.{IsRunning}
-use Rattle.ice_branch_laws.specs.Branches.{node_total, enough_for_session}
-use Rattle.ice_branch_laws.specs.Laws.{SpentSessionHasFew}
-use Rattle.ice_branch_laws.proofs.Logs.{group_log_is_short}
+use Rattle.ice_session_laws.specs.Branches.{node_total, enough_for_session}
+use Rattle.ice_session_laws.specs.BranchLaws.{SpentSessionHasFew}
+use Rattle.ice_session_laws.proofs.BranchLogs.{group_log_is_short}
 
 -- ---- sums
 

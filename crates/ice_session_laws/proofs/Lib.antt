@@ -26,3 +26,9 @@ pub mod Limiting
 pub mod Verdicts
 -- stops of a session, and what may be written, from what a settlement gives
 pub mod Ends
+-- a log that passes from the start of a group has few branch steps
+pub mod BranchLogs
+-- the two searches of a regret have enough branches
+pub mod BranchRegrets
+-- the searches of a session, settlement by settlement, have enough branches
+pub mod BranchSessions

@@ -17,7 +17,7 @@ use Rattle.ice_vickrey.specs.declared.marginal.Marginal.{Marginal}
 use Rattle.ice_round.specs.SessionAt.{SessionAt}
 use Rattle.ice_round.specs.Ends.{IsSpentAt}
 use Rattle.ice_session_laws.specs.Running.{IsRunning}
-use Rattle.ice_branch_laws.specs.Branches.{node_total, enough_for_session, enough_for_regret}
+use Rattle.ice_session_laws.specs.Branches.{node_total, enough_for_session, enough_for_regret}
 
 -- a log that passes from the start of a group has fewer branch steps than 2 to the number of nodes
 abbrev pub GroupLogIsShort : Type 0

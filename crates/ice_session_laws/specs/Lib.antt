@@ -2,3 +2,5 @@ pub mod Running
 pub mod Stops
 pub mod Written
 pub mod Laws
+pub mod Branches
+pub mod BranchLaws

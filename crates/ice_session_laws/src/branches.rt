@@ -1,12 +1,10 @@
 //! Laws of branches: where a search of a session or of a regret is spent, the settings allowed
-//! fewer branches than the number of nodes and of searches asks for. It has no code.
-#![tactic(auto)]
-
-ghost use Rattle.ice_branch_laws.specs.Laws.{GroupLogIsShort, SpentRegretHasFew, SpentSessionHasFew};
+//! fewer branches than the number of nodes and of searches asks for.
+ghost use Rattle.ice_session_laws.specs.BranchLaws.{GroupLogIsShort, SpentRegretHasFew, SpentSessionHasFew};
 
 /// A log that passes from the start of a group has fewer branch steps than 2 to the number of
 /// nodes.
-#[tactic(auto, using(crate::proofs::Logs::group_log_is_short))]
+#[tactic(auto, using(crate::proofs::BranchLogs::group_log_is_short))]
 pub fn group_log_is_short()
     ensures { GroupLogIsShort }
 {}
@@ -20,7 +18,7 @@ pub fn spent_regret_has_few()
 /// Where a search of a session is spent, there were fewer branches than 2 to the number of nodes
 /// for each search that a session may have: three a settlement that goes on, two of the last one,
 /// and one without each bidder.
-#[tactic(auto, using(crate::proofs::Sessions::spent_session_has_few))]
+#[tactic(auto, using(crate::proofs::BranchSessions::spent_session_has_few))]
 pub fn spent_session_has_few()
     ensures { SpentSessionHasFew }
 {}

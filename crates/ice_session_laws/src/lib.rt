@@ -3,6 +3,10 @@
 //! no code.
 #![tactic(auto)]
 
+mod branches;
+
+pub use branches::{group_log_is_short, spent_regret_has_few, spent_session_has_few};
+
 ghost use Rattle.ice_session_laws.specs.Laws.{RunBegins, RoundBegins, RoundGoesOn, RoundEnds, RunIsUnended, RoundIsUnended, RunCloses, RoundStops, RoundStaysOpen, RunSpends, RunIsLimited, VerdictMayBeWritten, OpeningMayBeWritten, ClosingMayBeWritten, SpentMayBeWritten, LimitMayBeWritten};
 
 /// At its start a session of an exchange runs, with no settlement behind it.
