@@ -1,6 +1,6 @@
 -- The test `is_satisfied` decides which sets are satisfied.
-use Rattle.std.proofs.Common.{ℕ, ◌<◌, ◌≤◌, ◌≡◌, Bool, true, false, cond, ◌&&◌, not, ltb, [], ◌∷◌, length, Option, Some, None, refl, ap, ◌∙◌, ◌⊎◌, inl, inr, subst}
-use Rattle.std.specs.Prelude.{is_none, filter_map}
+use Rattle.std.proofs.Common.{ℕ, ◌<◌, ◌≤◌, ◌≡◌, Bool, true, false, cond, ◌&&◌, not, ltb, length, Option, Some, None, refl, ap, ◌∙◌, ◌⊎◌, inl, inr, subst}
+use Rattle.std.specs.Prelude.{is_none}
 use Rattle.std.proofs.lemmas.Bool.{cases_lt, both_ways, and_parts, and_from, and_left, and_right, eqb-true, eq-eqb, lt-ltb, le-ltb}
 use Rattle.ice_defs.specs.declared.SatRule.{SatRule}
 use Rattle.ice_defs.specs.declared.SatRule.TheVariants.{Parent}
@@ -13,10 +13,6 @@ use Rattle.ice_defs.proofs.Choices.{is_none-true}
 use Rattle.ice_tree.proofs.Satisfied.{IsWithin-from_none, none-from_IsWithin}
 
 -- ---- the first of some options
-
-one_none : {X : Type 0} (o : Option X) → filter_map (λ (n : ℕ). o) (0 ∷ []) ≡ [] → o ≡ None
-one_none None e = refl
-one_none (Some x) e = absurd (cc)
 
 -- ---- the faults of a node
 

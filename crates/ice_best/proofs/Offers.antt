@@ -26,10 +26,6 @@ number-true : (b : Bool) → 1 ≤ number b → b ≡ true
 number-true true h = refl
 number-true false h = absurd (omega arith)
 
-number-zero : (b : Bool) → number b ≡ 0 → b ≡ false
-number-zero true h = absurd (omega arith)
-number-zero false h = refl
-
 -- ---- how often a child is offered
 
 module _ (c : ℕ) where

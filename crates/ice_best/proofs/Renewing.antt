@@ -1,7 +1,6 @@
 -- A table that is filled anew from a node up to the root.
-use Rattle.std.proofs.Common.{ℕ, ◌<◌, ◌≤◌, ◌≡◌, ◌≢◌, true, length, set, ℤ, arith, ap, sym, subst, ◌∙◌, ◌⊎◌, inl, inr}
+use Rattle.std.proofs.Common.{ℕ, ◌<◌, ◌≤◌, ◌≡◌, ◌≢◌, true, length, arith, ap, sym, subst, ◌∙◌, ◌⊎◌, inl, inr}
 use Rattle.std.proofs.lemmas.Bool.{cases_eq, cases_lt}
-use Rattle.std.proofs.lemmas.List.{length-set}
 use Rattle.ice_defs.specs.Tree.{Tree, IsTree, parent_of, is_child}
 use Rattle.ice_defs.specs.Set.{Weights, has, weight_of}
 use Rattle.ice_defs.specs.Fixing.{Fixing}
@@ -10,7 +9,6 @@ use Rattle.ice_best.specs.Entries.{HasEntry, AreEntries, AreOtherEntries, Change
 use Rattle.ice_best.proofs.Children.{filter_at}
 use Rattle.ice_best.proofs.Frame.{IsEntry-same, IsEntry-weight, IsEntry-mark}
 use Rattle.ice_best.proofs.Bounding.{child_after}
-use Rattle.ice_best.proofs.NewEntry.{weight_of-put_other}
 
 -- where the weight of one node changed, the other entries are right
 pub others_at_first : (t : Tree) (v w : Weights) (x : Fixing) (table : Table) (node : ℕ) → IsTableOf t v x table → DifferOnlyAt node v w → AreOtherEntries t w x table node
@@ -78,10 +76,3 @@ module _ (t : Tree) (w : Weights) (x : Fixing) (old new : Table) (n : ℕ) (tree
         by : (k < n) ⊎ (n ≤ k) → HasEntry t w x new k
         by (inr m) = entries k m l
         by (inl m) = kept_entry k m (λ c h child. same c) (others k (omega (arith, m)) l)
-
--- one weight that is put differs at most there
-pub DifferOnlyAt-put : (w : Weights) (node : ℕ) (v : ℤ) → DifferOnlyAt node w (set w node v)
-DifferOnlyAt-put w node v = record {
-  same_length = sym (length-set w node v);
-  same = λ n ne. sym (weight_of-put_other w node n v ne);
-}

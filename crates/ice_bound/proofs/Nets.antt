@@ -6,10 +6,8 @@ use Rattle.ice_defs.specs.Set.{NodeSet, Weights, AllSmall, value}
 use Rattle.ice_defs.specs.Fixing.{Fixing}
 use Rattle.ice_defs.specs.Greatest.{IsGreatest}
 use Rattle.ice_defs.specs.Bound.{Multipliers, net, IsOpen}
-use Rattle.ice_best.specs.Nets.{net_at_rates, AreAtMostTrillion, AreNetWeights, AreRates}
+use Rattle.ice_best.specs.Nets.{net_at_rates, AreNetWeights}
 use Rattle.ice_best.proofs.NetValues as at_rates
-use Rattle.ice_defs.specs.Conditions.{AreModest}
-use Rattle.ice_bound.specs.Multipliers.{AreInRange}
 
 pub value-nets : (t : Tree) (w : Weights) (m : Multipliers) (nets : Weights) (s : NodeSet) → AreNetWeights t w 64 m 1 nets → length s ≡ length t → value s nets ≡ net t w m s
 value-nets t w m nets s are size = at_rates.value-nets t w 64 m 1 nets s are size ∙ once
@@ -33,17 +31,3 @@ pub greatest-small : (t : Tree) (nets : Weights) (x : Fixing) (v : ℤ) → leng
 greatest-small t nets x v few nodes small is =
     let (s, o, same) = is.attained in
     at_rates.value-small t s nets v few nodes small (o.0).same_length same
-
--- modest weights are at most a trillion
-pub modest-trillion : (w : Weights) → AreModest w → AreAtMostTrillion w
-modest-trillion w modest = record {
-  low = λ n there. omega (arith, ints, modest.low n there);
-  high = λ n there. omega (arith, ints, modest.high n there);
-}
-
--- multipliers are rates
-pub multipliers-rates : (m : Multipliers) → AreInRange m → AreRates m
-multipliers-rates m ranged = record {
-  low = λ g there. omega (arith, ints, (ranged g there).low);
-  high = λ g there. omega (arith, ints, (ranged g there).high);
-}

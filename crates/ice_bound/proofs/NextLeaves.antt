@@ -11,8 +11,8 @@ use Rattle.ice_defs.specs.Set.{NodeSet, has, leaf_units}
 use Rattle.ice_defs.proofs.Choices.{cond-same}
 use Rattle.ice_bound.specs.declared.direction.Direction.{Direction}
 use Rattle.ice_bound.specs.declared.leaves.Leaves.{Leaves}
-use Rattle.ice_bound.specs.Kept.{NodeStands, Stands}
-use Rattle.ice_bound.specs.Leaves.{is_leaf_of, IsWithout, IsNextLeaf, AreLeavesOf}
+use Rattle.ice_bound.specs.Kept.{NodeStands}
+use Rattle.ice_bound.specs.Leaves.{is_leaf_of, IsWithout, IsNextLeaf}
 
 -- ---- what stands up to the next leaf
 
@@ -25,14 +25,6 @@ node_without : (kind : NodeKind) (g : ℕ) (inside : Bool) (direction : Directio
 node_without (Choose least most) g inside direction other = tt
 node_without (Buy good units) g inside direction other = λ e. absurd (eqb-false good g other e)
 node_without (Sell good units) g inside direction other = λ e. absurd (eqb-false good g other e)
-
--- other nodes stand
-pub others_stand : (t : Tree) (s : NodeSet) (g : ℕ) (direction : Direction) (a b : ℕ) → IsWithout t g a b → Stands t s g direction a → Stands t s g direction b
-others_stand t s g direction a b without stands k h = by (cases_lt k a)
-  where
-    by : (k < a) ⊎ (a ≤ k) → NodeStands (kind_of t k) g (has s k) direction
-    by (inl l) = stands k l
-    by (inr l) = node_without (kind_of t k) g (has s k) direction (without k l h)
 
 -- and have no units
 abbrev units_at : Tree → NodeSet → ℕ → ℕ → ℤ
@@ -74,19 +66,6 @@ nearer t g n b other is = record {
     by : (k : ℕ) → (k ≡ n) ⊎ (k ≡ n → ⊥) → n ≤ k → k < b → is_leaf_of (kind_of t k) g ≡ false
     by k (inl e) h l = ap (λ j. is_leaf_of (kind_of t j) g) e ∙ other
     by k (inr ne) h l = is.none_between k (omega (arith, h, ne)) l
-
--- no leaf at all
-pub no_leaf_more : (t : Tree) (leaves : Leaves) (n : ℕ) → ((g : ℕ) → is_leaf_of (kind_of t n) g ≡ false) → AreLeavesFrom t leaves (n + 1) → AreLeavesFrom t leaves n
-no_leaf_more t leaves n none is = record {
-  first_there = is.first_there;
-  next_there = is.next_there;
-  first = λ g h. nearer t g n _ (none g) (is.first g h);
-  next = λ k g h l leaf. by k g (cases_eq k n) h l leaf;
-}
-  where
-    by : (k g : ℕ) → (k ≡ n) ⊎ (k ≡ n → ⊥) → n ≤ k → k < length t → is_leaf_of (kind_of t k) g ≡ true → IsNextLeaf t g (k + 1) (get_or leaves.next k 0)
-    by k g (inl e) h l leaf = let off : is_leaf_of (kind_of t k) g ≡ false = ap (λ j. is_leaf_of (kind_of t j) g) e ∙ none g in absurd cc
-    by k g (inr ne) h l leaf = is.next k g (omega (arith, h, ne)) l leaf
 
 -- a leaf is of one good
 one_good : (kind : NodeKind) (g h : ℕ) → is_leaf_of kind g ≡ true → h ≢ g → is_leaf_of kind h ≡ false
@@ -144,6 +123,3 @@ no_leaves t n end = record {
   };
   next = λ k g h l leaf. absurd (omega (arith, h, l, end));
 }
-
-pub all_leaves_of : (t : Tree) (leaves : Leaves) → AreLeavesFrom t leaves 0 → AreLeavesOf t leaves
-all_leaves_of t leaves is = record { first = is.first; next = λ n g h leaf. is.next n g (omega arith) h leaf }

@@ -96,9 +96,6 @@ node_net-other t w good before m n differ other =
 pub set_differs : (m : Multipliers) (good : ℕ) (z : ℤ) → DifferOnlyIn good m (set m good z)
 set_differs m good z g ne = sym (get_or-set_other m good g z (pos 0) ne)
 
-pub set_differs_back : (m : Multipliers) (good : ℕ) (z : ℤ) → DifferOnlyIn good (set m good z) m
-set_differs_back m good z g ne = get_or-set_other m good g z (pos 0) ne
-
 -- a tree without a leaf of the good keeps its table
 pub without_table : (t : Tree) (w : Weights) (good : ℕ) (before m : Multipliers) (x : Fixing) (table : NetTable) → DifferOnlyIn good before m → IsWithout t good 0 (length t)
     → IsNetTable t w before x table → IsNetTable t w m x table

@@ -1,5 +1,5 @@
 -- What is known of a last settlement that is kept.
-use Rattle.std.proofs.Common.{ℕ, ◌*◌, ◌/◌, ◌<◌, ◌≤◌, ◌^◌, ◌≡◌, List, length, map, ℤ, pos, arith, ap, sym, subst, ◌∙◌}
+use Rattle.std.proofs.Common.{ℕ, ◌*◌, ◌/◌, ◌<◌, ◌≤◌, ◌^◌, ◌≡◌, List, length, map, ℤ, pos, arith, sym, subst, ◌∙◌}
 use Rattle.std.specs.List.{AllByRecursion}
 use Rattle.std.proofs.lemmas.Int.{ints}
 use Rattle.std.proofs.lemmas.List.{length-map, get_or-map}
@@ -24,7 +24,7 @@ use Rattle.ice_pricing.specs.Bounding.{AreBoundsOf}
 use Rattle.ice_pricing.proofs.Weighing.{tree-limited}
 use Rattle.ice_fair_laws.specs.Run.{IsCutDen}
 use Rattle.ice_fair_laws.specs.Laws.{IsPaidTrade}
-use Rattle.ice_fair.specs.Lasts.{LastTrade, IsLast, IsShortPayment, nums_of, trade_of, last_at}
+use Rattle.ice_fair.specs.Lasts.{LastTrade, IsLast, IsShortPayment, nums_of, trade_of}
 use Rattle.ice_defs.specs.Bounds.{Bounds}
 use Rattle.ice_fair.specs.Kept.{IsKept}
 use Rattle.ice_fair.specs.Trades.{num_at, AreNumbers}
@@ -71,9 +71,6 @@ module _ (l : LastTrade) (is : IsLast l) where
 
 -- of a last settlement as it is kept
 module _ (l m : LastTrade) (bounds : List Bounds) (nums : List ℤ) (is : IsKept l bounds nums) (same : l ≡ m) where
-  pub kept-last : IsLast m
-  kept-last = subst IsLast same is.last
-
   pub kept-numbers : AreNumbers (trade_of m.paid) m.cut nums
   kept-numbers = subst (λ (z : LastTrade). AreNumbers (trade_of z.paid) z.cut nums) same (subst (AreNumbers (trade_of l.paid) l.cut) (sym is.nums_are) (nums-are l is.last))
 
@@ -121,6 +118,3 @@ module _ (ex : Exchange) (bounds low : List Bounds) (ws : List Weights) (sets : 
     weights = weights;
     nums_are = numbers;
   }
-
-  pub kept-is : kept_with ex ws sets payments cut ≡ last_at ex bounds sets payments cut
-  kept-is = ap (λ (w : List Weights). kept_with ex w sets payments cut) (weights ∙ ap (weighted_weights ex.settings.weight) lows)

@@ -1,19 +1,16 @@
 -- Low bounds: no tree refuses them, and they are bounds of the same bidders.
-use Rattle.std.proofs.Common.{ℕ, ◌+◌, ◌<◌, ◌≡◌, true, false, None, List, [], ◌∷◌, ◌++◌, length, take, refl, arith, ap, sym, subst, ◌∙◌}
+use Rattle.std.proofs.Common.{ℕ, ◌+◌, ◌<◌, ◌≡◌, true, false, None, List, [], ◌∷◌, ◌++◌, length, take, refl, arith, ap, sym, ◌∙◌}
 use Rattle.std.specs.Prelude.{◌==◌}
 use Rattle.std.specs.List.{list_all}
 use Rattle.std.proofs.lemmas.Int.{ints}
 use Rattle.std.proofs.lemmas.Bool.{eq-eqb}
 use Rattle.std.proofs.lemmas.List.{length-map, get_or-map, take_more}
 use Rattle.ice_defs.specs.Bounds.{Bounds, bounds_of, no_bounds}
-use Rattle.ice_defs.specs.Exchange.{Exchange, trees_of}
-use Rattle.ice_defs.specs.Trade.{tree_of}
 use Rattle.ice_defs.specs.Lawful.{AreBounds}
 use Rattle.ice_defs.specs.Making.{is_value}
 use Rattle.ice_defs.proofs.Values.{all_values}
 use Rattle.ice_tree.specs.Bounds.{bounds_refusal, are_crossed}
 use Rattle.ice_tree.proofs.Bounding.{are_crossed-same}
-use Rattle.ice_pricing.specs.Bounding.{AreBoundsOf}
 use Rattle.ice_fair_laws.specs.Fair.{low_bounds}
 
 abbrev pub lowered : Bounds → Bounds
@@ -43,13 +40,3 @@ one_bidder_more bs done n b there so_far is =
     let there_too : n < length (low_bounds bs) = omega (arith, there, length-map bs lowered) in
     let at : bounds_of (low_bounds bs) n ≡ lowered (bounds_of bs n) = get_or-map lowered bs n no_bounds no_bounds there in
     ap (λ (ds : List Bounds). ds ++ b ∷ []) so_far ∙ ap (λ (z : Bounds). take n (low_bounds bs) ++ z ∷ []) (is ∙ sym at) ∙ sym (take_more (low_bounds bs) n no_bounds there_too)
-
--- all of them are bounds of the same bidders
-pub low-bounds_of : (ex : Exchange) (bs : List Bounds) → AreBoundsOf ex bs → AreBoundsOf ex (low_bounds bs)
-low-bounds_of ex bs are = record {
-  count = length-map bs lowered ∙ are.count;
-  each = λ b h.
-      let there : b < length bs = omega (arith, h, length-map bs lowered) in
-      let at : bounds_of (low_bounds bs) b ≡ lowered (bounds_of bs b) = get_or-map lowered bs b no_bounds no_bounds there in
-      subst (AreBounds (length (tree_of (trees_of ex) b))) (sym at) (lowered-are (length (tree_of (trees_of ex) b)) (bounds_of bs b) (are.each b there));
-}

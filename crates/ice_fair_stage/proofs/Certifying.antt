@@ -5,12 +5,12 @@ use Rattle.std.specs.List.{AllByRecursion}
 use Rattle.std.proofs.lemmas.List.{length-append, length-map, length-take-le, get_or_append_left, get_or-append-add, drop_all, take_all, take-append-le, drop-append-le, map-append}
 use Rattle.std.proofs.lemmas.List.Elements.{All-from_recursion, recursion_from_All, All-take, All-drop}
 use Rattle.ice_defs.specs.Sum.{numbers_below}
-use Rattle.ice_defs.specs.Fraction.{Fraction, whole_number, IsFraction, times}
+use Rattle.ice_defs.specs.Fraction.{Fraction, IsFraction}
 use Rattle.ice_defs.specs.Program.{AreNonNegative}
 use Rattle.ice_defs.specs.PricingRun.{Member, common_den, num_over}
 use Rattle.ice_defs.specs.Rows.{Row}
 use Rattle.ice_defs.proofs.Lists.{all-append}
-use Rattle.ice_pricing_laws.specs.Weights.{lowest_of, weights_of_duals, nums_over, rows_with}
+use Rattle.ice_pricing_laws.specs.Weights.{weights_of_duals, nums_over, rows_with}
 use Rattle.ice_pricing_laws.proofs.Lists.{all-at, all-map, all-below, length-map_below}
 use Rattle.ice_pricing_laws.proofs.Lowered.{num-low, multiple-low}
 use Rattle.ice_turns.specs.Large.{IsLarge, AreLarge}
@@ -47,9 +47,6 @@ module _ (cut den : ℕ) (own members : List Fraction) (low : AreNonNegative own
       weighed-low : (d factor : ℕ) (fs : List Fraction) → AreNonNegative fs → AllByRecursion (λ w. pos 0 ≤ℤ num_over d w) (weights_of_duals factor fs)
       weighed-low d factor [] h = tt
       weighed-low d factor (f ∷ fs) (h, hs) = (num-low d _ (multiple-low factor f h.0 h.1), weighed-low d factor fs hs)
-
-  pub all-long : length all ≡ length own + length members
-  all-long = omega (arith, length-append (weights_of_duals cut own) (weights_of_duals den members), length-map own (λ y. lowest_of (times (whole_number (pos cut)) y)), length-map members (λ y. lowest_of (times (whole_number (pos den)) y)))
 
 -- ---- the certificate
 

@@ -7,7 +7,6 @@ use Rattle.ice_defs.specs.Sum.{numbers_below}
 use Rattle.ice_defs.specs.Program.{Constraint, Program}
 use Rattle.ice_defs.specs.PricingRun.{Member, only_at}
 use Rattle.ice_defs.proofs.Below.{length-numbers_below}
-use Rattle.ice_pricing_laws.proofs.Lists.{length-only_at}
 use Rattle.ice_pricing.specs.Provisional.{ProvisionalTrade}
 use Rattle.ice_fair_laws.specs.FairRun.{over_row, under_row}
 use Rattle.ice_fair_laws.proofs.FairColumns.{length-pairs}
@@ -29,9 +28,6 @@ module _ (t : ProvisionalTrade) (at : FairStage) where
   -- the rows of the first goods and bidders, and of some members
   abbrev pub made_of : ℕ → ℕ → List Member → Program
   made_of g b pool = of_rows (goods_of g ++ (bidders_of b ++ members_of pool))
-
-  pub made-columns : (g b : ℕ) (pool : List Member) → length (made_of g b pool).costs ≡ t.goods + 1
-  made-columns g b pool = omega (arith, length-only_at (suc t.goods) t.goods (pos 1))
 
   pub made-rows : (g b : ℕ) (pool : List Member) → length (made_of g b pool).rows ≡ g + (2 * b + length pool)
   made-rows g b pool =
@@ -66,14 +62,6 @@ module _ (t : ProvisionalTrade) (at : FairStage) where
       ∙ ap (λ n. flat_map f (numbers_below n)) (sym (add-one b))
       ∙ sym (append-nil (bidders_of (b + 1)))
       )
-      )
-
-  pub member-more : (g b : ℕ) (front : List Member) (m : Member) → with_rows (made_of g b front) (row_of t at m ∷ []) ≡ made_of g b (front ++ m ∷ [])
-  member-more g b front m =
-      let f = row_of t at in
-      ap of_rows (
-      append_assoc (goods_of g) (bidders_of b ++ map f front) (f m ∷ [])
-      ∙ ap (λ xs. goods_of g ++ xs) (append_assoc (bidders_of b) (map f front) (f m ∷ []) ∙ ap (λ xs. bidders_of b ++ xs) (sym (map-append f front (m ∷ []))))
       )
 
   -- it is the stage's program

@@ -21,7 +21,7 @@ use Rattle.ice_fair_laws.proofs.Fairs.{fair_traces_solve, fair_is_within, fair_i
 use Rattle.ice_fair_laws.proofs.Turns.{fair_is_shaped}
 use Rattle.ice_fair_stage.specs.Certified.{weights_at}
 use Rattle.ice_fair_stage.specs.Stages.{FairStage, paid, IsStage, IsState, IsSolved, program_over}
-use Rattle.ice_fair_stage.specs.Turns.{IsStopped, IsRunStopped}
+use Rattle.ice_fair_stage.specs.Turns.{IsStopped}
 
 -- the accurate prices over the stage's denominator make a market of it
 pub record HasMarket (t : ProvisionalTrade) (at : FairStage) : Type 0 where
@@ -90,10 +90,6 @@ module _ (t : ProvisionalTrade) (at : FairStage) (pool : List Member) where
   stopped p (AtLimit Rows) e is = absurd is
   stopped p (AtLimit Den) e is = absurd is
   stopped p WithoutMemory e is = tt
-
-  pub run-stopped : (stop : Stop) → IsState t at pool → IsStopped t at pool stop → IsRunStopped t at pool stop
-  run-stopped (AtLimit kind) state is = record { turn = state.pool_is; limit = is }
-  run-stopped WithoutMemory state is = tt
 
 -- what a scan with the stage's violation leads to
 module _ (t : ProvisionalTrade) (at : FairStage) (pool : List Member) (x y : List Fraction) (is : IsSolved t at pool x y) (p : Prices) (same : p ≡ prices_at (paid t at) x)

@@ -1,6 +1,5 @@
 -- A seller, sale by sale.
-use Rattle.std.proofs.Common.{ℕ, zero, suc, ◌+◌, ◌*◌, ◌<◌, ◌≡◌, true, false, ◌&&◌, ltb, eqb, List, [], ◌∷◌, length, None, refl, arith, ap, sym, ◌∙◌}
-use Rattle.std.specs.Prelude.{slice_set, replicate}
+use Rattle.std.proofs.Common.{ℕ, zero, suc, ◌+◌, ◌*◌, ◌≡◌, true, false, ◌&&◌, ltb, eqb, List, [], ◌∷◌, length, None, refl, arith, ap, sym, ◌∙◌}
 use Rattle.std.proofs.lemmas.List.{length_push}
 use Rattle.std.proofs.Math.Numerals.{add-one}
 use Rattle.std.proofs.lemmas.Bool.{and_right}
@@ -8,10 +7,9 @@ use Rattle.ice_defs.specs.declared.NodeKind.TheVariants.{Choose, Sell}
 use Rattle.ice_defs.specs.Making.{is_complete, innermost}
 use Rattle.ice_tree.specs.Making.{draft_close_refusal, all_but_first}
 use Rattle.ice_gen.specs.declared.valued.Valued.{Valued}
-use Rattle.ice_gen.specs.Generated.{draws, no_value, sale_value, seller, seller_draws, owned_one}
+use Rattle.ice_gen.specs.Generated.{draws, no_value, sale_value, seller, seller_draws}
 use Rattle.ice_gen.specs.Drawing.{state_after}
 use Rattle.ice_gen.specs.Growing.{ValuedDraft, no_nodes, with_valued, with_choose, draft_of}
-use Rattle.ice_gen.proofs.Numbers.{below_4}
 
 -- the state after so many sales
 unfoldable pub sale_state : ℕ → ℕ → ℕ
@@ -78,6 +76,3 @@ values-sold i x = refl
 pub sale_state-all : (x : ℕ) → sale_state 3 x ≡ state_after 9 x
 unfolding sale_state state_after
 sale_state-all x = refl
-
-pub owned-written : (i : ℕ) → i < 4 → slice_set (slice_set (slice_set (replicate 12 0) (3 * i) 1) (3 * i + 1) 1) (3 * i + 2) 1 ≡ owned_one i
-owned-written i l = below_4 (λ i. slice_set (slice_set (slice_set (replicate 12 0) (3 * i) 1) (3 * i + 1) 1) (3 * i + 2) 1 ≡ owned_one i) refl refl refl refl i l

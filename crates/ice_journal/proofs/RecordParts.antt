@@ -396,10 +396,6 @@ none_after row rest none r lawful e =
     let found = in_row row rest r e in
     none found.0 (subst IsRecord found.1 lawful) found.2
 
--- a part is read, so its record is
-pub some_after : (row : Row) (p : Part row) (rest : List (List ℕ)) → FindsPart row (Some p) rest → Finds (Some (make row p)) IsRecord fields_of (words_of row ++ rest)
-some_after row p rest found = (found.0, ap (λ (fs : List (List ℕ)). words_of row ++ fs) found.1 ∙ sym (fields_are row p))
-
 word_of_row : (row : Row) (rest : List (List ℕ)) → (w : Word) × (after : List (List ℕ)) × (words_of row ++ rest ≡ word_text w ∷ after)
 word_of_row ice_row rest = (word.Ice, rest, refl)
 word_of_row settings_row rest = (word.Settings, rest, refl)

@@ -9,7 +9,7 @@ use Rattle.ice_journal_laws.specs.declared.rule.Rule.TheVariants as rule
 use Rattle.ice_journal_laws.specs.State.{Place, done, State, begun}
 use Rattle.ice_journal_laws.specs.Next.{next_at, next, to_line, after_all}
 use Rattle.ice_journal_laws.specs.Tests.{IsStop}
-use Rattle.ice_journal_laws.specs.Checks.{Tested, passes, is_short, fails, is_checked, Checks}
+use Rattle.ice_journal_laws.specs.Checks.{Tested, passes, fails, is_checked, Checks}
 use Rattle.ice_journal_laws.specs.Progress.{Progress, passing, TakesOn, passes_on, fails_at, list_fails_at, EndsList, Leads, stays, goes}
 use Rattle.ice_journal_laws.specs.Carrying.{Carries}
 use Rattle.ice_journal_laws.proofs.Leading.{failed_passes, leads_tested}
@@ -67,13 +67,6 @@ carries_tested version kind rest t h e =
 
 pub carries_checks : (version : Version) (kind : Kind) (rest : List Record) (t : State) → is_checked version kind ≡ true → Carries (begun version kind) rest t → t.place ≡ done → Checks (line.head version kind ∷ rest)
 carries_checks version kind rest t checked h e = (checked, carries_tested version kind rest t h e)
-
--- or it ends early
-pub carries_short : (version : Version) (kind : Kind) (rest : List Record) (t : State) → Carries (begun version kind) rest t → t.place ≢ done
-    → (n : ℕ) × Tested (begun version kind) rest (Some (record { line = n; rule = rule.Short }))
-carries_short version kind rest t h ne =
-    let (m, l) = h.leads 2 in
-    (m, subst (λ (rs : List Record). Tested (begun version kind) rs (Some (record { line = m; rule = rule.Short }))) (append-nil rest) (leads_tested (begun version kind) (to_line m t) rest [] _ l (is_short ne)))
 
 -- or a stop stands in it, whatever comes after the stop
 pub carries_stopped : (version : Version) (kind : Kind) (before rest : List Record) (r : Record) (t : State) → Carries (begun version kind) before t → ((n : ℕ) → EndsList (to_line n t) r) → ((n : ℕ) → IsStop (to_line n t) r)

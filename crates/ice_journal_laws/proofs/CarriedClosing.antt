@@ -1,5 +1,5 @@
 -- The closing of a session: the groups without each bidder, the cut, the payments and the end.
-use Rattle.std.proofs.Common.{◌≡◌, ◌+◌, ◌<◌, ℕ, suc, Bool, cond, eqb, List, [], ◌∷◌, ◌++◌, length, map, get_or, ℤ, pos, refl, sym, ◌∙◌, ap, subst, arith, append_assoc}
+use Rattle.std.proofs.Common.{◌≡◌, ◌+◌, ℕ, suc, Bool, cond, eqb, List, [], ◌∷◌, ◌++◌, length, map, get_or, ℤ, pos, refl, sym, ◌∙◌, ap, subst, arith, append_assoc}
 use Rattle.std.specs.Prelude.{Some, None, option_map}
 use Rattle.std.proofs.lemmas.Bool.{false≢true, eq-eqb, ne_eqb}
 use Rattle.std.proofs.lemmas.Option.{none-some}
@@ -21,7 +21,7 @@ use Rattle.ice_journal_laws.specs.Written.{payment_record}
 use Rattle.ice_journal_laws.specs.Carrying.{Carries}
 use Rattle.ice_journal_laws.specs.Showing.{group_records}
 use Rattle.ice_journal_laws.specs.ShowingSession.{without_group_records, AreShownWithout, AreShownPayments}
-use Rattle.ice_journal_laws.proofs.Carried.{TakesTo, carries_none, carries_then, carries_one, carries_join}
+use Rattle.ice_journal_laws.proofs.Carried.{TakesTo, carries_then, carries_one, carries_join}
 use Rattle.ice_journal_laws.proofs.CarriedGroup.{group_carries}
 
 -- ---- the groups without each bidder
@@ -48,22 +48,6 @@ withouts_carry s b p (q ∷ later) count is =
     (subst (λ (values : List ℤ). Carries (go_to (at_group (Without (suc b))) (with_without s p.value)) (without_group_records s.version (goods_at s) (suc b) (q ∷ later)) (go_to at_threshold (record s { withouts = values })))
     (append_assoc s.withouts (p.value ∷ []) (map (λ (p : Proved). p.value) (q ∷ later)))
     (withouts_carry (with_without s p.value) (suc b) q later (omega (arith, count)) is.1))
-
--- from this bidder on, as far as these go, where more are to come
-pub withouts_part : (s : State) (b : ℕ) (ps : List Proved) → b + length ps < length (trees_at s) → AreShownWithout (trees_at s) (exact_at s) (weights_at s (Without b)) b ps
-    → Carries (go_to (at_group (Without b)) s) (without_group_records s.version (goods_at s) b ps) (go_to (at_group (Without (b + length ps))) (record s { withouts = s.withouts ++ map (λ p. p.value) ps }))
-withouts_part s b [] count is =
-    subst (λ (k : ℕ). Carries (go_to (at_group (Without b)) s) [] (go_to (at_group (Without k)) (with_withouts s []))) (omega arith)
-    (subst (λ (values : List ℤ). Carries (go_to (at_group (Without b)) s) [] (go_to (at_group (Without b)) (record s { withouts = values }))) (sym (append-nil s.withouts)) (carries_none (go_to (at_group (Without b)) s)))
-withouts_part s b (p ∷ later) count is =
-    carries_join (go_to (at_group (Without b)) s) (go_to (at_group (Without (suc b))) (with_without s p.value)) (go_to (at_group (Without (b + suc (length later)))) (with_withouts s (p ∷ later))) (group_records s.version (goods_at s) (line.without b p.value) p) (without_group_records s.version (goods_at s) (suc b) later)
-    (subst (λ (t : Bool). Carries (go_to (at_group (Without b)) s) (group_records s.version (goods_at s) (line.without b p.value) p) (go_to (cond t at_threshold (at_group (Without (suc b)))) (with_without s p.value)))
-    (ne_eqb (suc b) (bidder_count s) (λ e. omega (arith, count, e)))
-    (group_carries s (Without b) p refl (omega (arith, count)) is.0))
-    (subst (λ (k : ℕ). Carries (go_to (at_group (Without (suc b))) (with_without s p.value)) (without_group_records s.version (goods_at s) (suc b) later) (go_to (at_group (Without k)) (with_withouts s (p ∷ later)))) (omega arith)
-    (subst (λ (values : List ℤ). Carries (go_to (at_group (Without (suc b))) (with_without s p.value)) (without_group_records s.version (goods_at s) (suc b) later) (go_to (at_group (Without (suc b + length later))) (record s { withouts = values })))
-    (append_assoc s.withouts (p.value ∷ []) (map (λ (p : Proved). p.value) later))
-    (withouts_part (with_without s p.value) (suc b) later (omega (arith, count)) is.1)))
 
 -- ---- the cut
 

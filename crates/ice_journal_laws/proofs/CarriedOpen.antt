@@ -1,17 +1,14 @@
 -- A session whose last settlement goes on.
-use Rattle.std.proofs.Common.{◌≡◌, ◌+◌, ◌<◌, ℕ, suc, List, [], ◌∷◌, ◌++◌, length, refl, sym, ◌∙◌, subst, arith}
-use Rattle.std.specs.List.{AllByRecursion}
+use Rattle.std.proofs.Common.{◌≡◌, ◌+◌, ◌<◌, ℕ, suc, List, [], ◌∷◌, ◌++◌, length, refl, sym, ◌∙◌, arith}
 use Rattle.std.proofs.lemmas.List.{append-nil}
 use Rattle.ice_defs.specs.Bounds.{Bounds}
 use Rattle.ice_defs.specs.declared.Group.TheVariants.{Final}
-use Rattle.ice_defs.specs.Round.{Judged}
 use Rattle.ice_defs.specs.Exchange.{Exchange, exact_of, opening_bounds}
 use Rattle.ice_headline_laws.specs.Right.{bounds_after_round}
 use Rattle.ice_defs.specs.Lawful.{IsExchange}
 use Rattle.ice_defs.specs.Session.{Going}
-use Rattle.ice_journal.specs.Records.{Record, Version, version_2, session_kind, open_end}
+use Rattle.ice_journal.specs.Records.{Record, Version, session_kind}
 use Rattle.ice_journal.specs.Records as line
-use Rattle.ice_journal.specs.Ranges.{IsRecord}
 use Rattle.ice_section.specs.Described.{section_records}
 use Rattle.ice_section.specs.Laws.{DescribedAreTaken}
 use Rattle.ice_journal_laws.specs.State.{at_group, State, begun, exchange_at, trees_at, goods_at}
@@ -19,14 +16,12 @@ use Rattle.ice_journal_laws.specs.Next.{go_to, next_settlement}
 use Rattle.ice_journal_laws.specs.Tests.{BalanceHolds}
 use Rattle.ice_journal_laws.specs.Assigning.{section_state, section_of, exchange_state}
 use Rattle.ice_journal_laws.specs.Carrying.{Carries}
-use Rattle.ice_journal_laws.specs.SoFar.{IsSoFar}
 use Rattle.ice_journal_laws.specs.ShowingSession.{going_in, goings_in, AreShownGoing, last_going}
 use Rattle.ice_journal_laws.proofs.Carried.{TakesTo, carries_join, carries_same}
 use Rattle.ice_journal_laws.proofs.CarriedSection.{section_carries, first_settle_takes}
 use Rattle.ice_journal_laws.proofs.CarriedRegret.{some_trees}
 use Rattle.ice_journal_laws.proofs.CarriedRound.{resting_at, settle_takes}
 use Rattle.ice_journal_laws.proofs.CarriedGoing.{settling, with_going, going_carries}
-use Rattle.ice_journal_laws.proofs.CarriedStops.{no_file, round_stop_so_far}
 
 -- these records lead from here to the end of the round of this settlement, the last of so many,
 -- with these bounds
@@ -89,13 +84,3 @@ module _ (taken : DescribedAreTaken) (v : Version) (ex : Exchange) (lawful : IsE
         number_is = rest.number_is ∙ omega arith;
         bounds_are = rest.bounds_are;
       }
-
--- it stops for want of a round file where its last round has no submission
-pub open_so_far : DescribedAreTaken → (ex : Exchange) → IsExchange ex → (g : Going) (later : List Going) → AreShownGoing ex 0 (opening_bounds ex) (g ∷ later) → (last_going g later).judged ≡ []
-    → AllByRecursion IsRecord (line.head version_2 session_kind ∷ (section_records ex ++ goings_in version_2 (length (exact_of ex)) 0 (g ∷ later) ++ line.end open_end ∷ []))
-    → IsSoFar session_kind (line.head version_2 session_kind ∷ (section_records ex ++ goings_in version_2 (length (exact_of ex)) 0 (g ∷ later) ++ line.end open_end ∷ []))
-open_so_far taken ex lawful g later is none records =
-    let rest = open_carries taken version_2 ex lawful g later is in
-    round_stop_so_far session_kind (section_records ex ++ goings_in version_2 (length (exact_of ex)) 0 (g ∷ later)) (with_going (last_going g later) rest.state) (last_going g later).balance (line.end open_end)
-    (subst (λ (judged : List Judged). Carries (begun version_2 session_kind) (section_records ex ++ goings_in version_2 (length (exact_of ex)) 0 (g ∷ later)) (resting_at (last_going g later).balance judged (with_going (last_going g later) rest.state))) none rest.carries)
-    rest.holds no_file records

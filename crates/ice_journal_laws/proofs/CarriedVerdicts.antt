@@ -8,7 +8,7 @@ use Rattle.std.proofs.lemmas.List.Elements.{filter-append}
 use Rattle.std.proofs.lemmas.List.Folds.{list_any-append}
 use Rattle.ice_defs.specs.declared.Verdict.TheVariants.{UnknownBidder}
 use Rattle.ice_defs.specs.Prices.{Prices}
-use Rattle.ice_defs.specs.Round.{Judged, Standing, is_accepted, of_name, IsVerdict, JudgesInOrder, is_known, IsRound}
+use Rattle.ice_defs.specs.Round.{Judged, Standing, is_accepted, of_name, IsVerdict, JudgesInOrder, is_known}
 use Rattle.ice_journal_laws.specs.ShowingSession.{AreShownVerdicts}
 
 or_false : (b : Bool) → (b || false) ≡ b
@@ -68,7 +68,3 @@ module _ (p : Prices) (improve : ℤ) where
     shown_from earlier (j ∷ later) unknown each =
         let next : AllByRecursion (Next earlier j later) bidders = all_next earlier j later bidders each in
         ((unknown.0, all_now earlier j later bidders next), shown_from (earlier ++ j ∷ []) later unknown.1 (all_more earlier j later bidders next))
-
-    -- where a round is judged by the rules, each verdict is the next one
-    pub round_shown : (judged : List Judged) → IsRound p improve bidders judged → AreShownVerdicts p improve bidders [] judged
-    round_shown judged is = shown_from [] judged is.unknown is.each

@@ -15,7 +15,6 @@ use Rattle.ice_threshold.proofs.CutSum.{cut_down_is, cut_sum_is, proper-cut_down
 use Rattle.std.specs.Prelude.{unsigned_abs}
 use Rattle.ice_frac.specs.Lowest.{IsLowest}
 use Rattle.ice_frac.proofs.Gcd.{gcd_is}
-use Rattle.ice_frac.proofs.FieldLaws.{lowest_is_unique}
 use Rattle.ice_journal.specs.Ranges.{IsFractionField}
 use Rattle.ice_threshold.proofs.Levels.{size_between}
 use Rattle.ice_journal_laws.specs.Tests.{IsThresholdLine, IsPaymentLine}
@@ -116,9 +115,6 @@ stated_lowest f h = record {
   den_fits = omega (arith, h.den.1);
   coprime = gcd_is (unsigned_abs f.num) f.den 1 h.lowest;
 }
-
-pub stated_is : (made f : Fraction) → IsFractionField f → IsLowest made → Equals made f → made ≡ f
-stated_is made f h lowest equal = lowest_is_unique made f lowest (stated_lowest f h) equal
 
 -- ---- some of the discounts
 

@@ -105,8 +105,6 @@ pub mod CarriedStops
 pub mod CarriedVerdicts
 -- a session whose last settlement goes on
 pub mod CarriedOpen
--- an assign journal, written whole, passes every test
-pub mod CarriedAssign
 -- records that lead on, each of whose steps has a property
 pub mod CarriedTaken
 -- the steps of the groups that are written are earned

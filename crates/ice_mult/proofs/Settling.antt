@@ -1,5 +1,5 @@
 -- What is known of kept bounds stays known where one good is moved.
-use Rattle.std.proofs.Common.{ℕ, ◌<◌, ◌≡◌, Bool, false, List, length, set, set-set, get_or-set_same, ℤ, pos, refl, ap, sym, ◌∙◌, subst, inl, inr}
+use Rattle.std.proofs.Common.{ℕ, ◌<◌, ◌≡◌, Bool, false, List, length, set, set-set, ℤ, pos, refl, ap, sym, ◌∙◌, subst, inl, inr}
 use Rattle.std.proofs.lemmas.Bool.{both_ways}
 use Rattle.std.proofs.lemmas.List.{length-set, set-get_or}
 use Rattle.ice_defs.specs.Tree.{Tree}
@@ -95,9 +95,6 @@ module _ (old mid : Standing) (g : ℕ) (a : ℤ) (moved : IsMoved old g a mid) 
 
   pub settled_back : (new : Standing) → IsSettled mid g new → IsSettled old g new
   settled_back new (z, total, lowest, on) = (z, total, lowest_back z total lowest, moved_again z new on)
-
-  pub moved_at : g < length old.multipliers → multiplier_of mid.multipliers g ≡ a
-  moved_at there = ap (λ m. multiplier_of m g) moved.multipliers ∙ get_or-set_same old.multipliers g a (pos 0) there
 
 -- a good that takes the multiplier that it has
 pub unmoved : (old : Standing) (g : ℕ) (z : ℤ) → multiplier_of old.multipliers g ≡ z → set old.multipliers g z ≡ old.multipliers

@@ -1,12 +1,11 @@
 -- The program of a stage, row by row.
-use Rattle.std.proofs.Common.{ℕ, suc, ◌+◌, ◌≡◌, List, [], ◌∷◌, ◌++◌, length, map, pos, refl, ap, sym, ◌∙◌, arith, add-one, append_assoc, ℤ}
+use Rattle.std.proofs.Common.{ℕ, suc, ◌+◌, ◌≡◌, List, [], ◌∷◌, ◌++◌, length, map, pos, refl, ap, sym, ◌∙◌, arith, add-one, ℤ}
 use Rattle.std.proofs.lemmas.List.{map-append, append-nil, length-append, length-map}
 use Rattle.ice_defs.specs.Sum.{numbers_below}
 use Rattle.ice_defs.specs.Program.{Constraint, Program}
 use Rattle.ice_defs.specs.PricingLimit.{Stage, accuracy_stage, balance_stage, fairness_stage}
 use Rattle.ice_defs.specs.PricingRun.{Member, StageAt, only_at}
 use Rattle.ice_defs.proofs.Below.{length-numbers_below}
-use Rattle.ice_pricing_laws.proofs.Lists.{length-only_at}
 use Rattle.ice_pricing.specs.Provisional.{ProvisionalTrade}
 use Rattle.ice_price.specs.Programs.{good_row, member_row, program_over}
 
@@ -17,9 +16,6 @@ module _ (t : ProvisionalTrade) (at : StageAt) where
 
   abbrev pub with_one : Program → Constraint → Program
   with_one p row = record { costs = p.costs; rows = p.rows ++ row ∷ [] }
-
-  pub made-columns : (g : ℕ) (pool : List Member) → length (made_of g pool).costs ≡ t.goods + 1
-  made-columns g pool = omega (arith, length-only_at (suc t.goods) t.goods (pos 1))
 
   pub made-rows : (g : ℕ) (pool : List Member) → length (made_of g pool).rows ≡ g + length pool
   made-rows g pool =
@@ -43,12 +39,6 @@ module _ (t : ProvisionalTrade) (at : StageAt) where
       ∙ ap (λ n. map f (numbers_below n)) (sym (add-one g))
       ∙ sym (append-nil (map f (numbers_below (g + 1))))
       )
-
-  pub member-more : (g : ℕ) (front : List Member) (m : Member) → with_one (made_of g front) (member_row t at m) ≡ made_of g (front ++ m ∷ [])
-  member-more g front m =
-      let f = member_row t at in
-      let goods : List Constraint = map (good_row t at) (numbers_below g) in
-      ap of_rows (append_assoc goods (map f front) (f m ∷ []) ∙ ap (λ xs. goods ++ xs) (sym (map-append f front (m ∷ []))))
 
 -- it is the stage's program
 pub program-is : (t : ProvisionalTrade) (at : StageAt) (pool : List Member) → made_of t at t.goods pool ≡ program_over t at pool

@@ -18,9 +18,9 @@ use Rattle.ice_turns.specs.Scans.{AreAllowed, IsFirstAbove}
 use Rattle.ice_turns.specs.Steps.{IsStepStop}
 use Rattle.ice_turns.proofs.Scanning.{first-violates, none-to-add}
 use Rattle.ice_price.specs.Certified.{IsCertificate}
-use Rattle.ice_price.specs.Ends.{IsStopped, IsRunStopped}
+use Rattle.ice_price.specs.Ends.{IsStopped}
 use Rattle.ice_price.specs.Programs.{dual_factor, allowed_excess}
-use Rattle.ice_price.specs.Runs.{IsState, IsSolved, IsTurn, IsEndWith, IsStageEnd}
+use Rattle.ice_price.specs.Runs.{IsSolved, IsTurn, IsEndWith, IsStageEnd}
 use Rattle.ice_price.specs.declared.turn.Turn.{Turn}
 use Rattle.ice_price.specs.declared.turn.Turn.TheVariants.{Adds, Ends}
 use Rattle.ice_price.proofs.Scanning.{allowed-is, may-follow}
@@ -55,10 +55,6 @@ module _ (t : ProvisionalTrade) (at : StageAt) (pool : List Member) (x y : List 
 
   pub long-den : 2 ^ 32 < prices.den → IsAtLimit t.trees t.weights t.sets t.goods t.cap den_limit at pool
   long-den big = (x, is.solved, inl big)
-
-pub run-stopped : (t : ProvisionalTrade) (at : StageAt) (pool : List Member) (stop : Stop) → IsState t at pool → IsStopped t at pool stop → IsRunStopped t at pool stop
-run-stopped t at pool (AtLimit kind) state is = record { state = state; limit = is }
-run-stopped t at pool WithoutMemory state is = tt
 
 -- what a scan with the stage's allowed excess leads to
 module _ (t : ProvisionalTrade) (at : StageAt) (pool : List Member) (x y : List Fraction) (is : IsSolved t at pool x y) (p : Prices) (same : p ≡ solution_prices t.trees t.weights t.sets t.goods t.cap x)

@@ -1,7 +1,7 @@
 -- Whether prices are lawful is decided, and where they are not, what is at fault is there.
 use Rattle.std.proofs.Common.{ℕ, zero, suc, ◌≡◌, ◌<◌, ◌⊎◌, inl, inr, ◌++◌, [], ◌∷◌, List, length, slice_index_or, ℤ, pos, ◌*ℤ◌, ◌≤ℤ◌, ◌<ℤ◌, refl, sym, subst, append_assoc, arith}
 use Rattle.std.proofs.lemmas.Bool.{cases_eq}
-use Rattle.std.proofs.lemmas.Int.{ints, by_lt_z}
+use Rattle.std.proofs.lemmas.Int.{by_lt_z}
 use Rattle.std.proofs.lemmas.List.{append-nil}
 use Rattle.ice_defs.specs.Prices.{Prices, ArePrices}
 use Rattle.ice_defs.specs.Rows.{HasCommonDivisor}
@@ -51,10 +51,6 @@ divisor_or_none p positive not_none =
     by s is (inr other) = let big : 0 < s = is.positive in (s, omega (arith, other, big), is.of_den, is.of_nums)
 
 -- ---- both
-
-pub lawful_so : (cap : ℤ) (p : Prices) → ArePrices (length p.nums) cap p → ¬ HasCommonDivisor p → ¬ AreUnlawful cap p
-lawful_so cap p are lowest (inl (g, there, above)) = omega (arith, ints, are.high g there, above)
-lawful_so cap p are lowest (inr shared) = lowest shared
 
 pub unlawful_by_divisor : (cap : ℤ) (p : Prices) → ArePriceTerms p → ¬ ¬ HasCommonDivisor p → AreUnlawful cap p
 unlawful_by_divisor cap p terms not_none = inr (divisor_or_none p (omega (arith, terms.den.0)) not_none)

@@ -1,9 +1,8 @@
 -- The greatest common divisor of the prices' denominator and numerators.
-use Rattle.std.proofs.Common.{ℕ, ◌≡◌, ◌<◌, ◌≤◌, ◌⊎◌, inl, inr, ◌++◌, [], ◌∷◌, List, ℤ, arith}
+use Rattle.std.proofs.Common.{ℕ, ◌≡◌, ◌<◌, ◌≤◌, ◌++◌, [], ◌∷◌, List, ℤ, arith}
 use Rattle.std.specs.Prelude.{unsigned_abs}
 use Rattle.std.specs.Int.{◌∣◌}
 use Rattle.std.specs.List.{AllByRecursion}
-use Rattle.std.proofs.lemmas.Bool.{cases_eq}
 use Rattle.std.proofs.lemmas.List.Elements.{All-from_recursion, recursion_from_All, All-weaker}
 use Rattle.std.proofs.lemmas.Nat.Gcd.{dvd_refl, dvd_trans, le_of_dvd}
 use Rattle.ice_defs.specs.Frac.{gcd}
@@ -40,12 +39,3 @@ pub one-shares : (p : Prices) (shared : ℕ) → IsShared p.den p.nums shared �
 one-shares p shared is e (c, big, of_den, of_nums) =
     let few : c ≤ shared = le_of_dvd is.positive (is.greatest c of_den of_nums) in
     omega (arith, few, e, big)
-
-pub shares-one : (p : Prices) (shared : ℕ) → IsShared p.den p.nums shared → ¬ HasCommonDivisor p → shared ≡ 1
-shares-one p shared is none = by (cases_eq shared 1)
-  where
-    by : (shared ≡ 1) ⊎ (¬ (shared ≡ 1)) → shared ≡ 1
-    by (inl e) = e
-    by (inr ne) =
-        let positive : 0 < shared = is.positive in
-        absurd (none (shared, omega (arith, ne, positive), is.of_den, is.of_nums))

@@ -4,8 +4,8 @@ use Rattle.std.specs.List.{AllByRecursion}
 use Rattle.std.proofs.lemmas.List.{take_more}
 use Rattle.ice_defs.specs.Rows.{Row, IsRow}
 use Rattle.ice_defs.proofs.Lists.{all_push}
-use Rattle.ice_row_laws.specs.Sums.{RowSums, AreSums, IsWithRow, AreZero}
-use Rattle.ice_row_laws.proofs.Sums.{zero_is_sums, row_is_added}
+use Rattle.ice_row_laws.specs.Sums.{RowSums, AreSums, IsWithRow}
+use Rattle.ice_row_laws.proofs.Sums.{row_is_added}
 use Rattle.ice_pricing.specs.Provisional.{ProvisionalTrade}
 
 -- the sums of the first rows, which are rows
@@ -13,13 +13,6 @@ pub record AreSummed (t : ProvisionalTrade) (rows : List Row) (count : ℕ) (s :
   pub are : AllByRecursion (IsRow t.trees t.weights t.sets) (take count rows)
   pub sums : AreSums t.trees t.weights t.sets t.goods (take count rows) s
   pub few : s.weight ≤ count * 2 ^ 32
-
-pub summed-none : (t : ProvisionalTrade) (rows : List Row) (s : RowSums) → t.goods ≤ 32 → AreZero 32 s → AreSummed t rows 0 s
-summed-none t rows s few zero = record {
-  are = tt;
-  sums = zero_is_sums t.trees t.weights t.sets t.goods s (record { weight = zero.weight; worth = zero.worth; units = λ g h. zero.units g (omega (arith, h, few)) });
-  few = omega (arith, zero.weight);
-}
 
 pub summed-more : (t : ProvisionalTrade) (rows : List Row) (count : ℕ) (row : Row) (before after : RowSums) → count < length rows → row ≡ get_or rows count row → row.weight ≤ 2 ^ 32
     → AreSummed t rows count before → IsRow t.trees t.weights t.sets row → IsWithRow t.trees t.weights t.sets t.goods row before after → AreSummed t rows (count + 1) after

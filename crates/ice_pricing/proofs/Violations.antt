@@ -1,5 +1,5 @@
 -- The greatest excess of the first bidders.
-use Rattle.std.proofs.Common.{ℕ, ◌≡◌, ◌<◌, ◌≤◌, ◌+◌, ◌*◌, ◌^◌, ◌⊎◌, inl, inr, true, length, ℤ, pos, ◌≤ℤ◌, ◌<ℤ◌, int_lt, arith, refl, subst}
+use Rattle.std.proofs.Common.{ℕ, ◌≡◌, ◌<◌, ◌≤◌, ◌+◌, ◌*◌, ◌^◌, ◌⊎◌, inl, inr, true, length, ℤ, pos, ◌≤ℤ◌, ◌<ℤ◌, int_lt, arith, subst}
 use Rattle.std.proofs.lemmas.Int.{ints}
 use Rattle.std.proofs.lemmas.Bool.{cases_lt}
 use Rattle.ice_defs.specs.Set.{NodeSet, IsSatisfied}
@@ -23,14 +23,6 @@ module _ (t : ProvisionalTrade) (p : Prices) where
     pub high : v ≤ℤ pos (400 * 2 ^ 90)
     pub attained : (v ≡ pos 0) ⊎ ((c : ℕ × NodeSet) × IsOffer c × (excess c ≡ v))
     pub bound : (c : ℕ × NodeSet) → IsOffer c → c.0 < count → excess c ≤ℤ v
-
-  pub greatest-none : IsGreatestBelow 0 (pos 0)
-  greatest-none = record {
-    low = omega (arith, ints);
-    high = omega (arith, ints);
-    attained = inl refl;
-    bound = λ c is h. absurd (omega (arith, h));
-  }
 
   -- the best excess of one bidder
   abbrev IsBest : ℕ → NodeSet → ℤ → Type 0

@@ -53,9 +53,6 @@ abbrev pub IsOfLines : {X : Type 0} → (List Record → Result X FileFault) →
 IsOfLines whole bytes found = (lines : Result (List Record) LinesFault) × IsJournalOf bytes lines × (found ≡ of_lines whole lines)
 
 module _ {X : Type 0} (whole : List Record → Result X FileFault) (bytes : List ℕ) where
-  pub read_none : (left : List Record → Result X FileFault) → ((later : List Record) → whole later ≡ left later) → HasRead whole left bytes bytes 0
-  read_none left same = record { before = []; lawful = tt; bytes_are = refl; counted = refl; room = omega arith; same = same }
-
   pub read_more : (left next : List Record → Result X FileFault) (rest after : List ℕ) (lines : ℕ) (r : Record) → HasRead whole left bytes rest lines → IsRecord r → rest ≡ line_of r ++ after
       → ((later : List Record) → left (r ∷ later) ≡ next later) → HasRead whole next bytes after (lines + 1)
   read_more left next rest after lines r h is e step = record {

@@ -32,12 +32,6 @@ parent_open t (n ∷ os) (l ∷ ls) e = refl
 is_choose : (k : NodeKind) (least most : ℕ) → k ≡ Choose least most → IsChoose k
 is_choose k least most e = subst IsChoose (sym e) tt
 
-pub kept_waiting : (t : Tree) (incomplete : ℕ) (stated depth : ℕ → ℕ) (os ls : List ℕ) → length os ≡ length ls → AreWaiting t incomplete stated depth (open_nodes t incomplete os ls) → AreKept t os ls
-kept_waiting t incomplete stated depth [] [] e w = tt
-kept_waiting t incomplete stated depth [] (l ∷ ls) e w = absurd (omega (arith, e))
-kept_waiting t incomplete stated depth (n ∷ os) [] e w = absurd (omega (arith, e))
-kept_waiting t incomplete stated depth (n ∷ os) (l ∷ ls) e w = (is_choose (kind_of t n) _ _ w.0.is_choose, w.0.some_left, kept_waiting t 1 stated depth os ls (omega (arith, e)) w.1)
-
 -- ---- a node under the innermost open one
 
 module _ (t : Tree) (x : Node) where

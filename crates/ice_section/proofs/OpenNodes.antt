@@ -64,17 +64,7 @@ place_of_next goods t bounds stated depth (o ∷ outer) shaped started waiting =
 
 -- ---- one more node
 
-pub before_innermost : (o : OpenNode) (outer : List OpenNode) → IsAfter o.number outer → parent_under outer ≤ o.number
-before_innermost o [] after = omega arith
-before_innermost o (x ∷ outer) after = omega (arith, after)
-
 module _ (t : Tree) (stated depth : ℕ → ℕ) (x : Node) (children d : ℕ) where
-  abbrev stated_more : ℕ → ℕ
-  stated_more = with_last (length t) children stated
-
-  abbrev depth_more : ℕ → ℕ
-  depth_more = with_last (length t) d depth
-
   -- an open node around the new one's parent has no more children
   outer_grown : (opened : List OpenNode) → IsAfter x.parent opened → AreWaiting t 1 stated depth opened
       → AreWaiting (t ++ x ∷ []) 1 (with_last (length t) children stated) (with_last (length t) d depth) opened

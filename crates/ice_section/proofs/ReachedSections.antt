@@ -1,26 +1,24 @@
 -- The sections that lawful records lead to.
 use Rattle.std.proofs.Common.{ℕ, ◌≡◌, true, false, ◌||◌, not, eqb, ltb, List, [], ◌∷◌, ◌++◌, length, ℤ, Option, Some, None, Result, Ok, Err, refl, ap, sym, ◌∙◌, ◌⊎◌, inl, inr, subst}
-use Rattle.std.specs.Prelude.{IsTrue, is_none, is_some}
+use Rattle.std.specs.Prelude.{is_none, is_some}
 use Rattle.std.specs.List.{AllByRecursion}
 use Rattle.std.proofs.lemmas.Bool.{or_parts}
 use Rattle.ice_defs.specs.declared.NodeKind.{NodeKind}
 use Rattle.ice_defs.specs.declared.NodeKind.TheVariants.{Choose, Buy, Sell}
 use Rattle.ice_defs.specs.Bounds.{no_bounds}
 use Rattle.ice_defs.specs.Making.{node_refusal, good_refusal, bidder_refusal}
-use Rattle.ice_defs.specs.Lawful.{IsExchange}
 use Rattle.ice_defs.specs.Exchange.{Good, Bidder}
 use Rattle.ice_journal.specs.Records.{Record}
 use Rattle.ice_journal.specs.Records as line
 use Rattle.ice_journal.specs.Ranges.{IsRecord}
 use Rattle.ice_defs.proofs.Lists.{all_push}
 use Rattle.ice_defs.proofs.Choices.{is_none-true, is_some-false}
-use Rattle.ice_section.specs.Section.{SectionFault, order, count, no_good, OpenNode, Draft, Section, no_section, may_end, exchange_in, take_good, with_node, go_on, open_after, names_no_good, take_node_of, take_node_at, take_node, take_record}
+use Rattle.ice_section.specs.Section.{SectionFault, order, count, no_good, OpenNode, Draft, Section, no_section, take_good, with_node, go_on, open_after, names_no_good, take_node_of, take_node_at, take_node, take_record}
 use Rattle.ice_section.specs.Taking.{unless_fault, take_records}
 use Rattle.ice_section.specs.Kept.{IsReached}
 use Rattle.ice_section.proofs.Sections.{ok_if, ok_unless, unless_refused_ok, unless_unmade_ok, Stands, no_section_stands, record_stands, records_stand}
 use Rattle.ice_section.proofs.Ranges.{IsRanged, no_section_ranged, records_ranged}
 use Rattle.ice_section.proofs.BidderRecords.{take_then, take_one}
-use Rattle.ice_section.proofs.Whole.{lawful_whole}
 
 -- one more record
 pub reached_more : (s after : Section) (r : Record) → IsReached s → IsRecord r → take_record s r ≡ Ok after → IsReached after
@@ -32,9 +30,6 @@ none_reached = ([], tt, refl)
 
 pub reached_stands : (s : Section) → IsReached s → (records : List Record) × Stands s records × IsRanged s
 reached_stands s (records, lawful, taken) = (records, records_stand no_section [] records s no_section_stands taken, records_ranged no_section records s no_section_ranged lawful taken)
-
-pub reached_lawful : (s : Section) → IsReached s → IsTrue (may_end s) → IsExchange (exchange_in s)
-reached_lawful s reached ends = let (records, stands, ranged) = reached_stands s reached in lawful_whole s records stands ranged ends
 
 -- ---- a section whose incomplete bidder is given up
 

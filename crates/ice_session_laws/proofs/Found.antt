@@ -1,6 +1,5 @@
 -- What a search finds is a group that is shown and earned, and its records are in their ranges.
 use Rattle.std.proofs.Common.{List, length, ℤ}
-use Rattle.std.specs.List.{AllByRecursion}
 use Rattle.ice_defs.specs.Set.{Weights}
 use Rattle.ice_defs.specs.Trade.{Assignment}
 use Rattle.ice_defs.specs.Bounds.{Bounds}
@@ -15,14 +14,11 @@ use Rattle.ice_defs.specs.Session.{Proved}
 use Rattle.ice_defs.specs.Conditions.{AreBoundsOf, AreWeightsOf}
 use Rattle.ice_bound.proofs.Modest.{lower_modest, weighted_modest, perturbed_modest}
 use Rattle.ice_search.specs.Results.{AreWritten}
-use Rattle.ice_journal.specs.Records.{Record, version_2}
-use Rattle.ice_journal.specs.Ranges.{IsRecord}
-use Rattle.ice_journal_laws.specs.Showing.{group_records, LeavesOut, IsShown}
+use Rattle.ice_journal_laws.specs.Showing.{LeavesOut, IsShown}
 use Rattle.ice_journal_laws.specs.Earning.{EarnsLog}
 use Rattle.ice_journal_laws.proofs.CarriedRegret.{some_trees}
 use Rattle.ice_journal_laws.proofs.CarriedSpentSession.{IsWholeSearch}
 use Rattle.ice_write.specs.Writable.{AreWritable}
-use Rattle.ice_write.proofs.Groups.{group_are_records}
 use Rattle.ice_write.proofs.Writable.{writable}
 use Rattle.ice_session_laws.proofs.Worth.{IsWorth, worth_is}
 
@@ -49,9 +45,6 @@ module _ (ex : Exchange) (lawful : IsExchange ex) (ws : List Weights) (weights :
 
     pub found_writable : AreWritable (length (exact_of ex)) p.sets p.log
     found_writable = writable ex ws p.value (start_of (trees_of ex) g) p.sets p.log lawful is.attained.feasible is.passes written.counts written.ranged
-
-    pub found_records : (first_record : Record) → IsRecord first_record → AllByRecursion IsRecord (group_records version_2 (length (exact_of ex)) first_record p)
-    found_records first_record fits = group_are_records first_record (length (exact_of ex)) p.sets p.log fits found_writable
 
   -- ---- a search that is spent
 

@@ -73,10 +73,6 @@ module _ (going : List Going) (s : SessionAt) (last : Going) (r : RoundAt) (is :
   abbrev all : List Going
   all = going ++ last ∷ []
 
-  -- the session behind the round, if it ended here
-  next_exchange : (session_after r).exchange ≡ s.exchange
-  next_exchange = is.exchange
-
   ended : IsRunning (going ++ last ∷ []) (session_after r)
   ended = round_ends going s last r is
 

@@ -199,9 +199,6 @@ found_may_be_written s h is few found =
 -- ---- the journal
 
 module _ (going : List Going) (s : SessionAt) (run : IsRunning going s) (at : Position) (spent : Spent) (stops : StopsAt s at spent) where
-  abbrev goods_here : ℕ
-  goods_here = length (exact_of s.exchange)
-
   abbrev goings : List Record
   goings = goings_in version_2 (length (exact_of s.exchange)) 0 going
 

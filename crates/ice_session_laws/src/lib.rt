@@ -5,9 +5,9 @@
 
 mod branches;
 
-pub use branches::{group_log_is_short, spent_regret_has_few, spent_session_has_few};
-
 ghost use Rattle.ice_session_laws.specs.Laws.{RunBegins, RoundBegins, RoundGoesOn, RoundEnds, RunIsUnended, RoundIsUnended, RunCloses, RoundStops, RoundStaysOpen, RunSpends, RunIsLimited, VerdictMayBeWritten, OpeningMayBeWritten, ClosingMayBeWritten, SpentMayBeWritten, LimitMayBeWritten};
+
+pub use branches::{group_log_is_short, spent_regret_has_few, spent_session_has_few};
 
 /// At its start a session of an exchange runs, with no settlement behind it.
 pub fn run_begins()

@@ -1,11 +1,11 @@
 -- Weights that are too large, and those that aren't.
-use Rattle.std.proofs.Common.{ℕ, zero, suc, ◌+◌, ◌*◌, ◌<◌, ◌≤◌, ◌≡◌, ◌⊎◌, inl, inr, ◌^◌, ◌/◌, ◌++◌, ◌&&◌, if◌then◌else◌, Bool, true, false, Some, None, List, [], ◌∷◌, length, drop, get_or, ℤ, pos, negsuc, ◌≤ℤ◌, ◌<ℤ◌, ◌*ℤ◌, arith, refl, sym, ap, subst, ◌∙◌, append_assoc}
+use Rattle.std.proofs.Common.{ℕ, zero, suc, ◌+◌, ◌*◌, ◌<◌, ◌≤◌, ◌≡◌, ◌⊎◌, inl, inr, ◌^◌, ◌/◌, ◌++◌, ◌&&◌, if◌then◌else◌, Bool, true, false, Some, None, List, [], ◌∷◌, length, drop, get_or, ℤ, pos, negsuc, ◌≤ℤ◌, ◌<ℤ◌, ◌*ℤ◌, arith, refl, sym, ap, subst, ◌∙◌}
 use Rattle.std.specs.Prelude.{Any}
 use Rattle.std.specs.List.{AllByRecursion}
 use Rattle.std.proofs.lemmas.Bool.Decides.{nat_tests}
 use Rattle.std.proofs.lemmas.Int.{ints}
-use Rattle.std.proofs.lemmas.List.{append-nil, drop_all, drop_more, length-map, get_or-map, get_or_default}
-use Rattle.std.proofs.Math.Nat.{mul-le-mul_left, div-le_self}
+use Rattle.std.proofs.lemmas.List.{drop_more, length-map, get_or-map, get_or_default}
+use Rattle.std.proofs.Math.Nat.{mul-le-mul_left}
 use Rattle.std.proofs.lemmas.Nat.{le-div}
 use Rattle.ice_defs.specs.Frac.{if_fits, num_fits, den_fits}
 use Rattle.ice_defs.specs.Fraction.{Fraction, whole_number, IsFraction, times, fraction_at}
@@ -13,7 +13,6 @@ use Rattle.ice_defs.specs.Program.{AreNonNegative}
 use Rattle.ice_defs.specs.PricingRun.{Member, common_den, num_over}
 use Rattle.ice_defs.specs.Rows.{Row}
 use Rattle.ice_frac.proofs.Lowest.{positive-lowest}
-use Rattle.ice_frac.proofs.Ring.{scale_le}
 use Rattle.ice_pricing_laws.specs.Weights.{lowest_of, weights_of_duals, nums_over, rows_with}
 use Rattle.ice_pricing_laws.proofs.Dens.{common_den-pos}
 use Rattle.ice_pricing_laws.proofs.Lists.{all-each}
@@ -92,14 +91,6 @@ stop-large most factor fs i f h is large =
 
 -- ---- numerators
 
--- a small numerator over a small denominator is not too large
-pub num-high : (most d : ℕ) (w : Fraction) → most ≤ 2 ^ 32 → d ≤ 2 ^ 32 → w.num ≤ℤ pos most → num_over d w ≤ℤ pos (2 ^ 64)
-num-high most d w few small fits =
-    let own : w.num ≤ℤ pos (2 ^ 32) = omega (arith, ints, fits, few) in
-    let more = scale_le (d / w.den) w.num (pos (2 ^ 32)) own in
-    let least : d / w.den ≤ d = div-le_self d w.den in
-    omega (arith, ints, more, least, small)
-
 -- one that is too large
 pub stop-num : (most den : ℕ) (ws : List Fraction) (i : ℕ) (w : Fraction) → i < length ws → w ≡ get_or ws i w → pos most <ℤ num_over den w → Any (λ f. pos most <ℤ num_over den f) ws
 stop-num most den ws i w h is large = (i, w, h, sym is, large)
@@ -121,18 +112,6 @@ module _ (pool : List Member) (ns : List ℕ) (i : ℕ) (m : Member) (n : ℕ) (
   here =
       ap (λ ks. rows_with (drop i pool) ks) (drop_more ns i 0 (omega (arith, same, there)) ∙ ap (λ k. k ∷ drop (i + 1) ns) weight)
       ∙ ap (λ ms. rows_with ms (n ∷ drop (i + 1) ns)) (drop_more pool i m there ∙ ap (λ x. x ∷ drop (i + 1) pool) (sym member))
-
-  pub rows-skip : n ≡ 0 → front ++ rows_with (drop (i + 1) pool) (drop (i + 1) ns) ≡ total
-  rows-skip e = sym (ap (λ rows. front ++ rows) (here ∙ ap (λ k. rows_with (m ∷ drop (i + 1) pool) (k ∷ drop (i + 1) ns)) e)) ∙ before
-
-  pub rows-take : (k : ℕ) → 0 < k → n ≡ k → (front ++ row_of m k ∷ []) ++ rows_with (drop (i + 1) pool) (drop (i + 1) ns) ≡ total
-  rows-take zero some e = absurd (omega (arith, some))
-  rows-take (suc k) some e =
-      append_assoc front (row_of m (suc k) ∷ []) (rows_with (drop (i + 1) pool) (drop (i + 1) ns))
-      ∙ sym (ap (λ rows. front ++ rows) (here ∙ ap (λ j. rows_with (m ∷ drop (i + 1) pool) (j ∷ drop (i + 1) ns)) e)) ∙ before
-
-pub rows-done : (pool : List Member) (ns : List ℕ) (front total : List Row) (i : ℕ) → length pool ≤ i → front ++ rows_with (drop i pool) (drop i ns) ≡ total → front ≡ total
-rows-done pool ns front total i h e = sym (append-nil front) ∙ sym (ap (λ ms. front ++ rows_with ms (drop i ns)) (drop_all i pool h)) ∙ e
 
 -- there are no more than members
 pub rows-few : (pool : List Member) (ns : List ℕ) → length (rows_with pool ns) ≤ length pool

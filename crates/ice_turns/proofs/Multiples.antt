@@ -1,5 +1,5 @@
 -- Least common denominators.
-use Rattle.std.proofs.Common.{ℕ, zero, suc, ◌+◌, ◌-◌, ◌*◌, ◌/◌, ◌<◌, ◌≤◌, ◌≡◌, List, [], ◌∷◌, length, drop, get_or, Option, Some, None, IfNone, ap, sym, ◌∙◌, refl, arith}
+use Rattle.std.proofs.Common.{ℕ, zero, suc, ◌+◌, ◌-◌, ◌*◌, ◌/◌, ◌<◌, ◌≤◌, ◌≡◌, List, [], ◌∷◌, length, drop, get_or, Option, Some, None, IfNone, ap, sym, ◌∙◌, arith}
 use Rattle.std.specs.List.{AllByRecursion}
 use Rattle.std.proofs.lemmas.List.{drop_more}
 use Rattle.std.proofs.lemmas.Nat.Gcd.{le_of_dvd}
@@ -32,12 +32,6 @@ pub record IsDen (most : ℕ) (fs : List Fraction) (den : ℕ) : Type 0 where
   pub fits : den ≤ most
   pub positive : 0 < den
   pub lowest : AllByRecursion IsLowest fs
-
-pub den-none : (most : ℕ) → 1 ≤ most → IsDen most [] 1
-den-none most some = record { value = refl; fits = some; positive = omega arith; lowest = tt }
-
-pub den-more : (most : ℕ) (fs : List Fraction) (f : Fraction) (den more : ℕ) → IsDen most fs den → more ≡ lcm f.den den → more ≤ most → 0 < more → IsLowest f → IsDen most (f ∷ fs) more
-den-more most fs f den more is e fits positive lowest = record { value = e ∙ ap (lcm f.den) is.value; fits = fits; positive = positive; lowest = (lowest, is.lowest) }
 
 -- the last ones with one before them
 pub drop_before : {X : Type 0} (xs : List X) (place : ℕ) (x : X) → 0 < place → place ≤ length xs → x ≡ get_or xs (place - 1) x → drop (place - 1) xs ≡ x ∷ drop place xs

@@ -19,11 +19,6 @@ use Rattle.ice_pricing_laws.specs.Lowest.{IsReduced}
 use Rattle.ice_pricing_laws.proofs.Lowest.{prices_are_lowest}
 use Rattle.ice_terms.specs.Terms.{ArePriceTerms, is_numerator}
 
-pub low-take : (n : ℕ) (fs : List Fraction) → AreNonNegative fs → AllByRecursion IsFraction (take n fs)
-low-take n fs h =
-    let P : Fraction → Type 0 = λ f. IsFraction f × AtMost (whole_number (pos 0)) f in
-    recursion_from_All IsFraction (take n fs) (All-take IsFraction n fs (All-weaker P IsFraction (λ f is. is.0) fs (All-from_recursion P fs h)))
-
 pub low-drop : (n : ℕ) (fs : List Fraction) → AreNonNegative fs → AreNonNegative (drop n fs)
 low-drop n fs h =
     let P : Fraction → Type 0 = λ f. IsFraction f × AtMost (whole_number (pos 0)) f in
@@ -37,9 +32,6 @@ lowest-reduced fs h =
 module _ (fs : List Fraction) (goods den : ℕ) (cap : ℤ) (within : ArePrices goods cap (record { den = den; nums = map (num_over den) fs })) where
   numerators : (P : ℤ → Type 0) → ((g : ℕ) → g < goods → P (price_of (record { den = den; nums = map (num_over den) fs }) g)) → AllByRecursion (λ f. P (num_over den f)) fs
   numerators P each = map-all P (num_over den) fs (all-from P (map (num_over den) fs) (pos 0) (λ i h. each i (omega (arith, h, within.same_length))))
-
-  pub nums-low : AllByRecursion (λ f. pos 0 ≤ℤ num_over den f) fs
-  nums-low = numerators (λ z. pos 0 ≤ℤ z) within.low
 
   pub nums-high : den ≤ 2 ^ 32 → cap ≤ℤ pos 1000000000 → AllByRecursion (λ f. num_over den f ≤ℤ pos (2 ^ 62)) fs
   nums-high few most =

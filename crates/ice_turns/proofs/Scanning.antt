@@ -48,14 +48,6 @@ module _ (t : ProvisionalTrade) (p : Prices) (most : Fraction) where
           let few : excess_net t.trees t.weights t.sets p (k, other) ≤ℤ x = subst P same (best.greatest other) offer.1 in
           λ below. calm (below-more (excess_net t.trees t.weights t.sets p (k, other)) x few below)
 
-  pub first-above : (b : ℕ) (s : NodeSet) (x : ℤ) → b < length t.trees → AreAllowed t p most b → IsBest b s x → Below most (over x) → IsFirstAbove t p most (record { bidder = b; set = s })
-  first-above b s x there before best below = record {
-    offer = (there, best.satisfied);
-    above = subst (λ z. Below most (over z)) (sym best.has) below;
-    best = λ other offer. let few = best.greatest other offer.1 in omega (arith, ints, few, best.has);
-    before = before;
-  }
-
 -- ---- a whole scan
 
 -- with the excess that a stage allows

@@ -1,5 +1,5 @@
 -- What a leaf changes, good by good, and that it may stand in a record.
-use Rattle.std.proofs.Common.{◌≡◌, ◌≢◌, ℕ, suc, ◌+◌, ◌<◌, ◌≤◌, Bool, true, false, ◌&&◌, cond, List, [], ◌∷◌, length, drop, get_or, ℤ, pos, refl, ap, ◌∙◌, arith, add-one, drop-cons}
+use Rattle.std.proofs.Common.{◌≡◌, ◌≢◌, ℕ, suc, ◌+◌, ◌<◌, ◌≤◌, Bool, true, false, ◌&&◌, cond, List, [], ◌∷◌, length, drop, get_or, ℤ, pos, refl, arith, add-one, drop-cons}
 use Rattle.std.specs.Prelude.{int_le}
 use Rattle.std.specs.List.{AllByRecursion}
 use Rattle.std.proofs.lemmas.Int.{ints}
@@ -11,9 +11,6 @@ use Rattle.ice_journal.specs.Ranges.{IsMultiplier, Ascends, IsChange, IsStepReco
 use Rattle.ice_journal.specs.Plain.{changes_from}
 use Rattle.ice_journal_laws.specs.Showing.{step_record}
 
-same_is : (a b : ℤ) (t : Bool) → (int_le a b && int_le b a) ≡ t → a ≡ b → t ≡ true
-same_is a b t e is = grind (arith, ints)
-
 differs : (a b : ℤ) (t : Bool) → (int_le a b && int_le b a) ≡ t → a ≢ b → t ≡ false
 differs a b t e ne = grind (arith, ints)
 
@@ -23,12 +20,6 @@ module _ (old new : Multipliers) (g : ℕ) (there : g < length old) (also : g < 
 
   opened : changes_from g (drop g old) (drop g new) ≡ cond (int_le (get_or old g (pos 0)) (get_or new g (pos 0)) && int_le (get_or new g (pos 0)) (get_or old g (pos 0))) (changes_from (g + 1) (drop (g + 1) old) (drop (g + 1) new)) (record { good = g; multiplier = get_or new g (pos 0) } ∷ changes_from (g + 1) (drop (g + 1) old) (drop (g + 1) new))
   opened = rw (drop-cons old g (pos 0) there, drop-cons new g (pos 0) also, add-one g) refl
-
-  pub nothing_changed : get_or old g (pos 0) ≡ get_or new g (pos 0) → changes_from g (drop g old) (drop g new) ≡ changes_from (g + 1) (drop (g + 1) old) (drop (g + 1) new)
-  nothing_changed is = opened ∙ ap (λ (t : Bool). cond t later (record { good = g; multiplier = get_or new g (pos 0) } ∷ later)) (same_is (get_or old g (pos 0)) (get_or new g (pos 0)) _ refl is)
-
-  pub one_changed : get_or old g (pos 0) ≢ get_or new g (pos 0) → changes_from g (drop g old) (drop g new) ≡ record { good = g; multiplier = get_or new g (pos 0) } ∷ changes_from (g + 1) (drop (g + 1) old) (drop (g + 1) new)
-  one_changed ne = opened ∙ ap (λ (t : Bool). cond t later (record { good = g; multiplier = get_or new g (pos 0) } ∷ later)) (differs (get_or old g (pos 0)) (get_or new g (pos 0)) _ refl ne)
 
 -- ---- in a record
 
