@@ -1,6 +1,5 @@
 -- Lists that count the same things, as one list of records.
-use Rattle.std.proofs.Common.{ℕ, suc, ◌+◌, ◌≡◌, Bool, ◌||◌, List, [], ◌∷◌, ◌++◌, map, length, refl, arith, ap}
-use Rattle.std.specs.List.{list_any}
+use Rattle.std.proofs.Common.{ℕ, suc, ◌+◌, ◌≡◌, Bool, List, [], ◌∷◌, ◌++◌, map, length, refl, arith, ap}
 use Rattle.std.proofs.lemmas.List.Sums.{sum_by_push}
 use Rattle.ice_defs.specs.Tree.{Tree}
 use Rattle.ice_defs.specs.Bounds.{Bounds}
@@ -26,11 +25,6 @@ goods_count [] exact same = refl
 goods_count (name ∷ names) [] same = absurd (omega arith)
 goods_count (name ∷ names) (flag ∷ exact) same = ap suc (goods_count names exact (omega arith))
 
-pub goods_any : (test : List ℕ → Bool) (names : List (List ℕ)) (exact : List Bool) → length exact ≡ length names → list_any (λ good. test good.name) (goods_from names exact) ≡ list_any test names
-goods_any test [] exact same = refl
-goods_any test (name ∷ names) [] same = absurd (omega arith)
-goods_any test (name ∷ names) (flag ∷ exact) same = ap (λ b. test name || b) (goods_any test names exact (omega arith))
-
 pub goods_push : (names : List (List ℕ)) (exact : List Bool) (name : List ℕ) (flag : Bool) → length exact ≡ length names
     → goods_from (names ++ name ∷ []) (exact ++ flag ∷ []) ≡ goods_from names exact ++ record { name = name; exact = flag } ∷ []
 goods_push [] [] name flag same = refl
@@ -39,7 +33,7 @@ goods_push (n ∷ names) [] name flag same = absurd (omega arith)
 goods_push (n ∷ names) (f ∷ exact) name flag same =
     ap (λ l. let first : Good = record { name = n; exact = f } in first ∷ l) (goods_push names exact name flag (omega arith))
 
-pub ruleset goods = (goods_names, goods_exact, goods_count, goods_any, goods_push)
+pub ruleset goods = (goods_names, goods_exact, goods_count, goods_push)
 
 -- ---- bidders
 
@@ -86,14 +80,6 @@ bidders_count (name ∷ names) (own ∷ owned) [] bounds p q r = absurd (omega a
 bidders_count (name ∷ names) (own ∷ owned) (tree ∷ trees) [] p q r = absurd (omega arith)
 bidders_count (name ∷ names) (own ∷ owned) (tree ∷ trees) (b ∷ bounds) p q r = ap suc (bidders_count names owned trees bounds (omega arith) (omega arith) (omega arith))
 
-pub bidders_any : (test : List ℕ → Bool) (names owned : List (List ℕ)) (trees : List Tree) (bounds : List Bounds) → length owned ≡ length names → length trees ≡ length names → length bounds ≡ length names
-    → list_any (λ bidder. test bidder.name) (bidders_from names owned trees bounds) ≡ list_any test names
-bidders_any test [] owned trees bounds p q r = refl
-bidders_any test (name ∷ names) [] trees bounds p q r = absurd (omega arith)
-bidders_any test (name ∷ names) (own ∷ owned) [] bounds p q r = absurd (omega arith)
-bidders_any test (name ∷ names) (own ∷ owned) (tree ∷ trees) [] p q r = absurd (omega arith)
-bidders_any test (name ∷ names) (own ∷ owned) (tree ∷ trees) (b ∷ bounds) p q r = ap (λ found. test name || found) (bidders_any test names owned trees bounds (omega arith) (omega arith) (omega arith))
-
 pub bidders_push : (names owned : List (List ℕ)) (trees : List Tree) (bounds : List Bounds) (name own : List ℕ) (tree : Tree) (last : Bounds)
     → length owned ≡ length names → length trees ≡ length names → length bounds ≡ length names
     → bidders_from (names ++ name ∷ []) (owned ++ own ∷ []) (trees ++ tree ∷ []) (bounds ++ last ∷ [])
@@ -112,4 +98,4 @@ bidders_push (n ∷ names) (o ∷ owned) (t ∷ trees) (b ∷ bounds) name own t
 pub nodes_push : (bidders : List Bidder) (b : Bidder) → node_count (bidders ++ b ∷ []) ≡ node_count bidders + length b.tree
 nodes_push bidders b = sum_by_push (λ x. length x.tree) bidders b
 
-pub ruleset bidders = (bidders_names, bidders_owned, bidders_trees, bidders_bounds, bidders_count, bidders_any, bidders_push, nodes_push)
+pub ruleset bidders = (bidders_names, bidders_owned, bidders_trees, bidders_bounds, bidders_count, bidders_push, nodes_push)

@@ -4,7 +4,7 @@ pub mod Aligning
 pub mod Finding
 -- an exchange that grows by a good or a bidder that isn't refused stays lawful
 pub mod Unfinished
--- names are found from either side, and a new name goes last
+-- names by their numbers
 pub mod NameLists
 -- the bounds of an exchange's bidders, and weights of 0 for them
 pub mod Weighted

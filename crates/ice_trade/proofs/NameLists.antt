@@ -1,9 +1,11 @@
--- Names are found from either side, and a new name goes last.
-use Rattle.std.proofs.Common.{◌≡◌, ℕ, zero, suc, ◌<◌, Bool, true, false, ◌||◌, List, [], ◌∷◌, ◌++◌, Result, Ok, Err, IfOk, IsOk, cond, length, get_or, take, arith, ap, ◌∙◌, sym, refl}
-use Rattle.std.specs.List.{AllByRecursion, list_any, IsDistinct}
+-- Names by their numbers: they are found from either side, and a new name goes last.
+use Rattle.std.proofs.Common.{◌≡◌, ℕ, ◌+◌, ◌≤◌, Bool, true, false, ◌||◌, List, [], ◌∷◌, ◌++◌, Result, Ok, Err, IfOk, IsOk, cond, map, arith, ap, ◌∙◌, sym, refl}
+use Rattle.std.specs.List.{list_any}
 use Rattle.std.specs.Str.{bytes_eq}
+use Rattle.std.proofs.lemmas.List.{length_push, length-map, map_push}
 use Rattle.std.proofs.lemmas.Slice.Eq.{bytes_eq-Decides}
-use Rattle.indexmap.specs.IndexSet.{insert_key}
+use Rattle.indexmap.specs.IndexSet.{IndexSet, insert_key, spare}
+use Rattle.ice_trade.specs.Parts.{IsIndex}
 
 same_bool : (a b : Bool) → (a ≡ true → b ≡ true) → (b ≡ true → a ≡ true) → a ≡ b
 same_bool true b left right = sym (left refl)
@@ -16,26 +18,18 @@ turn a b =
     (λ e. (bytes_eq-Decides b a).1 (sym ((bytes_eq-Decides a b).0 e)))
     (λ e. (bytes_eq-Decides a b).1 (sym ((bytes_eq-Decides b a).0 e)))
 
-pub turned : (name : List ℕ) (names : List (List ℕ)) → list_any (bytes_eq name) names ≡ list_any (λ other. bytes_eq other name) names
-turned name [] = refl
-turned name (x ∷ names) = ap (λ b. b || list_any (bytes_eq name) names) (turn name x) ∙ ap (λ b. bytes_eq x name || b) (turned name names)
+-- whether a name is one of those that these are called
+pub called_so : {X : Type 0} (called : X → List ℕ) (name : List ℕ) (xs : List X) → list_any (bytes_eq name) (map called xs) ≡ list_any (λ other. bytes_eq (called other) name) xs
+called_so called name [] = refl
+called_so called name (x ∷ xs) = ap (λ b. b || list_any (bytes_eq name) (map called xs)) (turn name (called x)) ∙ ap (λ b. bytes_eq (called x) name || b) (called_so called name xs)
 
-pub pushed_keys : {E : Type 0} (r : Result Bool E) (new old : List (List ℕ)) (name : List ℕ) → IsOk r → IfOk r (λ b. new ≡ insert_key bytes_eq old name)
-    → list_any (λ other. bytes_eq other name) old ≡ false → new ≡ old ++ name ∷ []
-pushed_keys (Ok b) new old name ok keys fresh = keys ∙ ap (λ there. cond there old (old ++ name ∷ [])) (turned name old ∙ fresh)
-pushed_keys (Err e) new old name ok keys fresh = absurd cc
-
--- ---- names once more
-
--- a name that differs from each differs from the one at a place
-apart : (x : List ℕ) (names : List (List ℕ)) (k : ℕ) → AllByRecursion (λ y. bytes_eq x y ≡ false) names → k < length names → bytes_eq x (get_or names k []) ≡ false
-apart x [] k each l = absurd (omega arith)
-apart x (y ∷ names) zero each l = each.0
-apart x (y ∷ names) (suc k) each l = apart x names k each.1 (omega arith)
-
--- of distinct names each is apart from those before it
-pub copied : (names : List (List ℕ)) (k : ℕ) → IsDistinct bytes_eq names → k < length names → list_any (λ other. bytes_eq other (get_or names k [])) (take k names) ≡ false
-unfolding IsDistinct
-copied [] k distinct l = absurd (omega arith)
-copied (x ∷ names) zero distinct l = refl
-copied (x ∷ names) (suc k) distinct l = ap (λ b. b || list_any (λ other. bytes_eq other (get_or names k [])) (take k names)) (apart x names k distinct.0 (omega arith)) ∙ copied names k distinct.1 (omega arith)
+-- one more is numbered
+pub numbered : {E X S : Type 0} (called : X → List ℕ) (most : ℕ) (xs : List X) (x : X) (r : Result Bool E) (old new : IndexSet (List ℕ) S) (key : List ℕ) → IsIndex most (map called xs) old → key ≡ called x
+    → IsOk r → IfOk r (λ b. new.keys ≡ insert_key bytes_eq old.keys key) → spare old ≤ spare new + 1 → list_any (λ other. bytes_eq (called other) (called x)) xs ≡ false → IsIndex most (map called (xs ++ x ∷ [])) new
+numbered called most xs x (Ok b) old new key is same ok inserted room fresh = (
+  inserted ∙ ap (insert_key bytes_eq old.keys) same
+      ∙ ap (λ there. cond there old.keys (old.keys ++ called x ∷ [])) (ap (list_any (bytes_eq (called x))) is.0 ∙ called_so called (called x) xs ∙ fresh)
+      ∙ ap (λ names. names ++ called x ∷ []) is.0 ∙ sym (map_push called xs x),
+  omega (arith, is.1, room, length-map xs called, length-map (xs ++ x ∷ []) called, length_push xs x),
+)
+numbered called most xs x (Err e) old new key is same ok inserted room fresh = absurd cc

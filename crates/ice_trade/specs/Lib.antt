@@ -1,4 +1,3 @@
-pub mod Names
 pub mod Fault
 pub mod Parts
 pub mod Excess

@@ -1,5 +1,5 @@
 -- How an exchange is made of its parts, and what holds of one that isn't finished.
-use Rattle.std.specs.Prelude.{ℕ, ◌≤◌, ◌≡◌, IsTrue, Bool, List, [], ◌∷◌, ◌++◌, length, None}
+use Rattle.std.specs.Prelude.{ℕ, ◌≤◌, ◌+◌, ◌≡◌, IsTrue, Bool, List, [], ◌∷◌, ◌++◌, length, None}
 use Rattle.std.specs.List.{AllByRecursion, IsDistinct}
 use Rattle.std.specs.Str.{bytes_eq}
 use Rattle.ice_defs.specs.Tree.{Tree}
@@ -8,6 +8,7 @@ use Rattle.ice_defs.specs.Bounds.{Bounds}
 use Rattle.ice_defs.specs.Exchange.{Settings, AreSettings, Good, Bidder, Exchange, names_of}
 use Rattle.ice_defs.specs.Lawful.{IsBidder, good_names}
 use Rattle.ice_defs.specs.Making.{node_count, over_sale}
+use Rattle.indexmap.specs.IndexSet.{IndexSet, spare}
 
 abbrev pub goods_from : List (List ℕ) → List Bool → List Good
 goods_from [] exact = []
@@ -43,3 +44,13 @@ pub record IsUnfinished (ex : Exchange) : Type 0 where
   pub bidders : AllByRecursion (IsBidder (length ex.goods)) ex.bidders
   pub nodes : node_count ex.bidders ≤ 2000
   pub sold : AllByRecursion (λ b. over_sale (length ex.goods) b.tree b.own ≡ None) ex.bidders
+
+-- the numbers of these names, with room for so many
+abbrev pub IsIndex : {S : Type 0} → ℕ → List (List ℕ) → IndexSet (List ℕ) S → Type 0
+IsIndex most names numbers = (numbers.keys ≡ names) × (most ≤ length names + spare numbers)
+
+-- what a maker keeps: its exchange, and the numbers of its goods and bidders
+pub record IsKept {S : Type 0} (ex : Exchange) (goods bidders : IndexSet (List ℕ) S) : Type 0 where
+  pub unfinished : IsUnfinished ex
+  pub by_good : IsIndex 32 (good_names ex) goods
+  pub by_bidder : IsIndex 40 (names_of ex) bidders

@@ -1,10 +1,10 @@
 //! The bidders of an exchange.
-ghost use Rattle.std.specs.Prelude.{◌≡◌, ◌≤◌, ◌<◌, ◌+◌, ◌++◌, [], ◌∷◌, false, IfOk, length, map, slice_index, slice_index_or};
-ghost use Rattle.std.specs.List.{position, list_any};
+ghost use Rattle.std.specs.Prelude.{◌≡◌, ◌≤◌, ◌<◌, ◌+◌, ◌++◌, [], ◌∷◌, IfOk, length, map, slice_index, slice_index_or};
+ghost use Rattle.std.specs.List.{position};
 ghost use Rattle.std.specs.Str.{bytes_eq};
 ghost use Rattle.ice_defs.specs.Making.{node_count};
 
-use crate::names::Names;
+use crate::names::number_of;
 use crate::owned::Owned;
 use ice_defs::MOST_BIDDERS;
 use ice_terms::Name;
@@ -16,7 +16,7 @@ use std::marker::Model;
 /// opening bounds.
 #[derive(Drop)]
 pub(crate) struct Bidders {
-    names: Names,
+    names: Vec<Name>,
     owned: Vec<Owned>,
     trees: Vec<Tree>,
     bounds: Vec<Bounds>,
@@ -44,7 +44,7 @@ impl Bidders {
     {
         let most = usize::from(MOST_BIDDERS);
         Ok(Bidders {
-            names: Names::new(alloc, most)?,
+            names: Vec::with_capacity(alloc, most)?,
             owned: Vec::with_capacity(alloc, most)?,
             trees: Vec::with_capacity(alloc, most)?,
             bounds: Vec::with_capacity(alloc, most)?,
@@ -68,18 +68,11 @@ impl Bidders {
         self.nodes
     }
 
-    /// Whether a bidder has this name.
-    pub(crate) fn has(&self, name: &Name) -> bool
-        ensures { result ≡ list_any (λ other. bytes_eq other.name name.now) self.now }
-    {
-        self.names.contains(name)
-    }
-
     /// The number of the bidder with this name.
-    pub(crate) fn find(&self, name: &Name) -> Option<u8>
+    pub(crate) fn find(&self, name: &str) -> Option<u8>
         ensures { result ≡ position (bytes_eq name.now) (map (λ bidder. bidder.name) self.now) }
     {
-        let number = self.names.find(name)?;
+        let number = number_of(&self.names, name)?;
         Some(number as u8)
     }
 
@@ -88,7 +81,7 @@ impl Bidders {
         requires { bidder < length self.now }
         ensures { result.now ≡ slice_index_or (map (λ bidder. bidder.name) self.now) bidder [] }
     {
-        self.names.get(bidder as usize)
+        &self.names[bidder as usize]
     }
 
     /// What a bidder owns of a good.
@@ -117,10 +110,9 @@ impl Bidders {
         &self.bounds
     }
 
-    /// Adds a bidder of a new name. It takes no memory.
+    /// Adds a bidder. It takes no memory.
     pub(crate) fn push(&mut self, name: Name, own: &[u32], tree: Tree, bounds: Bounds)
         requires room { length self.old < 40 }
-        requires fresh { list_any (λ other. bytes_eq other.name name) self.old ≡ false }
         requires goods { length own.now ≤ 32 }
         requires nodes { node_count self.old + length tree ≤ 2000 }
         ensures { self.new ≡ self.old ++ record {
@@ -132,7 +124,7 @@ impl Bidders {
         } ∷ [] }
     {
         self.nodes += tree.nodes();
-        self.names.push(name);
+        self.names.push(name).unwrap();
         self.owned.push(Owned::new(own)).unwrap();
         self.trees.push(tree).unwrap();
         self.bounds.push(bounds).unwrap();

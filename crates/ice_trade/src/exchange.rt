@@ -11,9 +11,10 @@ ghost use Rattle.ice_tree.specs.Alike.{HasWeightPerNode};
 ghost use Rattle.ice_trade.specs.Excess.{IsExcess};
 ghost use Rattle.ice_defs.specs.Lawful.{IsExchange, good_names};
 
+use crate::bidders::Bidders;
 use crate::faults::TradeFault;
 use crate::feasible::first_excess;
-use crate::maker::ExchangeMaker;
+use crate::goods::Goods;
 use ice_terms::{Name, Settings};
 use ice_tree::{AllWeights, Assignment, Bounds, TotalUnits, Tree};
 use std::alloc::{AllocError, Global};
@@ -21,9 +22,21 @@ use std::marker::Model;
 
 /// An exchange: its settings, 1 to 32 goods, and 1 to 40 bidders with their owned amounts, trees
 /// and opening bounds. No bidder's tree may sell more of a good than the bidder owns.
-#[derive(Drop)]
 pub struct Exchange {
-    made: ExchangeMaker,
+    pub(crate) settings: Settings,
+    pub(crate) goods: Goods,
+    pub(crate) bidders: Bidders,
+}
+
+// By hand, so that each exit that drops one has one call to prove, and not all its parts.
+impl Drop for Exchange {
+    fn drop(self) {
+        let Exchange {
+            settings: _,
+            goods: _,
+            bidders: _,
+        } = self;
+    }
 }
 
 impl Model for Exchange {
@@ -32,24 +45,17 @@ impl Model for Exchange {
 
     ghost Value = { exchange.Exchange };
 
-    ghost view = { λ e. e.made };
+    ghost view = { λ e. record { settings = e.settings; goods = e.goods; bidders = e.bidders } };
 
-    ghost invariant = { λ e. IsExchange e.made };
+    ghost invariant = { λ e. IsExchange (record { settings = e.settings; goods = e.goods; bidders = e.bidders }) };
 }
 
 impl Exchange {
-    pub(crate) fn of(made: ExchangeMaker) -> Exchange
-        requires { IsExchange made }
-        ensures { result ≡ made }
-    {
-        Exchange { made }
-    }
-
     /// Its settings.
     pub fn settings(&self) -> Settings
         ensures { result ≡ self.now.settings }
     {
-        self.made.settings
+        self.settings
     }
 
     /// How many goods it has, 1 to 32.
@@ -57,7 +63,7 @@ impl Exchange {
         ensures value { result ≡ length self.now.goods }
         ensures lawful { IsExchange self.now }
     {
-        self.made.goods.len()
+        self.goods.len()
     }
 
     /// How many bidders it has, 1 to 40.
@@ -65,7 +71,7 @@ impl Exchange {
         ensures value { result ≡ length self.now.bidders }
         ensures lawful { IsExchange self.now }
     {
-        self.made.bidders.len()
+        self.bidders.len()
     }
 
     /// The name of a good.
@@ -73,7 +79,7 @@ impl Exchange {
         requires { good < length self.now.goods }
         ensures { result.now ≡ slice_index_or (good_names self.now) good [] }
     {
-        self.made.goods.name(good)
+        self.goods.name(good)
     }
 
     /// The name of a bidder.
@@ -81,17 +87,18 @@ impl Exchange {
         requires { bidder < length self.now.bidders }
         ensures { result.now ≡ slice_index_or (names_of self.now) bidder [] }
     {
-        self.made.bidders.name(bidder)
+        self.bidders.name(bidder)
     }
 
     /// How many units of a good a bidder owns.
+    #[tactic(auto, using(crate::proofs::Unfinished::owning))]
     pub fn owns(&self, bidder: u8, good: u8) -> u32
         requires bidder { bidder < length self.now.bidders }
         requires good { good < length self.now.goods }
         ensures value { pos result ≡ owned_amount (market_of self.now) bidder good }
         ensures fits { result ≤ 1000000 }
     {
-        self.made.owns(bidder, good)
+        self.bidders.owns(bidder, good)
     }
 
     /// Whether what is bought of a good must equal what is sold of it.
@@ -99,14 +106,14 @@ impl Exchange {
         requires { good < length self.now.goods }
         ensures { result ≡ is_exact (exact_of self.now) good }
     {
-        self.exact()[good as usize]
+        self.goods.is_exact(good)
     }
 
     /// For each good whether what is bought of it must equal what is sold.
     pub fn exact(&self) -> &[bool]
         ensures { result.now ≡ exact_of self.now }
     {
-        self.made.goods.exact()
+        self.goods.exact()
     }
 
     /// The trees of the bidders.
@@ -114,7 +121,7 @@ impl Exchange {
         ensures value { result.now ≡ trees_of self.now }
         ensures lawful { IsExchange self.now }
     {
-        self.made.bidders.trees()
+        self.bidders.trees()
     }
 
     /// The tree of a bidder.
@@ -130,7 +137,7 @@ impl Exchange {
         ensures value { result.now ≡ opening_bounds self.now }
         ensures lawful { IsExchange self.now }
     {
-        self.made.bidders.bounds()
+        self.bidders.bounds()
     }
 
     /// The weighted values of all nodes at the opening bounds, in hundredths: the settings' weight
@@ -150,14 +157,14 @@ impl Exchange {
     pub fn find_good(&self, name: &str) -> Option<u8>
         ensures { result ≡ position (bytes_eq name.now) (good_names self.now) }
     {
-        self.made.find_good(name)
+        self.goods.find(name)
     }
 
     /// The number of the bidder with this name, and None exactly where there is none.
     pub fn find_bidder(&self, name: &str) -> Option<u8>
         ensures { result ≡ position (bytes_eq name.now) (names_of self.now) }
     {
-        self.made.find_bidder(name)
+        self.bidders.find(name)
     }
 
     /// Whether the units of these sets balance: at most 0 of each good in sum, and exactly 0 of

@@ -1,9 +1,9 @@
 //! The goods of an exchange.
 ghost use Rattle.std.specs.Prelude.{◌≡◌, ◌≤◌, ◌<◌, ◌++◌, [], ◌∷◌, false, IfOk, length, map, slice_index_or};
-ghost use Rattle.std.specs.List.{position, list_any, IsDistinct};
+ghost use Rattle.std.specs.List.{position};
 ghost use Rattle.std.specs.Str.{bytes_eq};
 
-use crate::names::Names;
+use crate::names::number_of;
 use arrayvec::ArrayVec;
 use ice_defs::MOST_GOODS;
 use ice_terms::Name;
@@ -13,20 +13,20 @@ use std::marker::Model;
 /// At most 32 goods, numbered from 0 on, each with its name and whether it is exact.
 #[derive(Drop)]
 pub(crate) struct Goods {
-    names: Names,
+    names: Vec<Name>,
     exact: ArrayVec<bool, 32>,
 }
 
 impl Model for Goods {
-    ghost use Rattle.std.specs.Prelude.{List, ◌≡◌, ◌≤◌, length};
+    ghost use Rattle.std.specs.Prelude.{List, ◌≡◌, ◌≤◌, length, vec_capacity};
     ghost use Rattle.ice_defs.specs.Exchange.{Good};
     ghost use Rattle.ice_trade.specs.Parts.{goods_from};
 
     ghost Value = { List Good };
 
-    ghost view = { λ t. goods_from t.names.names t.exact.items };
+    ghost view = { λ t. goods_from t.names.items t.exact.items };
 
-    ghost invariant = { λ t. (t.names.most ≡ 32) × (length t.exact.items ≡ length t.names.names) × (length t.names.names ≤ 32) };
+    ghost invariant = { λ t. (32 ≤ vec_capacity t.names) × (length t.exact.items ≡ length t.names.items) × (length t.names.items ≤ 32) };
 }
 
 #[tactic(auto, using(crate::proofs::Aligning::goods))]
@@ -36,19 +36,8 @@ impl Goods {
         ensures { IfOk result (λ t. t ≡ []) }
     {
         Ok(Goods {
-            names: Names::new(alloc, usize::from(MOST_GOODS))?,
+            names: Vec::with_capacity(alloc, usize::from(MOST_GOODS))?,
             exact: ArrayVec::new(),
-        })
-    }
-
-    /// The same goods once more, with the memory for 32.
-    pub(crate) fn copy(&self, alloc: Global) -> Result<Goods, AllocError>
-        requires { IsDistinct bytes_eq (map (λ good. good.name) self.now) }
-        ensures { IfOk result (λ t. t ≡ self.now) }
-    {
-        Ok(Goods {
-            names: self.names.copy(alloc)?,
-            exact: self.exact.clone()?,
         })
     }
 
@@ -60,18 +49,11 @@ impl Goods {
         self.exact.len() as u8
     }
 
-    /// Whether a good has this name.
-    pub(crate) fn has(&self, name: &Name) -> bool
-        ensures { result ≡ list_any (λ other. bytes_eq other.name name.now) self.now }
-    {
-        self.names.contains(name)
-    }
-
     /// The number of the good with this name.
-    pub(crate) fn find(&self, name: &Name) -> Option<u8>
+    pub(crate) fn find(&self, name: &str) -> Option<u8>
         ensures { result ≡ position (bytes_eq name.now) (map (λ good. good.name) self.now) }
     {
-        let number = self.names.find(name)?;
+        let number = number_of(&self.names, name)?;
         Some(number as u8)
     }
 
@@ -80,7 +62,15 @@ impl Goods {
         requires { good < length self.now }
         ensures { result.now ≡ slice_index_or (map (λ good. good.name) self.now) good [] }
     {
-        self.names.get(good as usize)
+        &self.names[good as usize]
+    }
+
+    /// Whether a good is exact.
+    pub(crate) fn is_exact(&self, good: u8) -> bool
+        requires { good < length self.now }
+        ensures { result ≡ slice_index_or (map (λ good. good.exact) self.now) good false }
+    {
+        self.exact[good as usize]
     }
 
     /// For each good whether it is exact.
@@ -90,13 +80,12 @@ impl Goods {
         self.exact.as_slice()
     }
 
-    /// Adds a good of a new name. It takes no memory.
+    /// Adds a good. It takes no memory.
     pub(crate) fn push(&mut self, name: Name, exact: bool)
-        requires room { length self.old < 32 }
-        requires fresh { list_any (λ other. bytes_eq other.name name) self.old ≡ false }
+        requires { length self.old < 32 }
         ensures { self.new ≡ self.old ++ record { name = name; exact = exact } ∷ [] }
     {
-        self.names.push(name);
+        self.names.push(name).unwrap();
         self.exact.push(exact);
     }
 }

@@ -1,6 +1,6 @@
 //! The maker of an exchange.
-ghost use Rattle.std.specs.Prelude.{◌≡◌, ◌≤◌, ◌<◌, [], length, IfOk, OnErr, IfErr, pos, false, true};
-ghost use Rattle.std.specs.List.{position};
+ghost use Rattle.std.specs.Prelude.{◌≡◌, ◌≤◌, ◌<◌, [], None, length, IfOk, OnErr, IfErr, pos, false, true};
+ghost use Rattle.std.specs.List.{position, list_any};
 ghost use Rattle.std.specs.Str.{bytes_eq};
 ghost use Rattle.ice_defs.specs.Exchange.{names_of, market_of};
 ghost use Rattle.ice_defs.specs.Market.{owned_amount};
@@ -18,15 +18,18 @@ use crate::sale::{OverSold, over_sale};
 use ice_defs::{MOST_BIDDERS, MOST_GOODS, MOST_NODES_OF_ALL};
 use ice_terms::{Name, Settings};
 use ice_tree::{Bounds, Tree};
+use indexmap::IndexSet;
 use std::alloc::{AllocError, Global};
 use std::marker::Model;
 
 /// An exchange that is being made: first its goods, and then its bidders. All memory is taken when
 /// it is made.
 pub struct ExchangeMaker {
-    pub(crate) settings: Settings,
-    pub(crate) goods: Goods,
-    pub(crate) bidders: Bidders,
+    settings: Settings,
+    goods: Goods,
+    bidders: Bidders,
+    good_numbers: IndexSet<Name>,
+    bidder_numbers: IndexSet<Name>,
 }
 
 // By hand, so that each exit that drops one has one call to prove, and not all its parts.
@@ -36,19 +39,21 @@ impl Drop for ExchangeMaker {
             settings: _,
             goods: _,
             bidders: _,
+            good_numbers: _,
+            bidder_numbers: _,
         } = self;
     }
 }
 
 impl Model for ExchangeMaker {
     ghost use Rattle.ice_defs.specs.Exchange as exchange;
-    ghost use Rattle.ice_trade.specs.Parts.{IsUnfinished};
+    ghost use Rattle.ice_trade.specs.Parts.{IsKept};
 
     ghost Value = { exchange.Exchange };
 
     ghost view = { λ m. record { settings = m.settings; goods = m.goods; bidders = m.bidders } };
 
-    ghost invariant = { λ m. IsUnfinished (record { settings = m.settings; goods = m.goods; bidders = m.bidders }) };
+    ghost invariant = { λ m. IsKept (record { settings = m.settings; goods = m.goods; bidders = m.bidders }) m.good_numbers m.bidder_numbers };
 }
 
 impl ExchangeMaker {
@@ -61,6 +66,8 @@ impl ExchangeMaker {
             settings,
             goods: Goods::new(alloc)?,
             bidders: Bidders::new(alloc)?,
+            good_numbers: IndexSet::with_capacity(alloc, usize::from(MOST_GOODS))?,
+            bidder_numbers: IndexSet::with_capacity(alloc, usize::from(MOST_BIDDERS))?,
         })
     }
 
@@ -68,11 +75,11 @@ impl ExchangeMaker {
     pub fn without_bidders(&self, alloc: Global) -> Result<ExchangeMaker, AllocError>
         ensures { IfOk result (λ m. m ≡ record self.now { bidders = [] }) }
     {
-        Ok(ExchangeMaker {
-            settings: self.settings,
-            goods: self.goods.copy(alloc)?,
-            bidders: Bidders::new(alloc)?,
-        })
+        let mut maker = ExchangeMaker::new(alloc, self.settings)?;
+        for good in 0..self.goods() {
+            maker.push_good(self.goods.name(good).copy(), self.goods.is_exact(good));
+        }
+        Ok(maker)
     }
 
     /// Its settings.
@@ -103,14 +110,16 @@ impl ExchangeMaker {
     pub fn find_good(&self, name: &str) -> Option<u8>
         ensures { result ≡ position (bytes_eq name.now) (good_names self.now) }
     {
-        self.goods.find(&Name::new(name)?)
+        let number = self.good_numbers.get_index_of(&Name::new(name)?)?;
+        Some(number as u8)
     }
 
     /// The number of the bidder with this name, and None exactly where there is none.
     pub fn find_bidder(&self, name: &str) -> Option<u8>
         ensures { result ≡ position (bytes_eq name.now) (names_of self.now) }
     {
-        self.bidders.find(&Name::new(name)?)
+        let number = self.bidder_numbers.get_index_of(&Name::new(name)?)?;
+        Some(number as u8)
     }
 
     /// How many units of a good a bidder owns.
@@ -124,6 +133,12 @@ impl ExchangeMaker {
         self.bidders.owns(bidder, good)
     }
 
+    fn has_good(&self, name: &Name) -> bool
+        ensures { result ≡ list_any (λ other. bytes_eq other.name name.now) self.now.goods }
+    {
+        self.good_numbers.contains(name)
+    }
+
     fn check_good(&self, name: &str) -> Result<Name, MakeFault>
         ensures made { IfOk result (λ made. made ≡ name.now) }
         ensures refused { RefusedBy result (good_refusal self.now.goods self.now.bidders name.now) }
@@ -134,13 +149,21 @@ impl ExchangeMaker {
         let Some(name) = Name::new(name) else {
             return Err(MakeFault::BadName);
         };
-        if self.goods.has(&name) {
+        if self.has_good(&name) {
             return Err(MakeFault::DuplicateGood);
         }
         if self.goods() >= MOST_GOODS {
             return Err(MakeFault::TooMany);
         }
         Ok(name)
+    }
+
+    fn push_good(&mut self, name: Name, exact: bool)
+        requires { good_refusal self.old.goods self.old.bidders name ≡ None }
+        ensures { self.new ≡ with_good self.old (record { name = name; exact = exact }) }
+    {
+        self.good_numbers.insert(name.copy()).unwrap();
+        self.goods.push(name, exact);
     }
 
     fn add_good(&mut self, name: &str, exact: bool) -> Result<u8, MakeFault>
@@ -151,7 +174,7 @@ impl ExchangeMaker {
     {
         let name = self.check_good(name)?;
         let number = self.goods();
-        self.goods.push(name, exact);
+        self.push_good(name, exact);
         Ok(number)
     }
 
@@ -180,6 +203,12 @@ impl ExchangeMaker {
         self.add_good(name, true)
     }
 
+    fn has_bidder(&self, name: &Name) -> bool
+        ensures { result ≡ list_any (λ other. bytes_eq other.name name.now) self.now.bidders }
+    {
+        self.bidder_numbers.contains(name)
+    }
+
     fn check_bidder(&self, name: &str, own: &[u32], tree: &Tree) -> Result<Name, MakeFault>
         requires { length own.now ≡ length self.now.goods }
         ensures made { IfOk result (λ made. made ≡ name.now) }
@@ -191,7 +220,7 @@ impl ExchangeMaker {
         let Some(name) = Name::new(name) else {
             return Err(MakeFault::BadName);
         };
-        if self.bidders.has(&name) {
+        if self.has_bidder(&name) {
             return Err(MakeFault::DuplicateBidder);
         }
         if self.bidders() >= MOST_BIDDERS
@@ -233,6 +262,7 @@ impl ExchangeMaker {
     {
         let name = self.check_bidder(name, own, &tree)?;
         let number = self.bidders();
+        self.bidder_numbers.insert(name.copy()).unwrap();
         self.bidders.push(name, own, tree, bounds);
         Ok(number)
     }
@@ -246,6 +276,17 @@ impl ExchangeMaker {
         if self.goods.len() == 0 || self.bidders.len() == 0 {
             return Err(MakeFault::Empty);
         }
-        Ok(Exchange::of(self))
+        let ExchangeMaker {
+            settings,
+            goods,
+            bidders,
+            good_numbers: _,
+            bidder_numbers: _,
+        } = self;
+        Ok(Exchange {
+            settings,
+            goods,
+            bidders,
+        })
     }
 }

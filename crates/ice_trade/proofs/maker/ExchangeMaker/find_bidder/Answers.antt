@@ -7,7 +7,7 @@ use Rattle.ice_trade.proofs.maker.ExchangeMaker.find_bidder.Goals as goal
 
 pub returns-in_err-new : goal.returns-in_err-new
 returns-in_err-new c =
-    let is : IsUnfinished c.args.self.now = subst IsUnfinished c.self.view_is c.self.invariant in
+    let is : IsUnfinished c.args.self.now = subst IsUnfinished c.self.view_is c.self.invariant.unfinished in
     let unlawful : ¬ IsTrue (is_name c.args.name.now) = search rules in
     let none : c.from_residual.result ≡ None = search rules in
     none ∙ sym (unlawful_absent c.args.name.now (names_of c.args.self.now) is.bidders_named unlawful)

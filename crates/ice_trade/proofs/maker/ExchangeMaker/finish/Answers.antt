@@ -1,10 +1,15 @@
-use Rattle.std.proofs.Common.{rules, ◌≤◌, length, subst}
-use Rattle.ice_trade.specs.Parts.{IsUnfinished}
+use Rattle.std.proofs.Common.{rules, ◌≤◌, length}
 use Rattle.ice_trade.proofs.Unfinished.{IsUnfinished-finished}
 use Rattle.ice_trade.proofs.maker.ExchangeMaker.finish.Goals as goal
 
-pub of-requires : goal.of-requires
-of-requires c =
-    let good : 1 ≤ length c.args.self.goods = search rules in
-    let bidder : 1 ≤ length c.args.self.bidders = search rules in
-    IsUnfinished-finished c.args.self (subst IsUnfinished c.self.view_is c.self.invariant) good bidder
+pub invariant_of-result : goal.invariant_of-result
+invariant_of-result c =
+    let good : 1 ≤ length c.self.inside.goods = search rules in
+    let bidder : 1 ≤ length c.self.inside.bidders = search rules in
+    IsUnfinished-finished _ c.self.invariant.unfinished good bidder
+
+pub returns-clause-lawful : goal.returns-clause-lawful
+returns-clause-lawful c =
+    let good : 1 ≤ length c.self.inside.goods = search rules in
+    let bidder : 1 ≤ length c.self.inside.bidders = search rules in
+    IsUnfinished-finished _ c.self.invariant.unfinished good bidder
