@@ -20,7 +20,7 @@ use ice_bound::{Desk, Multipliers};
 use ice_defs::{Group, Mark};
 use ice_journal::{Line, Version};
 use ice_journal_laws::Rule;
-use ice_refute::{LogFault, Step, Walk};
+use ice_refute::{Step, StepFault, Walk};
 use ice_trade::Exchange;
 use ice_tree::{AllWeights, Assignment, Bounds, Tree};
 use std::alloc::{AllocError, Global};
@@ -49,16 +49,14 @@ impl Drop for LogWalk {
 }
 
 /// The rule of a step's fault.
-fn rule_of(fault: LogFault) -> Rule
+fn rule_of(fault: StepFault) -> Rule
     ensures { result ≡ rule_of_fault fault }
 {
     match fault {
-        LogFault::Fixed { .. } => Rule::Fixed,
-        LogFault::Sign { .. } => Rule::Sign,
-        LogFault::Above { .. } => Rule::Above,
-        LogFault::NotDead { .. } => Rule::Alive,
-        LogFault::Short => Rule::Short,
-        LogFault::Long { .. } => Rule::Order,
+        StepFault::Fixed => Rule::Fixed,
+        StepFault::Sign => Rule::Sign,
+        StepFault::Above { .. } => Rule::Above,
+        StepFault::NotDead => Rule::Alive,
     }
 }
 

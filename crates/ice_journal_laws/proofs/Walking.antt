@@ -11,8 +11,8 @@ use Rattle.ice_defs.specs.Log.{Fault, above, is_above, is_dead_leaf, closes}
 use Rattle.ice_defs.specs.declared.Group.{Group}
 use Rattle.ice_refute.specs.Passing.{PassesAt, HasFault}
 use Rattle.ice_refute.specs.Waiting.{first_side}
-use Rattle.ice_refute.specs.declared.fault.LogFault.{LogFault}
-use Rattle.ice_refute.specs.declared.fault.LogFault.TheVariants.{Fixed, Sign, Above, NotDead}
+use Rattle.ice_refute.specs.declared.fault.StepFault.{StepFault}
+use Rattle.ice_refute.specs.declared.fault.StepFault.TheVariants.{Fixed, Sign, Above, NotDead}
 use Rattle.ice_refute.proofs.Same.{Reads-same}
 use Rattle.ice_journal.specs.Records.{Record, Version, version_1, version_2}
 use Rattle.ice_journal.specs.Records as line
@@ -90,8 +90,8 @@ module _ (s : State) (g : Group) (found : Stated) (side : Side) (others : List S
       least z (by_alive h) l = omega (arith, l)
 
   -- a step has a fault at its side
-  step_at_fault : (x : Step) (why : LogFault) → IsStated x → ¬ IsNear → HasFault (trees_at s) (exact_at s) (weights_at s g) found.value side x why → TakesOn Before r (failed (record { line = s.line; rule = rule_of_fault why }))
-  step_at_fault (branch b n) (Fixed k) e near (at, h) = fails_step (branch b n) rule.Fixed e (to_step (λ t. IsFixed Before t.side t.step) (branch b n) e h) least
+  step_at_fault : (x : Step) (why : StepFault) → IsStated x → ¬ IsNear → HasFault (trees_at s) (exact_at s) (weights_at s g) found.value side x why → TakesOn Before r (failed (record { line = s.line; rule = rule_of_fault why }))
+  step_at_fault (branch b n) Fixed e near h = fails_step (branch b n) rule.Fixed e (to_step (λ t. IsFixed Before t.side t.step) (branch b n) e h) least
     where
       least : (z : Rule) → StepFailure (branch b n) z → place_of z < 13 → ⊥
       least z (by_near f) l = near f
@@ -99,7 +99,7 @@ module _ (s : State) (g : Group) (found : Stated) (side : Side) (others : List S
       least z (by_fixed f) l = omega (arith, l)
       least z (by_above f) l = f
       least z (by_alive f) l = f
-  step_at_fault (leaf n) (Sign k) e near (at, h) = fails_step (leaf n) rule.Sign e (to_step (λ t. HasSign Before t.step) (leaf n) e h) least
+  step_at_fault (leaf n) Sign e near h = fails_step (leaf n) rule.Sign e (to_step (λ t. HasSign Before t.step) (leaf n) e h) least
     where
       least : (z : Rule) → StepFailure (leaf n) z → place_of z < 12 → ⊥
       least z (by_near f) l = near f
@@ -107,7 +107,7 @@ module _ (s : State) (g : Group) (found : Stated) (side : Side) (others : List S
       least z (by_fixed f) l = f
       least z (by_above f) l = omega (arith, l)
       least z (by_alive f) l = f
-  step_at_fault (leaf n) (Above k v) e near (at, signs, bound, high) = fails_step (leaf n) rule.Above e (to_step (λ t. IsAbove Before t t.step) (leaf n) e (v, bound, high)) least
+  step_at_fault (leaf n) (Above v) e near (signs, bound, high) = fails_step (leaf n) rule.Above e (to_step (λ t. IsAbove Before t t.step) (leaf n) e (v, bound, high)) least
     where
       least : (z : Rule) → StepFailure (leaf n) z → place_of z < 14 → ⊥
       least z (by_near f) l = near f
@@ -115,7 +115,7 @@ module _ (s : State) (g : Group) (found : Stated) (side : Side) (others : List S
       least z (by_fixed f) l = f
       least z (by_above f) l = omega (arith, l)
       least z (by_alive f) l = f
-  step_at_fault (dead b) (NotDead k) e near (at, h) = fails_step (dead b) rule.Alive e (to_step (λ t. IsAlive Before t.side t.step) (dead b) e h) least
+  step_at_fault (dead b) NotDead e near h = fails_step (dead b) rule.Alive e (to_step (λ t. IsAlive Before t.side t.step) (dead b) e h) least
     where
       least : (z : Rule) → StepFailure (dead b) z → place_of z < 15 → ⊥
       least z (by_near f) l = near f

@@ -6,22 +6,20 @@ use Rattle.ice_defs.specs.Bound.{Multipliers}
 use Rattle.ice_defs.specs.Steps.{Step, Side, sides_after}
 use Rattle.ice_refute.specs.Waiting.{first_side}
 use Rattle.ice_refute.specs.Passing.{PassesAt, HasFault}
-use Rattle.ice_refute.specs.declared.fault.LogFault.{LogFault}
-use Rattle.ice_refute.specs.declared.fault.LogFault.TheVariants as fault
+use Rattle.ice_refute.specs.declared.fault.StepFault.{StepFault}
+use Rattle.ice_refute.specs.declared.fault.StepFault.TheVariants as fault
 use Rattle.ice_journal.specs.Records.{Record, Version}
 use Rattle.ice_journal_laws.specs.declared.rule.Rule.{Rule}
 use Rattle.ice_journal_laws.specs.declared.rule.Rule.TheVariants as rule
 use Rattle.ice_journal_laws.specs.Fields.{step_in, changes_in, multipliers_after}
 use Rattle.ice_journal_laws.specs.Tests.{IsNoChange}
 
--- the rule of a step's fault; steps end too early or too late by the order of records
-abbrev pub rule_of_fault : LogFault → Rule
-rule_of_fault (fault.Fixed number) = rule.Fixed
-rule_of_fault (fault.Sign number) = rule.Sign
-rule_of_fault (fault.Above number v) = rule.Above
-rule_of_fault (fault.NotDead number) = rule.Alive
-rule_of_fault fault.Short = rule.Short
-rule_of_fault (fault.Long number) = rule.Order
+-- the rule of a step's fault
+abbrev pub rule_of_fault : StepFault → Rule
+rule_of_fault fault.Fixed = rule.Fixed
+rule_of_fault fault.Sign = rule.Sign
+rule_of_fault (fault.Above v) = rule.Above
+rule_of_fault fault.NotDead = rule.Alive
 
 -- a change names a good that isn't there, or the number that the good has
 abbrev pub IsMisstating : Version → Multipliers → Record → Type 0
@@ -29,7 +27,7 @@ IsMisstating version m r = IsSomeAnd (changes_in version r) (Any (IsNoChange (le
 
 -- the rule of the fault that a step has at its side
 pub record FailsAt (ts : List Tree) (exact : List Bool) (ws : List Weights) (target : ℤ) (side : Side) (x : Step) (y : Rule) : Type 0 where
-  pub why : LogFault
+  pub why : StepFault
   pub fault : HasFault ts exact ws target side x why
   pub rule_is : y ≡ rule_of_fault why
 
@@ -48,5 +46,5 @@ module _ (ts : List Tree) (exact : List Bool) (ws : List Weights) (target : ℤ)
   pub data FailsStep (sides : List Side) (m : Multipliers) (r : Record) : Rule → Type 0 where
     no_step : step_in version (length m) m r ≡ None → FailsStep sides m r rule.Order
     is_misstated : {x : Step} → step_in version (length m) m r ≡ Some x → IsMisstating version m r → FailsStep sides m r rule.Near
-    has_fault : {x : Step} (why : LogFault) → step_in version (length m) m r ≡ Some x → ¬ IsMisstating version m r
+    has_fault : {x : Step} (why : StepFault) → step_in version (length m) m r ≡ Some x → ¬ IsMisstating version m r
         → HasFault ts exact ws target (first_side sides) x why → FailsStep sides m r (rule_of_fault why)

@@ -5,11 +5,13 @@ use Rattle.ice_defs.specs.Tree.{Tree}
 use Rattle.ice_defs.specs.Set.{Weights}
 use Rattle.ice_defs.specs.Bound.{Multipliers}
 use Rattle.ice_defs.specs.Steps.{Step, branch, leaf, dead, Side, with_mark, sides_after}
-use Rattle.ice_defs.specs.Log.{IsFreeNode, Fault, short, fixed, sign, above, not_dead, Reads, ends, branches, stops, is_fixed, has_sign, is_dead_leaf, closes, is_above, is_dead, is_alive, Passes}
+use Rattle.ice_defs.specs.Log.{IsFreeNode, Fault, short, Reads, ends, branches, stops, is_fixed, has_sign, is_dead_leaf, closes, is_above, is_dead, is_alive, Passes}
 use Rattle.ice_refute.specs.declared.fault.LogFault.{LogFault}
 use Rattle.ice_refute.specs.declared.fault.LogFault.TheVariants as faults
 use Rattle.ice_refute.specs.Passing.{PassesAt, HasFault}
-use Rattle.ice_refute.specs.Faults.{with_number, IsLogFault}
+use Rattle.ice_refute.specs.declared.fault.StepFault.{StepFault}
+use Rattle.ice_refute.specs.declared.fault.StepFault.TheVariants.{Fixed, Sign, Above, NotDead}
+use Rattle.ice_refute.specs.Faults.{fault_at, IsLogFault}
 use Rattle.ice_refute.proofs.Same.{Reads-same}
 
 module _ (ts : List Tree) (exact : List Bool) (ws : List Weights) (target : ℤ) where
@@ -50,19 +52,20 @@ module _ (ts : List Tree) (exact : List Bool) (ws : List Weights) (target : ℤ)
   stands_more start log side sides (leaf m) rest passes is = record { whole = λ end all. is.whole end (first_read (leaf_reads side m rest passes) all) }
   stands_more start log side sides (dead b) rest passes is = record { whole = λ end all. is.whole end (first_read (is_dead passes) all) }
 
+  fault_reads : (side : Side) (step : Step) (rest : List Step) (fault : StepFault) → HasFault ts exact ws target side step fault
+      → Reads ts exact ws target side (step ∷ rest) (Err (fault_at (step ∷ rest) fault))
+  fault_reads side (branch b n) rest Fixed none = is_fixed none
+  fault_reads side (leaf m) rest Sign wrong = has_sign wrong
+  fault_reads side (leaf m) rest (Above v) (signs, bound, large) = is_above signs bound large
+  fault_reads side (dead b) rest NotDead none = is_alive none
+  fault_reads side step rest other h = absurd h
+
   -- a step at fault
-  pub stands_fault : (start : Side) (log : List Step) (side : Side) (sides : List Side) (step : Step) (rest : List Step) (fault : LogFault) (k : ℕ) → k < length log
+  pub stands_fault : (start : Side) (log : List Step) (side : Side) (sides : List Side) (step : Step) (rest : List Step) (fault : StepFault) (k : ℕ) → k < length log
       → drop k log ≡ step ∷ rest → HasFault ts exact ws target side step fault → Stands start log (side ∷ sides) (step ∷ rest)
-      → IsLogFault ts exact ws target start log (with_number k fault)
-  stands_fault start log side sides (branch b n) rest (faults.Fixed number) k l e (zero, none) is =
-      (l, subst (λ r. Reads ts exact ws target start log (Err (fixed r))) (sym e) (is.whole (Err (fixed (branch b n ∷ rest))) (first_fault (is_fixed none))))
-  stands_fault start log side sides (leaf m) rest (faults.Sign number) k l e (zero, wrong) is =
-      (l, subst (λ r. Reads ts exact ws target start log (Err (sign r))) (sym e) (is.whole (Err (sign (leaf m ∷ rest))) (first_fault (has_sign wrong))))
-  stands_fault start log side sides (leaf m) rest (faults.Above number v) k l e (zero, signs, bound, large) is =
-      (l, subst (λ r. Reads ts exact ws target start log (Err (above r v))) (sym e) (is.whole (Err (above (leaf m ∷ rest) v)) (first_fault (is_above signs bound large))))
-  stands_fault start log side sides (dead b) rest (faults.NotDead number) k l e (zero, none) is =
-      (l, subst (λ r. Reads ts exact ws target start log (Err (not_dead r))) (sym e) (is.whole (Err (not_dead (dead b ∷ rest))) (first_fault (is_alive none))))
-  stands_fault start log side sides step rest other k l e h is = absurd h
+      → IsLogFault ts exact ws target start log (faults.At k fault)
+  stands_fault start log side sides step rest fault k l e has is =
+      (l, subst (λ r. Reads ts exact ws target start log (Err (fault_at r fault))) (sym e) (is.whole (Err (fault_at (step ∷ rest) fault)) (first_fault (fault_reads side step rest fault has))))
 
   -- a step behind the last side
   pub stands_long : (start : Side) (log : List Step) (k : ℕ) → k < length log → Stands start log [] (drop k log) → IsLogFault ts exact ws target start log (faults.Long k)
@@ -77,10 +80,7 @@ module _ (ts : List Tree) (exact : List Bool) (ws : List Weights) (target : ℤ)
 
   -- a log with a fault doesn't pass
   pub fault_fails : (start : Side) (log : List Step) (fault : LogFault) → IsLogFault ts exact ws target start log fault → ¬ Passes ts exact ws target start log
-  fault_fails start log (faults.Fixed k) is passes = let e = Reads-same ts exact ws target is.1 passes in cc
-  fault_fails start log (faults.Sign k) is passes = let e = Reads-same ts exact ws target is.1 passes in cc
-  fault_fails start log (faults.Above k v) is passes = let e = Reads-same ts exact ws target is.1 passes in cc
-  fault_fails start log (faults.NotDead k) is passes = let e = Reads-same ts exact ws target is.1 passes in cc
+  fault_fails start log (faults.At k fault) is passes = let e = Reads-same ts exact ws target is.1 passes in cc
   fault_fails start log faults.Short is passes = let e = Reads-same ts exact ws target is passes in cc
   fault_fails start log (faults.Long k) is passes =
       let e = Reads-same ts exact ws target is.1 passes in

@@ -8,11 +8,11 @@ use Rattle.ice_defs.specs.Set.{Weights}
 use Rattle.ice_defs.specs.Steps.{Step, Side, sides_after}
 use Rattle.ice_defs.specs.Log.{Passes}
 use Rattle.ice_refute.specs.declared.step.Step.{Step as CodeStep}
-use Rattle.ice_refute.specs.declared.fault.LogFault.{LogFault}
 use Rattle.ice_refute.specs.declared.fault.LogFault.TheVariants as faults
+use Rattle.ice_refute.specs.declared.fault.StepFault.{StepFault}
 use Rattle.ice_refute.specs.Code.{step_of, steps_of, CountsGoods}
 use Rattle.ice_refute.specs.Passing.{PassesAt, HasFault}
-use Rattle.ice_refute.specs.Faults.{with_number, IsLogFault}
+use Rattle.ice_refute.specs.Faults.{IsLogFault}
 use Rattle.ice_refute.specs.Waiting.{open_sides, waiting_sides}
 use Rattle.ice_refute.proofs.Reading.{Stands, stands_more, stands_fault, stands_long, stands_short, stands_closed}
 
@@ -67,9 +67,9 @@ module _ (ts : List Tree) (exact : List Bool) (ws : List Weights) (target : ℤ)
         (subst (λ b. Stands ts exact ws target start log (open_sides b marks branches) (drop k log)) o is.stands)));
   }
 
-  pub fault_at : (is_open : Bool) (marks : Side) (branches : List (ℕ × ℕ)) (k : ℕ) (step : Step) (fault : LogFault) → is_open ≡ true → k < length log
+  pub fault_at : (is_open : Bool) (marks : Side) (branches : List (ℕ × ℕ)) (k : ℕ) (step : Step) (fault : StepFault) → is_open ≡ true → k < length log
       → drop k log ≡ step ∷ drop (k + 1) log → HasFault ts exact ws target marks step fault → StandsAt is_open marks branches k
-      → IsLogFault ts exact ws target start log (with_number k fault)
+      → IsLogFault ts exact ws target start log (faults.At k fault)
   fault_at is_open marks branches k step fault o h e has is =
       stands_fault ts exact ws target start log marks (waiting_sides marks (reverse branches)) step (drop (k + 1) log) fault k h e has
       (subst (λ r. Stands ts exact ws target start log (open_sides true marks branches) r) e

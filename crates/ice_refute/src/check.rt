@@ -10,7 +10,7 @@ ghost use Rattle.ice_refute.specs.Passing.{PassesAt, HasFault};
 ghost use Rattle.ice_refute.specs.Code.{step_of};
 ghost use Rattle.ice_defs.specs.Steps.{sides_after};
 
-use crate::fault::LogFault;
+use crate::fault::{LogFault, StepFault};
 use crate::judge::judge;
 use crate::sides::advance;
 use crate::step::{Log, Step};
@@ -25,7 +25,7 @@ fn take_step(
     target: i128,
     step: &Step,
     desk: &mut Desk,
-) -> Result<bool, LogFault>
+) -> Result<bool, StepFault>
     requires few { length trees.now ≤ 40 }
     requires weights { AreWeightsOf trees.now weights.now }
     requires goods { CountsGoods (length desk.old.room) (step_of step.now) }
@@ -48,8 +48,8 @@ fn take_step(
 }
 
 /// Whether the log passes from the start with the target. If not, the fault is the first one in
-/// preorder: `Fixed`, `Sign`, `Above` or `NotDead` of the step with that number; `Short` where the
-/// steps end with a side open; `Long` where a step stands after all sides are closed.
+/// preorder: `At` the step with that number, which doesn't pass; `Short` where the steps end with a
+/// side open; `Long` where a step stands after all sides are closed.
 ///
 /// The desk is made for the trees, which are at most 40 with at most 2,000 nodes together. Each
 /// leaf has one multiplier per good, and each weight is at most 100,000,000,000 in size. Takes no
@@ -86,7 +86,12 @@ pub fn check_log(
         }
         match take_step(trees, weights, target, step, desk) {
             Ok(still_open) => is_open = still_open,
-            Err(fault) => return Err(fault.at(number)),
+            Err(fault) => {
+                return Err(LogFault::At {
+                    step: number,
+                    fault,
+                });
+            }
         }
         number += 1;
     }

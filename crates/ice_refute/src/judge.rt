@@ -6,7 +6,7 @@ ghost use Rattle.ice_defs.specs.Conditions.{AreWeightsOf, AreFixingsOf};
 ghost use Rattle.ice_refute.specs.Code.{step_of, CountsGoods};
 ghost use Rattle.ice_refute.specs.Passing.{PassesAt, HasFault};
 
-use crate::fault::LogFault;
+use crate::fault::StepFault;
 use crate::step::Step;
 use ice_best::{Fixings, Mark};
 use ice_bound::{Bound, Multipliers, Room};
@@ -58,7 +58,7 @@ fn has_wrong_sign(m: &Multipliers, room: &Room) -> bool
     false
 }
 
-/// Whether a leaf passes. `Sign` and `Above` are its faults, in this order, with step number 0.
+/// Whether a leaf passes. `Sign` and `Above` are its faults, in this order.
 fn judge_leaf(
     trees: &[Tree],
     weights: &AllWeights,
@@ -66,7 +66,7 @@ fn judge_leaf(
     m: &Multipliers,
     marks: &Fixings,
     room: &mut Room,
-) -> Result<(), LogFault>
+) -> Result<(), StepFault>
     requires few { length trees.now ≤ 40 }
     requires weights { AreWeightsOf trees.now weights.now }
     requires goods { length m.now ≡ length room.old }
@@ -78,7 +78,7 @@ fn judge_leaf(
     ensures exact { room.new ≡ room.old }
 {
     if has_wrong_sign(m, room) {
-        return Err(LogFault::Sign { step: 0 });
+        return Err(StepFault::Sign);
     }
     match room.bound(trees, weights, m, marks) {
         Bound::Dead(_) => Ok(()),
@@ -86,13 +86,13 @@ fn judge_leaf(
             if bound <= target {
                 Ok(())
             } else {
-                Err(LogFault::Above { step: 0, bound })
+                Err(StepFault::Above { bound })
             }
         }
     }
 }
 
-/// Whether a step passes at the side with these marks; its fault has step number 0.
+/// Whether a step passes at the side with these marks.
 pub(crate) fn judge(
     trees: &[Tree],
     weights: &AllWeights,
@@ -100,7 +100,7 @@ pub(crate) fn judge(
     step: &Step,
     marks: &Fixings,
     room: &mut Room,
-) -> Result<(), LogFault>
+) -> Result<(), StepFault>
     requires few { length trees.now ≤ 40 }
     requires weights { AreWeightsOf trees.now weights.now }
     requires goods { CountsGoods (length room.old) (step_of step.now) }
@@ -116,7 +116,7 @@ pub(crate) fn judge(
             if is_free_node(trees, marks, *bidder, *node) {
                 Ok(())
             } else {
-                Err(LogFault::Fixed { step: 0 })
+                Err(StepFault::Fixed)
             }
         }
         Step::Leaf { m } => judge_leaf(trees, weights, target, m, marks, room),
@@ -124,7 +124,7 @@ pub(crate) fn judge(
             if is_dead_bidder(trees, weights, marks, *bidder, room) {
                 Ok(())
             } else {
-                Err(LogFault::NotDead { step: 0 })
+                Err(StepFault::NotDead)
             }
         }
     }

@@ -11,7 +11,7 @@ mod step;
 mod walk;
 
 pub use check::check_log;
-pub use fault::LogFault;
+pub use fault::{LogFault, StepFault};
 pub use laws::{logs_are_short, logs_close, logs_refute};
 pub use step::{Log, Step};
 pub use walk::Walk;

@@ -6,7 +6,7 @@ ghost use Rattle.ice_refute.specs.Code.{step_of, CountsGoods};
 ghost use Rattle.ice_refute.specs.Passing.{PassesAt, HasFault};
 ghost use Rattle.ice_refute.specs.Waiting.{nodes_of, first_side};
 
-use crate::fault::LogFault;
+use crate::fault::StepFault;
 use crate::judge::judge;
 use crate::sides::advance;
 use crate::step::Step;
@@ -68,7 +68,7 @@ impl Walk {
 
     /// Takes the next step, at the first open side. A branch that passes puts its Must side and
     /// then its Never side in the place of that side; a leaf or a dead step that passes takes it
-    /// away. A step at fault changes nothing, and its fault has step number 0.
+    /// away. A step at fault changes nothing.
     ///
     /// A side is open, a leaf has one multiplier per good, and weights are at most 100,000,000,000
     /// in size. Takes no memory.
@@ -79,7 +79,7 @@ impl Walk {
         target: i128,
         step: &Step,
         desk: &mut Desk,
-    ) -> Result<(), LogFault>
+    ) -> Result<(), StepFault>
         requires few { length trees.now ≤ 40 }
         requires weights { AreWeightsOf trees.now weights.now }
         requires nodes { self.old.nodes ≡ nodes_of trees.now }

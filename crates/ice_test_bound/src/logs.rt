@@ -9,7 +9,7 @@ ghost use Rattle.ice_refute.specs.Waiting.{nodes_of};
 
 use ice_best::Fixings;
 use ice_bound::{Desk, Multipliers};
-use ice_refute::{Log, LogFault, Step, check_log};
+use ice_refute::{Log, LogFault, Step, StepFault, check_log};
 use ice_tree::{AllWeights, Bounds, NodeKind, Tree, TreeFault, TreeMaker};
 use std::alloc::{AllocError, Global};
 use std::process::Abort;
@@ -94,6 +94,10 @@ fn log(alloc: Global, steps: &[Plain]) -> Result<Log, AllocError>
     Ok(log)
 }
 
+fn at(step: u64, fault: StepFault) -> LogFault {
+    LogFault::At { step, fault }
+}
+
 /// What `check_log` answers with target 10.
 fn outcome(
     alloc: Global,
@@ -155,7 +159,7 @@ fn judges_logs(rt: HostRuntime) -> Result<(), Fail> {
         (&[Plain::Leaf(640)], Ok(())),
         (
             &[Plain::Leaf(576)],
-            Err(LogFault::Above { step: 0, bound: 11 }),
+            Err(at(0, StepFault::Above { bound: 11 })),
         ),
         (
             &[Plain::Branch(0, 0), Plain::Leaf(640), Plain::Leaf(1280)],
@@ -167,15 +171,15 @@ fn judges_logs(rt: HostRuntime) -> Result<(), Fail> {
         ),
         (
             &[Plain::Branch(0, 0), Plain::Leaf(640), Plain::Dead(0)],
-            Err(LogFault::NotDead { step: 2 }),
+            Err(at(2, StepFault::NotDead)),
         ),
         (
             &[Plain::Branch(0, 0), Plain::Branch(0, 0), Plain::Leaf(640)],
-            Err(LogFault::Fixed { step: 1 }),
+            Err(at(1, StepFault::Fixed)),
         ),
-        (&[Plain::Branch(0, 1)], Err(LogFault::Fixed { step: 0 })),
-        (&[Plain::Branch(2, 0)], Err(LogFault::Fixed { step: 0 })),
-        (&[Plain::Leaf(-1)], Err(LogFault::Sign { step: 0 })),
+        (&[Plain::Branch(0, 1)], Err(at(0, StepFault::Fixed))),
+        (&[Plain::Branch(2, 0)], Err(at(0, StepFault::Fixed))),
+        (&[Plain::Leaf(-1)], Err(at(0, StepFault::Sign))),
         (
             &[Plain::Branch(1, 0), Plain::Leaf(640)],
             Err(LogFault::Short),

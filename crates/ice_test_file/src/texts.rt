@@ -1,5 +1,5 @@
 //! One table for each type of fault.
-use ice_refute::LogFault;
+use ice_refute::{LogFault, StepFault};
 use ice_trade::MakeFault;
 use ice_tree::{BoundsFault, TreeFault};
 use std::test::Fail;
@@ -79,26 +79,24 @@ fn makers(rt: HostRuntime) -> Result<(), Fail> {
     Ok(())
 }
 
+fn at(step: u64, fault: StepFault) -> LogFault {
+    LogFault::At { step, fault }
+}
+
 #[test]
 fn logs(rt: HostRuntime) -> Result<(), Fail> {
-    let above = LogFault::Above {
-        step: 7,
-        bound: -12,
-    };
+    let above = StepFault::Above { bound: -12 };
     let cases = [
         (
-            LogFault::Fixed { step: 0 },
-            "the branch of step 0 is not at a free node",
+            at(0, StepFault::Fixed),
+            "step 0: the branch is not at a free node",
         ),
         (
-            LogFault::Sign { step: 40 },
-            "the leaf of step 40 has a negative multiplier of a good that is not exact",
+            at(40, StepFault::Sign),
+            "step 40: the leaf has a negative multiplier of a good that is not exact",
         ),
-        (above, "the bound of step 7 is -12, above the target"),
-        (
-            LogFault::NotDead { step: 9 },
-            "the bidder of step 9 is not dead",
-        ),
+        (at(7, above), "step 7: the bound is -12, above the target"),
+        (at(9, StepFault::NotDead), "step 9: the bidder is not dead"),
         (LogFault::Short, "the steps end with a side open"),
         (
             LogFault::Long { step: 3 },

@@ -54,12 +54,12 @@ returns-in-Err-clause-fault c =
     let has = rw i.exact at c.in-Err.ensures.fault in
     let fault = fault_at c.args.trees.now c.args.desk.now.room c.args.weights.now _ c.args.start.now c.args.log.now c.loop-step.is_open c.loop-step.desk.marks c.loop-step.desk.sides.items
     c.loop-step.step-index (step_of c.step-item.result) c.in-Err.fault still (omega (arith, size)) next has i.stands in
-    rw (c.at.ensures, i.number, ← to_z-of_z w128 c.args.target c.ranges.target) fault
+    rw (i.number, ← to_z-of_z w128 c.args.target c.ranges.target) fault
 
 pub returns-in-Err-clause-ok : goal.returns-in-Err-clause-ok
 returns-in-Err-clause-ok c = (
   λ e. cc,
-  λ passes. absurd (fault_fails c.args.trees.now c.args.desk.now.room c.args.weights.now c.args.target c.args.start.now c.args.log.now c.at.result
+  λ passes. absurd (fault_fails c.args.trees.now c.args.desk.now.room c.args.weights.now c.args.target c.args.start.now c.args.log.now (faults.At c.loop-step.number c.in-Err.fault)
       (returns-in-Err-clause-fault c) passes),
 )
 
