@@ -1,5 +1,5 @@
 //! The rounds of a statement: submissions of its bidder, their verdicts, and the next settlement.
-ghost use Rattle.std.specs.Prelude.{◌≡◌, ◌≢◌, ◌≤◌, ◌==◌, suc, IsTrue, false, length, replicate};
+ghost use Rattle.std.specs.Prelude.{◌≡◌, ◌≢◌, ◌==◌, suc, IsTrue, false, length, replicate};
 ghost use Rattle.std.specs.Str.{bytes_eq};
 ghost use Rattle.ice_journal.specs.Records as records;
 ghost use Rattle.ice_journal.specs.Ranges.{IsRecord};
@@ -10,22 +10,10 @@ ghost use Rattle.ice_audit.specs.Taking.{submit_line, GoesOn, Takes};
 
 use crate::next::Next;
 use crate::settlements::Settlements;
-use arrayvec::ArrayVec;
+use ice_check_offer::bid_of;
 use ice_defs::Verdict;
 use ice_journal_laws::Rule;
 use ice_terms::Name;
-
-/// The same values, kept in place.
-fn widened(values: &[i32]) -> ArrayVec<i64, 200>
-    requires { length values.now ≤ 200 }
-    ensures { result.items ≡ values.now }
-{
-    let mut list = ArrayVec::new();
-    for value in values {
-        list.push(i64::from(*value));
-    }
-    list
-}
 
 /// Whether the verdict is the one that is due.
 fn is_due(due: Verdict, verdict: Verdict) -> bool
@@ -59,9 +47,7 @@ impl Settlements {
         requires lawful { IsRecord (submit_line name.now lo.now hi.now) }
         ensures { GoesOn self.old (shown (submit_line name.now lo.now hi.now)) self.new }
     {
-        let due = self
-            .judge
-            .submit(&self.exchange, name.text(), &widened(lo), &widened(hi));
+        let due = self.judge.submit(&self.exchange, &bid_of(name, lo, hi));
         self.next = Next::Verdict(due);
     }
 

@@ -10,7 +10,6 @@ use Rattle.ice_journal_laws.specs.Fields.{submission_in}
 use Rattle.ice_journal_laws.specs.Next.{to_line, go_to, next_settlement, to_settlement}
 use Rattle.ice_journal_laws.specs.Progress.{passing, failed, TakesOn}
 use Rattle.ice_check_offer.specs.declared.offer.Offer.{Offer}
-use Rattle.ice_check_offer.specs.declared.lines.Submitted.{Submitted}
 use Rattle.ice_check_offer.specs.Offers.{IsOfferOf}
 use Rattle.ice_verdicts.specs.Judges.{IsAfter}
 
@@ -24,7 +23,3 @@ pub record Opens (ex : Exchange) (o : Offer) (s : State) (r : Record) : Type 0 w
 
 abbrev pub CanOpen : Exchange → ℕ → Offer → Record → Type 0
 CanOpen ex number o r = (s : State) → IsOfferOf ex o s → s.number ≡ number → Opens ex o s r
-
--- the submission that a record states
-abbrev pub values_of : Submitted → Submission
-values_of x = record { name = x.name.now; lo = x.lo.now; hi = x.hi.now }

@@ -13,6 +13,7 @@ mod rows;
 
 pub use broken::broken_rule;
 pub use fault::Fault;
+pub use lines::bid_of;
 pub use offer::Offer;
 pub use place::{CertificateList, Place, Went};
 pub use pricing::{are_lawful_in, count_goods};

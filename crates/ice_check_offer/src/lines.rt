@@ -1,6 +1,7 @@
 //! The records of an offer.
 ghost use Rattle.std.specs.Prelude.{◌≡◌, ◌≤◌, ℕ, None, MatchOption, length};
 ghost use Rattle.ice_journal.specs.Lines.{record_of};
+ghost use Rattle.ice_journal.specs.Ranges.{IsRecord, IsSubmission};
 ghost use Rattle.ice_journal.specs.Records as records;
 ghost use Rattle.ice_journal_laws.specs.Fields.{is_limit, is_round_stop, prices_in, accuracy_in, balance_in, row_in, submission_in, settlement_in, verdict_in};
 
@@ -8,7 +9,7 @@ use arrayvec::ArrayVec;
 use ice_defs::Verdict;
 use ice_journal::{EndWord, Line};
 use ice_pricing::CertificateRow;
-use ice_terms::{Name, Prices};
+use ice_terms::{Bid, Name, Prices};
 
 /// Whether the record begins a stop in the place of the prices.
 pub(crate) fn is_limit(line: &Line) -> bool
@@ -91,22 +92,34 @@ pub(crate) fn row_in(line: &Line) -> Option<CertificateRow>
     }
 }
 
-/// A name and two lists of values.
-#[derive(Drop)]
-pub(crate) struct Submitted<'a> {
-    pub(crate) name: &'a Name,
-    pub(crate) lo: &'a [i32],
-    pub(crate) hi: &'a [i32],
+/// The same values, kept in place.
+fn widened(values: &[i32]) -> ArrayVec<i64, 200>
+    requires { length values.now ≤ 200 }
+    ensures { result.items ≡ values.now }
+{
+    let mut list = ArrayVec::new();
+    for value in values {
+        list.push(i64::from(*value));
+    }
+    list
 }
 
-/// The submission that the record states.
-pub(crate) fn submission_in(line: &Line) -> Option<Submitted<'_>>
+/// The bid of this name with these values of a record.
+pub fn bid_of(name: &Name, lo: &[i32], hi: &[i32]) -> Bid
+    requires { IsSubmission (record { name = name.now; lo = lo.now; hi = hi.now }) }
+    ensures { result ≡ record { name = name.now; lo = lo.now; hi = hi.now } }
+{
+    Bid::new(name.copy(), &widened(lo), &widened(hi))
+}
+
+/// The bid that the record states.
+pub(crate) fn bid_in(line: &Line) -> Option<Bid>
+    requires { IsRecord (record_of line.now) }
     ensures { MatchOption result (submission_in (record_of line.now) ≡ None)
-        (λ x. record_of line.now
-        ≡ records.submit (record { name = x.name.now; lo = x.lo.now; hi = x.hi.now })) }
+        (λ bid. record_of line.now ≡ records.submit bid) }
 {
     match line {
-        Line::Submit { name, lo, hi } => Some(Submitted { name, lo, hi }),
+        Line::Submit { name, lo, hi } => Some(bid_of(name, lo, hi)),
         _ => None,
     }
 }
@@ -131,16 +144,4 @@ pub(crate) fn verdict_in(line: &Line) -> Option<Verdict>
         Line::Verdict(verdict) => Some(*verdict),
         _ => None,
     }
-}
-
-/// The same values, kept in place.
-pub(crate) fn widened(values: &[i32]) -> ArrayVec<i64, 200>
-    requires { length values.now ≤ 200 }
-    ensures { result.items ≡ values.now }
-{
-    let mut list = ArrayVec::new();
-    for value in values {
-        list.push(i64::from(*value));
-    }
-    list
 }

@@ -5,16 +5,17 @@ ghost use Rattle.ice_journal.specs.Ranges.{IsRecord};
 ghost use Rattle.ice_journal.specs.Records as records;
 ghost use Rattle.ice_journal_laws.specs.Fields.{submission_in};
 ghost use Rattle.ice_check_offer.specs.Offers.{IsKept};
-ghost use Rattle.ice_check_offer.specs.Rounds.{values_of, CanOpen};
+ghost use Rattle.ice_check_offer.specs.Rounds.{CanOpen};
 ghost use Rattle.ice_check_offer.specs.Taking.{Takes};
 
 use crate::fault::Fault;
-use crate::lines::{Submitted, settlement_in, submission_in, verdict_in, widened};
+use crate::lines::{bid_in, settlement_in, verdict_in};
 use crate::offer::Offer;
 use crate::place::{Place, Went};
 use ice_defs::Verdict;
 use ice_journal::Line;
 use ice_journal_laws::Rule;
+use ice_terms::Bid;
 use ice_trade::Exchange;
 
 /// Whether the verdict is the one that is due.
@@ -26,21 +27,13 @@ fn is_due(due: Verdict, verdict: Verdict) -> bool
 }
 
 impl Offer {
-    /// A submission of these values.
-    fn submit(&mut self, exchange: &Exchange, submitted: &Submitted<'_>) -> Result<Went, Fault>
-        requires lawful { IsRecord (records.submit (values_of submitted.now)) }
+    /// A submission of this bid.
+    fn submit(&mut self, exchange: &Exchange, bid: &Bid) -> Result<Went, Fault>
         requires kept { IsKept exchange.now self.old }
-        ensures { (number : ℕ) → CanOpen exchange.now number self.old
-            (records.submit (values_of submitted.now))
-            → Takes exchange.now number self.old (records.submit (values_of submitted.now)) result
-            self.new }
+        ensures { (number : ℕ) → CanOpen exchange.now number self.old (records.submit bid.now)
+            → Takes exchange.now number self.old (records.submit bid.now) result self.new }
     {
-        let due = self.judge.submit(
-            exchange,
-            submitted.name.text(),
-            &widened(submitted.lo),
-            &widened(submitted.hi),
-        );
+        let due = self.judge.submit(exchange, bid);
         self.place = Place::Verdict(due);
         Ok(Went::On)
     }
@@ -78,8 +71,8 @@ impl Offer {
         requires opens { CanOpen exchange.now number self.old (record_of line.now) }
         ensures { Takes exchange.now number self.old (record_of line.now) result self.new }
     {
-        match submission_in(line) {
-            Some(submitted) => self.submit(exchange, &submitted),
+        match bid_in(line) {
+            Some(bid) => self.submit(exchange, &bid),
             None => self.take_settlement(exchange, number, line),
         }
     }

@@ -92,9 +92,7 @@ impl InRound {
             } ∷ []) self.new.round }
     {
         let session = &mut self.session;
-        session
-            .judge
-            .submit(&session.exchange, bid.bidder().text(), bid.lo(), bid.hi())
+        session.judge.submit(&session.exchange, bid)
     }
 
     /// The session after the round: the next bounds stand, and the next settlement comes. It takes

@@ -1,5 +1,6 @@
 -- A bid that states its true values exactly, inside its bounds, is accepted.
 use Rattle.std.proofs.Common.{ℕ, ◌<◌, ◌≡◌, Bool, true, false, cond, length, ℤ, pos, ◌-ℤ◌, ◌*ℤ◌, ◌≤ℤ◌, ◌<ℤ◌, refl, arith, ◌⊎◌, inl, inr}
+use Rattle.std.specs.Prelude.{Err}
 use Rattle.std.proofs.lemmas.Int.{ints, by_lt_z}
 use Rattle.ice_defs.specs.Tree.{Tree}
 use Rattle.ice_defs.specs.Set.{NodeSet, has, IsSatisfied, Weights, weight_of}
@@ -12,6 +13,9 @@ use Rattle.ice_defs.specs.Judging.{IsNarrowed, IsJudged}
 use Rattle.ice_best_at_prices.specs.Net.{IsBestAtPrices}
 use Rattle.ice_rules.specs.Profiles.{AreAgainst, AreInFavour}
 use Rattle.ice_rules.specs.Laws.{ExactBidIsAccepted}
+use Rattle.ice_rules.specs.declared.refusal.Refusal.{Refusal}
+use Rattle.ice_rules.specs.declared.refusal.Refusal.TheVariants as refusals
+use Rattle.ice_rules.specs.Verdicts.{verdict_of}
 use Rattle.ice_defs.proofs.Multiples.{one_time}
 use Rattle.ice_rules.proofs.Losses.{AreOrdered, loss_is, best_from_none, ahead_from, gains_from}
 use Rattle.ice_rules.proofs.Reflected.{tabulated, length-tabulated, weight_of-tabulated}
@@ -116,3 +120,11 @@ accepted_alone t p improve s old new Improve judged accepted = absurd (judged.2 
 accepted_alone t p improve s old new Repeated judged accepted = absurd judged
 accepted_alone t p improve s old new UnknownBidder judged accepted = absurd judged
 accepted_alone t p improve s old new WrongCount judged accepted = absurd judged
+
+-- and no refusal
+pub refused_alone : (t : Tree) (p : Prices) (improve : ℤ) (s : NodeSet) (old new : Bounds) (refusal : Refusal) → IsJudged t p improve s old new (verdict_of (Err refusal))
+    → IsJudged t p improve s old new Accepted → ⊥
+refused_alone t p improve s old new (refusals.Crossed n) judged accepted = accepted.0.uncrossed n judged.0
+refused_alone t p improve s old new (refusals.Loosened n) judged accepted = accepted.0.tight n judged.1.0
+refused_alone t p improve s old new refusals.Mrpar judged accepted = judged.1 accepted.1
+refused_alone t p improve s old new refusals.Improve judged accepted = judged.2 accepted.2

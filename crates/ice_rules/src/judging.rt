@@ -1,18 +1,18 @@
 //! The verdict on new bounds.
-ghost use Rattle.std.specs.Prelude.{◌≡◌, ◌<◌, ◌≤◌, false, length, IfErr, IfOk, IsTrue, MatchOption, ℕ, ◌<ℤ◌, ◌⊎◌};
+ghost use Rattle.std.specs.Prelude.{◌≡◌, ◌<◌, ◌≤◌, length, IfOk, IsTrue, MatchOption, ℕ, ◌<ℤ◌, ◌⊎◌};
 ghost use Rattle.std.specs.List.{list_all};
 ghost use Rattle.ice_defs.specs.Set.{IsSatisfied, weight_of};
 ghost use Rattle.ice_defs.specs.Bounds.{IsInside};
 ghost use Rattle.ice_defs.specs.Lawful.{AreBounds};
 ghost use Rattle.ice_defs.specs.Making.{is_value};
+ghost use Rattle.ice_defs.specs.declared.Verdict.TheVariants.{Accepted};
 ghost use Rattle.ice_defs.specs.Judging.{IsLeastNode, IsCrossedAt, IsLoosenedAt};
-ghost use Rattle.ice_defs.specs.Round.{is_acceptance};
 ghost use Rattle.ice_rules.specs.Verdicts.{values, IsVerdict, verdict_of};
 
+use crate::refusal::Refusal;
 use crate::rules::{improvement, mrpar};
 use crate::standing::Standing;
 use ice_best_at_prices::Scratch;
-use ice_defs::Verdict;
 use ice_tree::Bounds;
 
 /// The least node whose lower value is above its upper one.
@@ -57,14 +57,14 @@ fn first_loosened(old: &Bounds, lo: &[i64], hi: &[i64]) -> Option<u16>
     None
 }
 
-/// The new bounds, or the first verdict that refuses them.
+/// The new bounds, or the first refusal that holds.
 fn first_that_holds(
     at: &Standing,
     lo: &[i64],
     hi: &[i64],
     improve: i64,
     scratch: &mut Scratch,
-) -> Result<Bounds, Verdict>
+) -> Result<Bounds, Refusal>
     requires satisfied { IsSatisfied at.now.tree.now at.now.set.now }
     requires old { length at.now.bounds.now.lo ≡ length at.now.tree.now }
     requires lo_nodes { length lo.now ≡ length at.now.tree.now }
@@ -76,15 +76,13 @@ fn first_that_holds(
     // On acceptance
     ensures accepted { IfOk result (λ new. new ≡ values lo.now hi.now) }
     ensures bounds { IfOk result (AreBounds (length at.now.tree.now)) }
-    // On refusal
-    ensures refused { IfErr result (λ refused. is_acceptance refused ≡ false) }
 {
     let _nodes = at.tree.nodes();
     if let Some(node) = first_crossed(lo, hi) {
-        return Err(Verdict::Crossed { node });
+        return Err(Refusal::Crossed { node });
     }
     if let Some(node) = first_loosened(at.bounds, lo, hi) {
-        return Err(Verdict::Loosened { node });
+        return Err(Refusal::Loosened { node });
     }
     let Ok(new) = at.tree.set_bounds(lo, hi) else {
         unreachable!()
@@ -96,21 +94,21 @@ fn first_that_holds(
         prices: at.prices,
     };
     if !mrpar(&then, scratch) {
-        return Err(Verdict::Mrpar);
+        return Err(Refusal::Mrpar);
     }
     if !improvement(at, &new, improve, scratch) {
-        return Err(Verdict::Improve);
+        return Err(Refusal::Improve);
     }
     let _nodes = new.len();
     Ok(new)
 }
 
-/// The bounds that new lower and upper values of a bidder make, where they are accepted, or the
-/// verdict that refuses them. There is one value of each kind for each node, inside the value
-/// limits. The verdict is the first of these that holds: `Crossed` at the least node whose lower
-/// value is above its upper one, `Loosened` at the least node whose values reach beyond the old
-/// bounds, `Mrpar` where the first rule fails at the new bounds, and `Improve` where the second one
-/// does. A bid that states its true values exactly, inside the old bounds, is accepted.
+/// The bounds that new lower and upper values of a bidder make, where they are accepted, or why
+/// they are refused. There is one value of each kind for each node, inside the value limits. The
+/// refusal is the first of these that holds: `Crossed` at the least node whose lower value is above
+/// its upper one, `Loosened` at the least node whose values reach beyond the old bounds, `Mrpar`
+/// where the first rule fails at the new bounds, and `Improve` where the second one does. A bid
+/// that states its true values exactly, inside the old bounds, is accepted.
 ///
 /// The provisional set is satisfied. Takes no memory.
 pub fn judge(
@@ -119,7 +117,7 @@ pub fn judge(
     hi: &[i64],
     improve: i64,
     scratch: &mut Scratch,
-) -> Result<Bounds, Verdict>
+) -> Result<Bounds, Refusal>
     requires satisfied { IsSatisfied at.now.tree.now at.now.set.now }
     requires old { length at.now.bounds.now.lo ≡ length at.now.tree.now }
     requires lo_nodes { length lo.now ≡ length at.now.tree.now }
@@ -131,11 +129,9 @@ pub fn judge(
     // On acceptance
     ensures accepted { IfOk result (λ new. new ≡ values lo.now hi.now) }
     ensures bounds { IfOk result (AreBounds (length at.now.tree.now)) }
-    // On refusal
-    ensures refused { IfErr result (λ refused. is_acceptance refused ≡ false) }
     // Where each interval is a point
     ensures exact { hi.now ≡ lo.now → IsInside 1 at.now.bounds.now lo.now → verdict_of result
-        ≡ Verdict.Accepted }
+        ≡ Accepted }
 {
     first_that_holds(at, lo, hi, improve, scratch)
 }

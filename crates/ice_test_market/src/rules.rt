@@ -60,5 +60,8 @@ pub(crate) fn verdict(
         prices,
     };
     let judged = judge(&at, lo, hi, improve, &mut Scratch::new());
-    Some(judged.err().unwrap_or(Verdict::Accepted))
+    Some(match judged {
+        Ok(_) => Verdict::Accepted,
+        Err(refusal) => refusal.verdict(),
+    })
 }

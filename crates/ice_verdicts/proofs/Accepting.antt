@@ -1,12 +1,10 @@
 -- Verdicts by whether the bidder is marked and whether the values count its nodes.
-use Rattle.std.proofs.Common.{◌≡◌, Bool, true, false, length, ℤ, refl, sym, ◌∙◌, subst}
+use Rattle.std.proofs.Common.{◌≡◌, Bool, true, false, length, ℤ, refl, sym, ◌∙◌}
 use Rattle.std.specs.Prelude.{◌==◌}
 use Rattle.std.proofs.lemmas.Bool.{false≢true, and_parts, eqb-true}
 use Rattle.ice_defs.specs.declared.Verdict.{Verdict}
 use Rattle.ice_defs.specs.declared.Verdict.TheVariants.{WrongCount}
 use Rattle.ice_defs.specs.Tree.{Tree}
-use Rattle.ice_defs.specs.Set.{NodeSet}
-use Rattle.ice_defs.specs.Bounds.{Bounds}
 use Rattle.ice_defs.specs.Prices.{Prices}
 use Rattle.ice_defs.specs.Judging.{IsJudged}
 use Rattle.ice_defs.specs.Round.{Submission, Standing, stated_bounds, has_tree_length, IsVerdict}
@@ -24,13 +22,3 @@ module _ (p : Prices) (improve : ℤ) (bidder : Standing) (s : Submission) where
   pub is_judged : (verdict : Verdict) (marked : Bool) → marked ≡ false → has_tree_length bidder.tree s ≡ true → IsJudged bidder.tree p improve bidder.set bidder.bounds (stated_bounds s) verdict → IsVerdict p improve bidder marked s verdict
   is_judged verdict true h counted judged = absurd (false≢true (sym h))
   is_judged verdict false h counted judged = (λ _. judged, λ other. absurd (false≢true (sym other ∙ counted)))
-
--- judged by what is known to be the same
-pub judged_at : (t u : Tree) (p q : Prices) (i j : ℤ) (s x : NodeSet) (old before new : Bounds) (verdict : Verdict)
-    → t ≡ u → p ≡ q → i ≡ j → s ≡ x → old ≡ before → IsJudged t p i s old new verdict → IsJudged u q j x before new verdict
-judged_at t u p q i j s x old before new verdict a b c d e judged =
-    subst (λ y. IsJudged y q j x before new verdict) a
-    (subst (λ y. IsJudged t y j x before new verdict) b
-    (subst (λ y. IsJudged t p y x before new verdict) c
-    (subst (λ y. IsJudged t p i y before new verdict) d
-    (subst (λ y. IsJudged t p i s y new verdict) e judged))))

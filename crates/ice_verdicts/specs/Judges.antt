@@ -1,6 +1,6 @@
 -- What is known of a round while its submissions come in, and
 -- the lists of judged submissions that lead there.
-use Rattle.std.specs.Prelude.{ℕ, ◌<◌, ◌≡◌, Bool, true, false, if◌then◌else◌, List, [], length, map, slice_index_or, slice_set, ℤ, Option}
+use Rattle.std.specs.Prelude.{ℕ, ◌<◌, ◌≡◌, Bool, true, false, if◌then◌else◌, List, [], length, map, slice_index_or, slice_set, Option}
 use Rattle.std.specs.Prelude.{Some, None}
 use Rattle.std.specs.List.{list_any, position}
 use Rattle.std.specs.Str.{bytes_eq}
@@ -36,9 +36,6 @@ pub record IsRoundOf (ex : Exchange) (r : Round) : Type 0 where
   pub marks_count : length r.marks ≡ length ex.bidders
 
 -- ---- verdicts
-
-abbrev pub submission_of : List ℕ → List ℤ → List ℤ → Submission
-submission_of name lo hi = record { name = name; lo = lo; hi = hi }
 
 -- what each bidder brought into the round
 abbrev pub bidders_in : Exchange → Round → List Standing

@@ -2,6 +2,7 @@
 ghost use Rattle.std.specs.Prelude.{◌≡◌, [], ◌<◌, ◌≤◌, ℕ, IfOk, length, map, replicate, false, pos, slice_set, true};
 ghost use Rattle.ice_defs.specs.Exchange.{Exchange, trees_of, opening_bounds};
 ghost use Rattle.ice_defs.specs.Set.{IsSatisfied};
+ghost use Rattle.ice_defs.specs.Lawful.{AreBounds};
 ghost use Rattle.ice_defs.specs.Trade.{tree_of, set_of};
 ghost use Rattle.ice_verdicts.specs.Judges.{Round, IsRoundOf, IsAfter, is_marked};
 
@@ -174,10 +175,12 @@ impl Judge {
     pub(crate) fn mark(&mut self, bidder: u8, bounds: Bounds)
         requires next { bidder < length self.old.next }
         requires marks { bidder < length self.old.marks }
-        ensures { self.new ≡ record self.old {
+        ensures marked { self.new ≡ record self.old {
           next = slice_set self.old.next bidder bounds;
           marks = slice_set self.old.marks bidder true;
         } }
+        ensures round { (ex : Exchange) → IsRoundOf ex self.old
+            → AreBounds (length (tree_of (trees_of ex) bidder)) bounds → IsRoundOf ex self.new }
     {
         self.next[bidder as usize] = bounds;
         self.marks[bidder as usize] = true;

@@ -55,4 +55,4 @@ returns c = λ name.
     (subst (λ (b : Bounds). IsJudged c.args.at.now.tree.now c.args.at.now.prices.now (to_z w64 (of_z w64 c.args.improve)) c.args.at.now.set.now c.args.at.now.bounds.now b (verdict_of c.judge.result)) is c.judge.ensures.judged) in
     let same = subst (λ (b : Bounds). IfOk c.judge.result (λ made. made ≡ b)) is c.judge.ensures.accepted in
     subst (λ (found : Option Bounds). IsTried c.args.at.now.prices.now c.args.improve (bidder_at name c.args.at.now) new found) (sym c.ok.ensures.value)
-    (tried c.args.at.now.prices.now c.args.improve (bidder_at name c.args.at.now) new c.judge.result judged same c.judge.ensures.refused)
+    (tried c.args.at.now.prices.now c.args.improve (bidder_at name c.args.at.now) new c.judge.result judged same)
