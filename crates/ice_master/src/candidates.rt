@@ -3,28 +3,26 @@
 use crate::form::Form;
 use crate::master::Master;
 use crate::mix::{NEARLY, Shares};
-use crate::operation::Work;
 use crate::scale::{ONE, product};
 use arrayvec::ArrayVec;
+use ice_relaxation::{Candidate, Work};
 
 /// A node that the mix has in part.
 #[derive(Clone, Copy, Default)]
-pub struct Candidate {
-    /// The bidder's number.
-    pub bidder: u8,
-    /// The number of the node in its tree.
-    pub node: u16,
+pub struct Shared {
+    /// The node.
+    pub node: Candidate,
     /// The share of it in the mix, in parts of 2^-40.
     pub share: i64,
     /// How much a branch at it promises.
     score: i128,
 }
 
-/// At most eight candidates, the best first.
-pub type Candidates = ArrayVec<Candidate, 8>;
+/// At most eight such nodes, the best first.
+pub type Candidates = ArrayVec<Shared, 8>;
 
 /// Puts a candidate in its place, behind those of the same score.
-fn put(candidates: &mut Candidates, candidate: Candidate) {
+fn put(candidates: &mut Candidates, candidate: Shared) {
     let behind = candidates
         .iter()
         .position(|other| other.score < candidate.score);
@@ -89,9 +87,11 @@ impl Master {
             let worth = operation.worth.saturating_abs().saturating_add(1);
             put(
                 candidates,
-                Candidate {
-                    bidder,
-                    node: u16::from(operation.node),
+                Shared {
+                    node: Candidate {
+                        bidder,
+                        node: u16::from(operation.node),
+                    },
                     share,
                     score: product(part, worth),
                 },

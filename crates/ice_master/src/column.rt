@@ -31,10 +31,10 @@ impl Column {
     }
 
     /// Adds units of a good. No sum comes to more than 200,000.
-    pub(crate) fn add_units(&mut self, good: u8, units: i64) {
+    pub(crate) fn add_units(&mut self, good: u8, units: i32) {
         let most = 1 << 20;
         let sum = &mut self.units[usize::from(good % 16)];
-        *sum = sum.wrapping_add(units.clamp(-most, most) as i32);
+        *sum = sum.wrapping_add(units.clamp(-most, most));
     }
 
     /// Its units of a good.

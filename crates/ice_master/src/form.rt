@@ -2,8 +2,7 @@
 ghost use Rattle.std.specs.Prelude.{◌<◌, ◌≤◌, length};
 
 use crate::nodes::Nodes;
-use crate::opening::{Open, Opening};
-use crate::operation::{Choice, Leaf, Operation, Row, Rule, Work};
+use ice_relaxation::{Choice, Leaf, Openness, Operation, Row, Rule, Work};
 use ice_tree::{NodeKind, Tree};
 
 /// The amounts of the weights of one tree, node by node.
@@ -26,30 +25,6 @@ pub(crate) struct Form {
     is_live: bool,
 }
 
-/// Which children of a node are added to its choice.
-#[derive(Clone, Copy)]
-enum Operands {
-    /// Those that come along with it.
-    Along,
-    /// Those that it may take.
-    Offered,
-}
-
-/// How a node takes some of so many offered children.
-fn rule_of(open: &Open, offered: u8) -> Rule {
-    let most = u16::from(offered);
-    match (open.need, open.room) {
-        _ if offered == 0 => Rule::Each,
-        (0, 1) => Rule::BestGain,
-        (1, 1) => Rule::Best,
-        (0, room) if room >= most => Rule::Each,
-        (need, room) => Rule::Several {
-            need: need.min(most) as u8,
-            room: room.min(most) as u8,
-        },
-    }
-}
-
 impl Form {
     /// That of no tree yet.
     pub(crate) fn new() -> Form {
@@ -67,8 +42,8 @@ impl Form {
     }
 
     /// Makes it that of a tree with these worths, of which this is open.
-    pub(crate) fn fill(&mut self, tree: &Tree, worths: &Worths, opening: &Opening) {
-        let root = opening.of(0);
+    pub(crate) fn fill(&mut self, tree: &Tree, worths: &Worths, openness: &Openness) {
+        let root = openness.of(0);
         self.count = 0;
         self.operand_count = 0;
         self.leaf_count = 0;
@@ -76,14 +51,16 @@ impl Form {
         self.is_live = root.is_live;
         let mut numbers = [0; 200];
         for node in (0..tree.nodes()).rev() {
-            let open = opening.of(node);
+            let open = openness.of(node);
             if open.is_reached && !open.is_whole {
-                self.add_rows(tree, worths, opening, node, &mut numbers);
-                numbers[usize::from(node)] = self.add_choice(tree, worths, opening, node, &numbers);
+                self.add_rows(tree, worths, openness, node, &mut numbers);
+                numbers[usize::from(node)] = self.add_choice(
+                    tree, worths, openness, node, &numbers,
+                );
             }
         }
         if root.is_reached && root.is_whole {
-            self.add_row(tree, worths, opening, 0);
+            self.add_row(tree, worths, openness, 0);
         }
     }
 
@@ -92,7 +69,7 @@ impl Form {
         &mut self,
         tree: &Tree,
         worths: &Worths,
-        opening: &Opening,
+        openness: &Openness,
         node: u16,
         numbers: &mut [u8; 200],
     )
@@ -100,26 +77,26 @@ impl Form {
         requires node { node < length tree.now }
     {
         for &below in tree.children(node) {
-            let child = opening.of(below);
+            let child = openness.of(below);
             if child.is_reached && child.is_whole {
-                numbers[usize::from(below)] = self.add_row(tree, worths, opening, below);
+                numbers[usize::from(below)] = self.add_row(tree, worths, openness, below);
             }
         }
     }
 
     /// Adds the row of a node that brings the same nodes along each time. Its number.
-    fn add_row(&mut self, tree: &Tree, worths: &Worths, opening: &Opening, node: u16) -> u8
+    fn add_row(&mut self, tree: &Tree, worths: &Worths, openness: &Openness, node: u16) -> u8
         requires { node < 200 }
     {
         let first = self.leaf_count;
-        let last = u16::from(opening.of(node).last);
+        let last = openness.of(node).last;
         let mut nodes = Nodes::NONE;
         let mut worth: i64 = 0;
         for below in node..tree.nodes() {
             if below > last {
                 break;
             }
-            if opening.of(below).is_reached {
+            if openness.of(below).is_reached {
                 nodes.insert(below as u8);
                 worth = worth.wrapping_add(worths[usize::from(below)]);
                 self.add_leaf(tree.kind(below));
@@ -138,8 +115,8 @@ impl Form {
     fn add_leaf(&mut self, kind: NodeKind) {
         let (good, units) = match kind {
             NodeKind::Choose { .. } => return,
-            NodeKind::Buy { good, units } => (good, i64::from(units)),
-            NodeKind::Sell { good, units } => (good, -i64::from(units)),
+            NodeKind::Buy { good, units } => (good, i32::from(units)),
+            NodeKind::Sell { good, units } => (good, -i32::from(units)),
         };
         self.leaves[usize::from(self.leaf_count)] = Leaf { units, good };
         self.leaf_count = self.leaf_count.saturating_add(1);
@@ -150,18 +127,18 @@ impl Form {
         &mut self,
         tree: &Tree,
         worths: &Worths,
-        opening: &Opening,
+        openness: &Openness,
         node: u16,
         numbers: &[u8; 200],
     ) -> u8
         requires few { length tree.now ≤ 200 }
         requires node { node < length tree.now }
     {
-        let open = opening.of(node);
+        let open = openness.of(node);
         let along = self.operand_count;
-        self.add_operands(tree, opening, node, numbers, Operands::Along);
+        self.add_operands(tree, openness, node, numbers, true);
         let offered = self.operand_count;
-        self.add_operands(tree, opening, node, numbers, Operands::Offered);
+        self.add_operands(tree, openness, node, numbers, false);
         let end = self.operand_count;
         let mut nodes = Nodes::NONE;
         nodes.insert(node as u8);
@@ -169,7 +146,7 @@ impl Form {
             worth: worths[usize::from(node)],
             node: node as u8,
             work: Work::Choice(Choice {
-                rule: rule_of(&open, end.saturating_sub(offered)),
+                rule: Rule::of(open.need, open.room, end.saturating_sub(offered)),
                 along,
                 offered,
                 end,
@@ -178,27 +155,23 @@ impl Form {
         self.add(operation, nodes)
     }
 
-    /// Adds these children of a node to the choice that is made.
+    /// Adds those children of a node to the choice that is made that come along with it, or those
+    /// that it may take.
     fn add_operands(
         &mut self,
         tree: &Tree,
-        opening: &Opening,
+        openness: &Openness,
         node: u16,
         numbers: &[u8; 200],
-        which: Operands,
+        are_along: bool,
     )
         requires few { length tree.now ≤ 200 }
         requires node { node < length tree.now }
     {
-        let open = opening.of(node);
+        let open = openness.of(node);
         for &below in tree.children(node) {
-            let child = opening.of(below);
-            let is_along = open.brings(&child);
-            let is_wanted = match which {
-                Operands::Along => is_along,
-                Operands::Offered => !is_along,
-            };
-            if child.is_reached && is_wanted {
+            let child = openness.of(below);
+            if child.is_reached && open.brings(&child) == are_along {
                 self.operands[usize::from(self.operand_count)] = numbers[usize::from(below)];
                 self.operand_count = self.operand_count.saturating_add(1);
             }

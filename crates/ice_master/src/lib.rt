@@ -15,8 +15,6 @@ mod market;
 mod master;
 mod mix;
 mod nodes;
-mod opening;
-mod operation;
 mod outcome;
 mod pool;
 mod pricing;
@@ -25,7 +23,7 @@ mod solving;
 mod tableau;
 
 pub use basis::Basis;
-pub use candidates::{Candidate, Candidates};
+pub use candidates::{Candidates, Shared};
 pub use master::Master;
 pub use nodes::Nodes;
 pub use solving::{Aim, Dual};

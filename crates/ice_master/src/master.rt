@@ -6,12 +6,12 @@ use crate::basis::{Basic, Basis};
 use crate::form::{Form, Worths};
 use crate::market::Market;
 use crate::nodes::Nodes;
-use crate::opening::Opening;
 use crate::outcome::Outcome;
 use crate::pool::Pool;
 use crate::scale::Scale;
 use crate::tableau::Tableau;
 use ice_best::{Fixing, Fixings, Mark};
+use ice_relaxation::Openness;
 use ice_tree::{AllWeights, Tree, Weights};
 use std::alloc::{AllocError, Global};
 
@@ -26,7 +26,7 @@ pub struct Master {
     pub(crate) scale: Scale,
     worths: Vec<Worths>,
     pub(crate) forms: Vec<Form>,
-    opening: Opening,
+    openness: Openness,
     pub(crate) outcome: Outcome,
     pub(crate) pool: Pool,
     pub(crate) tableau: Tableau,
@@ -100,7 +100,7 @@ impl Master {
             scale: Scale::of(greatest_weight(trees, weights)),
             worths: vec![in alloc; [0; 200]; trees.len()]?,
             forms: vec![in alloc; Form::new(); trees.len()]?,
-            opening: Opening::new(),
+            openness: Openness::new(),
             outcome: Outcome::new(),
             tableau: Tableau::new(market, &pool),
             pool,
@@ -153,7 +153,7 @@ impl Master {
             return self.is_open(bidder);
         }
         self.pool.demand(bidder, must, never);
-        self.opening.fill(tree, fixing);
+        self.openness.fill(tree, fixing, None);
         self.fill_form(tree, bidder);
         self.is_open(bidder)
     }
@@ -163,7 +163,7 @@ impl Master {
         let place = usize::from(bidder);
         if let Some(worths) = self.worths.get(place) {
             if let Some(form) = self.forms.get_mut(place) {
-                form.fill(tree, worths, &self.opening);
+                form.fill(tree, worths, &self.openness);
             }
         }
     }

@@ -2,7 +2,7 @@
 
 use crate::column::Column;
 use crate::form::Form;
-use crate::operation::{Choice, Row, Rule, Work};
+use ice_relaxation::{Choice, Row, Rule, Work};
 
 /// What a choice took of its offered operands that takes one or several.
 #[derive(Clone, Copy)]
@@ -88,6 +88,7 @@ impl Outcome {
             value = value.wrapping_add(self.value(form.operand(place)));
         }
         let added = match choice.rule {
+            Rule::Bound => 0,
             Rule::Each => self.gains(form, choice),
             Rule::BestGain => self.take_best(form, number, choice, 0),
             Rule::Best => self.take_best(form, number, choice, i64::MIN),
@@ -212,6 +213,7 @@ impl Outcome {
             self.wait(form.operand(place));
         }
         match choice.rule {
+            Rule::Bound => {}
             Rule::Each => self.wait_for_gains(form, choice),
             Rule::BestGain | Rule::Best | Rule::Several { .. } => {
                 self.wait_for_best(number, choice);
@@ -249,7 +251,8 @@ fn row_cost(form: &Form, row: Row, m: &[i64; 16]) -> i64 {
     let mut cost: i64 = 0;
     for place in row.first..row.end {
         let leaf = form.leaf(place);
-        cost = cost.wrapping_add(m[usize::from(leaf.good % 16)].wrapping_mul(leaf.units));
+        let units = i64::from(leaf.units);
+        cost = cost.wrapping_add(m[usize::from(leaf.good % 16)].wrapping_mul(units));
     }
     cost
 }

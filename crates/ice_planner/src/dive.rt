@@ -1,6 +1,6 @@
 //! Dives from a side, to assignments that are whole.
 
-use crate::planner::{Planner, closing, node_of};
+use crate::planner::{Planner, closing};
 use ice_best::Mark;
 use ice_master::Aim;
 use ice_relaxation::Candidate;
@@ -41,7 +41,7 @@ impl Planner<'_> {
         for candidate in self.master.candidates().as_slice() {
             if candidate.share > most {
                 most = candidate.share;
-                fullest = Some((node_of(candidate), most));
+                fullest = Some((candidate.node, most));
             }
         }
         fullest

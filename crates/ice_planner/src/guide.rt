@@ -2,7 +2,7 @@
 ghost use Rattle.std.specs.Prelude.{◌≤◌, length};
 ghost use Rattle.ice_defs.specs.Conditions.{AreFixingsOf};
 
-use crate::planner::{closing, node_of};
+use crate::planner::closing;
 use arrayvec::ArrayVec;
 use ice_best::Fixings;
 use ice_bound::Multipliers;
@@ -70,7 +70,7 @@ fn rounded(floors: &[i64; 32], goods: u8, ups: u16) -> [i64; 32] {
 fn candidates_of(master: &Master) -> Candidates {
     let mut candidates = ArrayVec::new();
     for candidate in master.candidates().as_slice() {
-        let _is_room = candidates.try_push(node_of(candidate));
+        let _is_room = candidates.try_push(candidate.node);
     }
     candidates
 }

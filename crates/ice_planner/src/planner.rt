@@ -47,14 +47,6 @@ pub(crate) fn closing(value: i128) -> i64 {
     above.clamp(-(1 << 62), 1 << 62) as i64
 }
 
-/// The node of a master's candidate.
-pub(crate) fn node_of(candidate: &ice_master::Candidate) -> Candidate {
-    Candidate {
-        bidder: candidate.bidder,
-        node: candidate.node,
-    }
-}
-
 impl Planner<'_> {
     /// Solves the side, until it is known what is aimed at.
     pub(crate) fn solve(&mut self, aim: Aim) -> Dual {
@@ -87,7 +79,7 @@ impl Planner<'_> {
     fn tries(&self) -> Tries {
         let mut tries = ArrayVec::new();
         for candidate in self.master.candidates().as_slice() {
-            let _is_room = tries.try_push(node_of(candidate));
+            let _is_room = tries.try_push(candidate.node);
         }
         tries
     }

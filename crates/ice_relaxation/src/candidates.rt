@@ -133,5 +133,5 @@ fn rank_node(relaxation: &Relaxation, bidder: u8, number: Number, ranking: &mut 
         node: u16::from(operation.node),
     };
     let halfness = relaxation.halfness(bidder, number);
-    ranking.put(candidate, score(halfness, operation.weight));
+    ranking.put(candidate, score(halfness, operation.worth));
 }

@@ -15,5 +15,7 @@ mod relaxation;
 mod taking;
 
 pub use candidates::{Candidate, Candidates, pick};
+pub use openness::{Open, Openness};
+pub use operation::{Choice, Leaf, Operation, Row, Rule, Work};
 pub use profile::Profile;
 pub use relaxation::{Relaxation, Sight};

@@ -4,7 +4,7 @@ use crate::number::Number;
 
 /// Which of the offered operands a choice takes, beside those that come along.
 #[derive(Clone, Copy)]
-pub(crate) enum Rule {
+pub enum Rule {
     /// None.
     Bound,
     /// Each that adds value.
@@ -22,30 +22,31 @@ pub(crate) enum Rule {
     },
 }
 
-/// A node that brings the same leaves along each time: a run of the plan's leaves.
+/// A node that brings the same leaves along each time: a run of the list's leaves.
 #[derive(Clone, Copy)]
-pub(crate) struct Row {
+pub struct Row {
     /// Where its leaves begin.
-    pub(crate) first: u8,
+    pub first: u8,
     /// Where they end.
-    pub(crate) end: u8,
+    pub end: u8,
 }
 
-/// A node with a choice among its children: a run of the plan's operands.
+/// A node with a choice among its children: a run of the list's operands.
 #[derive(Clone, Copy)]
-pub(crate) struct Choice {
-    pub(crate) rule: Rule,
+pub struct Choice {
+    /// Which of the offered operands it takes.
+    pub rule: Rule,
     /// Where the operands that come along begin.
-    pub(crate) along: u8,
+    pub along: u8,
     /// Where these end, and those begin that are offered.
-    pub(crate) offered: u8,
+    pub offered: u8,
     /// Where the offered ones end.
-    pub(crate) end: u8,
+    pub end: u8,
 }
 
 /// What is worked out at a node.
 #[derive(Clone, Copy)]
-pub(crate) enum Work {
+pub enum Work {
     /// What its leaves cost.
     Row(Row),
     /// What its operands add.
@@ -65,25 +66,46 @@ pub(crate) enum Above {
 
 /// The work at one node.
 #[derive(Clone, Copy)]
-pub(crate) struct Operation {
-    /// What the node is worth, with what is bound to it, in 64ths.
-    pub(crate) weight: i64,
+pub struct Operation {
+    /// What the node is worth, with what it brings along each time, in parts of one.
+    pub worth: i64,
     /// The number of the node.
-    pub(crate) node: u8,
-    pub(crate) work: Work,
+    pub node: u8,
+    /// What is worked out there.
+    pub work: Work,
 }
 
 /// What a leaf buys, and less than nothing where it sells.
 #[derive(Clone, Copy)]
-pub(crate) struct Leaf {
-    pub(crate) units: i32,
-    pub(crate) good: u8,
+pub struct Leaf {
+    /// So many units.
+    pub units: i32,
+    /// Of this good.
+    pub good: u8,
+}
+
+impl Rule {
+    /// How a node takes some of so many offered children, so many of which are needed and have
+    /// room. No more are needed, or have room, than are offered.
+    pub fn of(need: u16, room: u16, offered: u8) -> Rule {
+        let most = u16::from(offered);
+        match (need, room) {
+            _ if offered == 0 => Rule::Bound,
+            (0, 1) => Rule::BestGain,
+            (1, 1) => Rule::Best,
+            (0, room) if room >= most => Rule::Each,
+            (need, room) => Rule::Several {
+                need: need.min(most) as u8,
+                room: room.min(most) as u8,
+            },
+        }
+    }
 }
 
 impl Operation {
     /// That of no node yet.
-    pub(crate) const BLANK: Operation = Operation {
-        weight: 0,
+    pub const BLANK: Operation = Operation {
+        worth: 0,
         node: 0,
         work: Work::Row(Row { first: 0, end: 0 }),
     };
@@ -91,7 +113,7 @@ impl Operation {
 
 impl Leaf {
     /// That of no node yet.
-    pub(crate) const BLANK: Leaf = Leaf { units: 0, good: 0 };
+    pub const BLANK: Leaf = Leaf { units: 0, good: 0 };
 }
 
 /// The bit of a good.

@@ -1,5 +1,6 @@
 //! A tree under marks as a short list of operations, which work out its greatest net and take the
 //! nodes of it.
+ghost use Rattle.std.specs.Prelude.{◌≡◌, length};
 
 use crate::number::Number;
 use crate::openness::{Openness, mark_of};
@@ -9,7 +10,7 @@ use crate::plan::Plan;
 use crate::profile::{Line, Offers, Profile, Share};
 use crate::taking::Counts;
 use ice_best::{Fixing, Mark};
-use ice_tree::Tree;
+use ice_tree::{Tree, Weights};
 
 /// The operations of one tree, with what they worked out last and how often each was taken. All of
 /// it is kept small, since a search begins with one for each tree.
@@ -56,9 +57,11 @@ impl Operations {
         }
     }
 
-    /// Makes them those of a tree of which this is open.
-    pub(crate) fn fill(&mut self, tree: &Tree, openness: &Openness) {
-        self.plan.fill(tree, openness);
+    /// Makes them those of a tree with these weights, of which this is open.
+    pub(crate) fn fill(&mut self, tree: &Tree, weights: &Weights, openness: &Openness)
+        requires { length weights.now ≡ length tree.now }
+    {
+        self.plan.fill(tree, weights, openness);
         self.outcome.begin(&self.plan);
     }
 
@@ -150,7 +153,7 @@ impl Operations {
             let fixed = self.line(root, good);
             return Some(Share::new(fixed, Offers::Best, 0, is_optional));
         };
-        let fixed = self.fixed_line(operation.weight, choice, good);
+        let fixed = self.fixed_line(operation.worth, choice, good);
         let (offers, least) = match choice.rule {
             Rule::Each => (Offers::Gains, 0),
             Rule::Best => (Offers::Best, i64::MIN),

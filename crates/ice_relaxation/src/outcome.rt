@@ -164,8 +164,8 @@ impl Outcome {
     fn work_out(&mut self, plan: &Plan, number: Number, m: &[i64; 32]) {
         let operation = plan.operation(number);
         let value = match operation.work {
-            Work::Row(row) => self.row_value(plan, operation.weight, row, m),
-            Work::Choice(choice) => self.choice_value(plan, operation.weight, number, choice),
+            Work::Row(row) => self.row_value(plan, operation.worth, row, m),
+            Work::Choice(choice) => self.choice_value(plan, operation.worth, number, choice),
         };
         self.values[number.place()] = value;
     }

@@ -1,10 +1,10 @@
 //! The operations of a tree, and how they are built from what its marks leave open.
-ghost use Rattle.std.specs.Prelude.{◌<◌, ◌≤◌, length};
+ghost use Rattle.std.specs.Prelude.{◌≡◌, ◌<◌, ◌≤◌, length};
 
 use crate::number::{Number, NumberSet};
-use crate::openness::{Open, OpenChildren, Openness};
+use crate::openness::Openness;
 use crate::operation::{Above, Choice, Leaf, Operation, Row, Rule, Work, bit_of};
-use ice_tree::{NodeKind, Tree};
+use ice_tree::{NodeKind, Tree, Weights};
 
 /// The operations of one tree under its marks, the rows first, and each choice after its operands.
 /// Numbers of operations and places of operands and leaves all fit in a byte, since a tree has at
@@ -36,26 +36,6 @@ fn in_64ths(worth: i128) -> i64 {
     worth.saturating_mul(64).clamp(-most, most) as i64
 }
 
-/// How a node takes some of so many offered children.
-fn rule_of(open: &Open, offered: u8) -> Rule {
-    match (open.need, open.room) {
-        _ if open.children != OpenChildren::Some => Rule::Bound,
-        (0, 1) => Rule::BestGain,
-        (1, 1) => Rule::Best,
-        (0, room) if room >= u16::from(offered) => Rule::Each,
-        (need, room) => several(need, room, offered),
-    }
-}
-
-/// The rule that takes several of so many. No more are needed, or have room, than are offered.
-fn several(need: u16, room: u16, offered: u8) -> Rule {
-    let most = u16::from(offered);
-    Rule::Several {
-        need: need.min(most) as u8,
-        room: room.min(most) as u8,
-    }
-}
-
 impl Plan {
     /// That of no tree yet.
     pub(crate) fn new() -> Plan {
@@ -74,36 +54,28 @@ impl Plan {
         }
     }
 
-    /// Makes it that of a tree of which this is open.
-    pub(crate) fn fill(&mut self, tree: &Tree, openness: &Openness) {
+    /// Makes it that of a tree with these weights, of which this is open.
+    pub(crate) fn fill(&mut self, tree: &Tree, weights: &Weights, openness: &Openness)
+        requires { length weights.now ≡ length tree.now }
+    {
         self.count = 0;
         self.operand_count = 0;
         self.leaf_count = 0;
         self.is_forced = openness.of(0).is_forced;
         self.rows_of = [NumberSet::EMPTY; 32];
         let mut numbers = [Number::FIRST; 200];
-        self.add_rows(tree, openness, &mut numbers);
-        self.rows = self.count;
-        self.add_choices(tree, openness, &mut numbers);
-    }
-
-    /// Adds the rows, and notes the number of each one's node.
-    fn add_rows(&mut self, tree: &Tree, openness: &Openness, numbers: &mut [Number; 200]) {
         for node in (0..tree.nodes()).rev() {
             let open = openness.of(node);
             if open.is_reached && open.is_whole && !openness.is_bound(tree, node) {
-                let row = self.row(tree, openness, node);
+                let row = self.row(tree, weights, openness, node);
                 numbers[usize::from(node)] = self.add(row);
             }
         }
-    }
-
-    /// Adds the choices, and notes the number of each one's node.
-    fn add_choices(&mut self, tree: &Tree, openness: &Openness, numbers: &mut [Number; 200]) {
+        self.rows = self.count;
         for node in (0..tree.nodes()).rev() {
             let open = openness.of(node);
             if open.is_reached && !open.is_whole {
-                let choice = self.choice(tree, openness, node, numbers);
+                let choice = self.choice(tree, weights.get(node), openness, node, &numbers);
                 numbers[usize::from(node)] = self.add(choice);
             }
         }
@@ -124,25 +96,28 @@ impl Plan {
     }
 
     /// The row of a node that brings the same leaves along each time.
-    fn row(&mut self, tree: &Tree, openness: &Openness, node: u16) -> Operation
+    fn row(&mut self, tree: &Tree, weights: &Weights, openness: &Openness, node: u16) -> Operation
         requires few { length tree.now ≤ 200 }
+        requires weights { length weights.now ≡ length tree.now }
         requires node { node < length tree.now }
     {
-        let open = openness.of(node);
+        let last = openness.of(node).last;
         let first = self.leaf_count;
+        let mut worth: i128 = 0;
         let mut goods = 0;
         for below in node..tree.nodes() {
-            if below > open.last {
+            if below > last {
                 break;
             }
             if openness.of(below).is_reached {
+                worth = worth.saturating_add(weights.get(below));
                 goods |= self.add_leaf(tree.kind(below));
             }
         }
         self.note_row(goods);
         let end = self.leaf_count;
         Operation {
-            weight: in_64ths(open.worth),
+            worth: in_64ths(worth),
             node: node as u8,
             work: Work::Row(Row { first, end }),
         }
@@ -172,10 +147,11 @@ impl Plan {
         }
     }
 
-    /// The choice of a node among its children.
+    /// The choice of a node of this weight among its children.
     fn choice(
         &mut self,
         tree: &Tree,
+        weight: i128,
         openness: &Openness,
         node: u16,
         numbers: &[Number; 200],
@@ -185,16 +161,17 @@ impl Plan {
     {
         let open = openness.of(node);
         let along = self.operand_count;
-        self.add_along(tree, openness, node, numbers);
+        let number = self.next_number();
+        self.add_operands(tree, openness, node, numbers, Above::Along(number));
         let offered = self.operand_count;
-        self.add_offered(tree, openness, node, numbers);
+        self.add_operands(tree, openness, node, numbers, Above::Offered(number));
         let end = self.operand_count;
-        self.goods[self.next_number().place()] = self.goods_of(along, end);
+        self.goods[number.place()] = self.goods_of(along, end);
         Operation {
-            weight: in_64ths(open.worth),
+            worth: in_64ths(weight),
             node: node as u8,
             work: Work::Choice(Choice {
-                rule: rule_of(&open, end.saturating_sub(offered)),
+                rule: Rule::of(open.need, open.room, end.saturating_sub(offered)),
                 along,
                 offered,
                 end,
@@ -202,31 +179,24 @@ impl Plan {
         }
     }
 
-    /// Adds the children that come along with a node to the choice that is made.
-    fn add_along(&mut self, tree: &Tree, openness: &Openness, node: u16, numbers: &[Number; 200])
+    /// Adds those children of a node to the choice that is made that come along with it, or those
+    /// that it may take.
+    fn add_operands(
+        &mut self,
+        tree: &Tree,
+        openness: &Openness,
+        node: u16,
+        numbers: &[Number; 200],
+        above: Above,
+    )
         requires few { length tree.now ≤ 200 }
         requires node { node < length tree.now }
     {
         let open = openness.of(node);
-        let above = Above::Along(self.next_number());
+        let are_along = matches!(above, Above::Along(_));
         for &below in tree.children(node) {
             let child = openness.of(below);
-            if child.is_reached && open.brings(&child) {
-                self.add_operand(numbers[usize::from(below)], above);
-            }
-        }
-    }
-
-    /// Adds the children that a node may take to the choice that is made.
-    fn add_offered(&mut self, tree: &Tree, openness: &Openness, node: u16, numbers: &[Number; 200])
-        requires few { length tree.now ≤ 200 }
-        requires node { node < length tree.now }
-    {
-        let open = openness.of(node);
-        let above = Above::Offered(self.next_number());
-        for &below in tree.children(node) {
-            let child = openness.of(below);
-            if child.is_reached && !open.brings(&child) {
+            if child.is_reached && open.brings(&child) == are_along {
                 self.add_operand(numbers[usize::from(below)], above);
             }
         }

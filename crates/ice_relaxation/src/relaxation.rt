@@ -145,8 +145,8 @@ impl Relaxation {
         if self.trees[place].are_of(fixing, trial) {
             return;
         }
-        self.openness.fill(tree, weights.of(bidder), fixing, trial);
-        self.trees[place].fill(tree, &self.openness);
+        self.openness.fill(tree, fixing, trial);
+        self.trees[place].fill(tree, weights.of(bidder), &self.openness);
         self.trees[place].keep_marks(fixing, trial);
         note_holder(&mut self.holders, bidder, self.trees[place].goods());
     }

@@ -84,7 +84,7 @@ fn three_units_for_two_buyers_of_two(rt: HostRuntime) -> Result<(), Fail> {
     let half = master.basis();
     let candidates = master.candidates();
     assert_eq!(rt; candidates.len(), 1);
-    assert!(rt; candidates[0].bidder != 0 && candidates[0].node == 0);
+    assert!(rt; candidates[0].node.bidder != 0 && candidates[0].node.node == 0);
     assert_eq!(rt; candidates[0].share, 1 << 39);
     // without one buyer the other takes its two units, and one is left over: 40, at nothing
     mark(&trees, &mut marks, 1, 0, Mark::Never);
