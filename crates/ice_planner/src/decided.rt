@@ -2,59 +2,26 @@
 ghost use Rattle.std.specs.Prelude.{◌≡◌, ◌<◌, ◌≤◌, length};
 
 use ice_best::{Fixing, Mark};
+use ice_relaxation::Openness;
 use ice_tree::Tree;
-
-/// What is known of a node.
-#[derive(Clone, Copy)]
-struct Place {
-    /// Whether it must be inside: it is marked so, or has such a child.
-    is_forced: bool,
-    /// Whether it may be inside, by its own mark and those below it.
-    is_live: bool,
-    /// So many of its children must be inside ..
-    taken: u16,
-    /// .. and so many others may be.
-    offered: u16,
-    /// Whether some set that meets the marks has it ..
-    may_be_in: bool,
-    /// .. and whether some has it not.
-    may_be_out: bool,
-}
 
 /// What the marks of a tree decide, node by node.
 #[derive(Drop)]
 pub struct Decided {
-    places: [Place; 200],
-}
-
-impl Place {
-    /// A node of which nothing is known.
-    const OPEN: Place = Place {
-        is_forced: false,
-        is_live: true,
-        taken: 0,
-        offered: 0,
-        may_be_in: true,
-        may_be_out: true,
-    };
-
-    /// Whether one more of its children may be inside.
-    fn has_room(&self, child: &Place, most: u16) -> bool {
-        child.is_forced || self.taken < most
-    }
-
-    /// Whether it can do without a child that may be inside.
-    fn can_spare(&self, child: &Place, least: u16) -> bool {
-        let all = self.taken.saturating_add(self.offered);
-        !child.is_live || least < all
-    }
+    open: Openness,
+    /// Whether some set that meets the marks has a node ..
+    may_be_in: [bool; 200],
+    /// .. and whether some has it not.
+    may_be_out: [bool; 200],
 }
 
 impl Decided {
-    /// That of a tree without marks.
+    /// That of no tree yet.
     pub fn new() -> Decided {
         Decided {
-            places: [Place::OPEN; 200],
+            open: Openness::new(),
+            may_be_in: [true; 200],
+            may_be_out: [true; 200],
         }
     }
 
@@ -62,38 +29,13 @@ impl Decided {
     pub fn fill(&mut self, tree: &Tree, fixing: &Fixing)
         requires { length fixing.now ≡ length tree.now }
     {
-        for node in (0..tree.nodes()).rev() {
-            self.force(tree, fixing.get(node), node);
-        }
-        self.places[0].may_be_in = self.places[0].is_live;
-        self.places[0].may_be_out = !self.places[0].is_forced;
+        self.open.take_marks(tree, fixing, None);
+        let root = self.open.of(0);
+        self.may_be_in[0] = root.is_live;
+        self.may_be_out[0] = !root.is_forced;
         for node in 0..tree.nodes() {
             self.reach(tree, node);
         }
-    }
-
-    /// Whether a node must be inside and whether it may be, by its mark and its children.
-    fn force(&mut self, tree: &Tree, mark: Mark, node: u16)
-        requires few { length tree.now ≤ 200 }
-        requires node { node < length tree.now }
-    {
-        let (least, most) = tree.kind(node).interval();
-        let mut place = Place::OPEN;
-        place.is_forced = mark == Mark::Must;
-        place.is_live = mark != Mark::Never;
-        for &number in tree.children(node) {
-            let child = self.places[usize::from(number)];
-            if child.is_forced {
-                place.is_forced = true;
-                place.is_live = place.is_live && child.is_live;
-                place.taken = place.taken.saturating_add(1);
-            } else if child.is_live {
-                place.offered = place.offered.saturating_add(1);
-            }
-        }
-        let all = place.taken.saturating_add(place.offered);
-        place.is_live = place.is_live && place.taken <= most && least <= all;
-        self.places[usize::from(node)] = place;
     }
 
     /// Which children of a node may be inside, and which outside.
@@ -101,31 +43,32 @@ impl Decided {
         requires few { length tree.now ≤ 200 }
         requires node { node < length tree.now }
     {
-        let (least, most) = tree.kind(node).interval();
-        let place = self.places[usize::from(node)];
+        let open = self.open.of(node);
+        let may_be_in = self.may_be_in[usize::from(node)];
+        let may_be_out = self.may_be_out[usize::from(node)];
         for &number in tree.children(node) {
-            let child = &mut self.places[usize::from(number)];
-            child.may_be_in = child.is_live && place.may_be_in && place.has_room(child, most);
-            child.may_be_out = !child.is_forced
-                && (place.may_be_out || place.can_spare(child, least));
+            let child = self.open.of(number);
+            let has_room = child.is_forced || open.room > 0;
+            let can_spare = !child.is_live || open.need < open.offered;
+            self.may_be_in[usize::from(number)] = child.is_live && may_be_in && has_room;
+            self.may_be_out[usize::from(number)] = !child.is_forced && (may_be_out || can_spare);
         }
     }
 
     /// Whether some set of the tree meets the marks.
     pub fn is_open(&self) -> bool {
-        self.places[0].is_live || !self.places[0].is_forced
+        self.may_be_in[0] || self.may_be_out[0]
     }
 
     /// The mark that a free node has as good as: `Never` where no set that meets the marks has it,
     /// `Must` where each of them has.
     pub fn mark_of(&self, node: u16) -> Mark {
-        let Some(place) = self.places.get(usize::from(node)) else {
-            return Mark::Never;
-        };
-        match (place.may_be_in, place.may_be_out) {
-            (false, _) => Mark::Never,
-            (true, false) => Mark::Must,
-            (true, true) => Mark::Free,
+        if node >= 200 || !self.may_be_in[usize::from(node)] {
+            Mark::Never
+        } else if self.may_be_out[usize::from(node)] {
+            Mark::Free
+        } else {
+            Mark::Must
         }
     }
 }
