@@ -168,6 +168,18 @@ fn made_smaller(
     Ok(plan)
 }
 
+/// A plan, made and made smaller; an empty one where it would have had too many splits. It owns
+/// nothing but the plan, so that an early end lets nothing else go.
+fn plan_by(planner: &mut Planner, sought: &Sought) -> Result<Plan, AllocError> {
+    let alloc = planner.alloc;
+    let bidders = planner.marking.trees.len();
+    let seed = seed_of(alloc, &mut planner.points, sought.log)?;
+    match make(alloc, planner, &seed, sought.most_splits())? {
+        Some(plan) => made_smaller(alloc, plan, planner, sought, bidders),
+        None => Ok(Plan::new(alloc)),
+    }
+}
+
 /// A plan of a search that begins with these marks. It has at most four splits for each branch that
 /// is left, and 10,000 more.
 pub fn plan_search(
@@ -182,25 +194,20 @@ pub fn plan_search(
     requires weights { AreWeightsOf trees.now weights.now }
     requires start { AreFixingsOf trees.now start.now }
 {
-    let master = Box::new(alloc, Master::new(alloc, trees, weights, exact)?)?;
     let marking = Marking::new(alloc, trees, start)?;
-    let mut points = Points::new(alloc);
-    let seed = seed_of(alloc, &mut points, sought.log)?;
+    let finds = Assignment::empty(alloc, trees)?;
     let mut planner = Planner {
         alloc,
         weights,
         exact,
         marking,
-        master,
-        points,
-        finds: Assignment::empty(alloc, trees)?,
+        master: Box::new(alloc, Master::new(alloc, trees, weights, exact)?)?,
+        points: Points::new(alloc),
+        finds,
         value: sought.value,
         looks: 0,
     };
-    let plan = match make(alloc, &mut planner, &seed, sought.most_splits())? {
-        Some(plan) => made_smaller(alloc, plan, &mut planner, sought, trees.len())?,
-        None => Plan::new(alloc),
-    };
+    let plan = plan_by(&mut planner, sought)?;
     Ok(Outline {
         plan,
         guide: Some(Guide {
