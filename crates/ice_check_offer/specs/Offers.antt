@@ -16,6 +16,7 @@ use Rattle.ice_check_offer.specs.declared.place.CertificateList.TheVariants as l
 use Rattle.ice_check_offer.specs.declared.place.Place.{Place}
 use Rattle.ice_check_offer.specs.declared.place.Place.TheVariants as place
 use Rattle.ice_check_offer.specs.declared.offer.Offer.{Offer}
+use Rattle.ice_check_offer.specs.declared.settlement.Settlement.{Settlement}
 
 -- the provisional trade at the weighted values of the bounds
 abbrev pub trade_of : Exchange → Offer → ProvisionalTrade
@@ -69,3 +70,9 @@ pub record IsKept (ex : Exchange) (o : Offer) : Type 0 where
 pub record IsFresh (ex : Exchange) (r : Round) : Type 0 where
   pub next : r.next ≡ r.bounds
   pub marks : r.marks ≡ replicate (length ex.bidders) false
+
+-- the offer of the settlement is kept, and this comes next in it
+pub record StandsAt (at : Settlement) (p : Place) (o : Offer) : Type 0 where
+  pub place : o.place ≡ p
+  pub kept : IsKept at.exchange.now o
+  pub weights : at.weights.now ≡ weighted_weights at.exchange.now.settings.weight o.judge.bounds

@@ -10,6 +10,7 @@ mod place;
 mod pricing;
 mod rounds;
 mod rows;
+mod settlement;
 
 pub use broken::broken_rule;
 pub use fault::Fault;

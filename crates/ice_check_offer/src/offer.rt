@@ -12,6 +12,7 @@ ghost use Rattle.ice_check_offer.specs.Taking.{Takes};
 
 use crate::fault::Fault;
 use crate::place::{Place, Went};
+use crate::settlement::Settlement;
 use ice_journal::Line;
 use ice_pricing::Tally;
 use ice_trade::Exchange;
@@ -95,11 +96,16 @@ impl Offer {
             ≡ weighted_weights exchange.now.settings.weight self.old.judge.bounds }
         ensures { Takes exchange.now number self.old (record_of line.now) result self.new }
     {
+        let at = Settlement {
+            exchange,
+            weights,
+            number,
+        };
         match self.place {
             Place::Prices => self.take_prices(exchange, line),
-            Place::Accuracy => self.take_accuracy(exchange, weights, line),
-            Place::Rows(list) => self.take_rows(exchange, weights, number, list, line),
-            Place::Round => self.take_submission(exchange, number, line),
+            Place::Accuracy => self.take_accuracy(&at, line),
+            Place::Rows(list) => self.take_rows(&at, list, line),
+            Place::Round => self.take_submission(&at, line),
             Place::Verdict(due) => self.take_verdict(exchange, due, line),
         }
     }

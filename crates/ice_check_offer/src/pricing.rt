@@ -8,7 +8,7 @@ ghost use Rattle.ice_defs.specs.Weighing.{weighted_weights};
 ghost use Rattle.ice_journal.specs.Lines.{record_of};
 ghost use Rattle.ice_journal.specs.Ranges.{IsRecord};
 ghost use Rattle.ice_journal.specs.Records as records;
-ghost use Rattle.ice_check_offer.specs.Offers.{IsKept, trade_of};
+ghost use Rattle.ice_check_offer.specs.Offers.{IsKept, StandsAt, trade_of};
 ghost use Rattle.ice_check_offer.specs.Taking.{Takes};
 ghost use Rattle.ice_pricing.specs.Priced.{HasViolation};
 
@@ -16,6 +16,7 @@ use crate::fault::Fault;
 use crate::lines::{StatedViolation, accuracy_in, is_limit, prices_in};
 use crate::offer::Offer;
 use crate::place::{CertificateList, Place, Went};
+use crate::settlement::Settlement;
 use ice_journal::Line;
 use ice_journal_laws::Rule;
 use ice_pricing::{Provisional, Scratch, Tally, are_lawful};
@@ -137,33 +138,29 @@ impl Offer {
     }
 
     /// The violation of the prices.
-    fn violation(&self, exchange: &Exchange, weights: &AllWeights) -> i128
-        requires kept { IsKept exchange.now self.now }
-        requires weights { weights.now
-            ≡ weighted_weights exchange.now.settings.weight self.now.judge.bounds }
-        ensures { HasViolation (trade_of exchange.now self.now) self.now.judge.prices result }
+    fn violation(&self, at: &Settlement<'_>) -> i128
+        requires stands { StandsAt at.now Place.Accuracy self.now }
+        ensures { HasViolation (trade_of at.now.exchange.now self.now) self.now.judge.prices
+            result }
     {
-        trade_at(exchange, weights, &self.judge).violation(self.judge.prices(), &mut Scratch::new())
+        let trade = trade_at(at.exchange, at.weights, &self.judge);
+        trade.violation(self.judge.prices(), &mut Scratch::new())
     }
 
     /// The violation of the prices, with the denominator of the first certificate.
     fn state_violation(
         &mut self,
-        exchange: &Exchange,
-        weights: &AllWeights,
+        at: &Settlement<'_>,
         stated: &StatedViolation,
     ) -> Result<Went, Fault>
-        requires place { self.old.place ≡ Place.Accuracy }
         requires lawful { IsRecord (records.accuracy stated.now.violation stated.now.den) }
-        requires kept { IsKept exchange.now self.old }
-        requires weights { weights.now
-            ≡ weighted_weights exchange.now.settings.weight self.old.judge.bounds }
-        ensures { (number : ℕ) → Takes exchange.now number self.old
+        requires stands { StandsAt at.now Place.Accuracy self.old }
+        ensures { Takes at.now.exchange.now at.now.number self.old
             (records.accuracy stated.now.violation stated.now.den) result self.new }
     {
         // The call says that the exchange is lawful.
-        let _goods = exchange.goods();
-        let found = self.violation(exchange, weights);
+        let _goods = at.exchange.goods();
+        let found = self.violation(at);
         if is_same(found, stated.violation) {
             self.violation = found;
             self.begin_list(CertificateList::Accuracy, stated.den);
@@ -174,22 +171,14 @@ impl Offer {
     }
 
     /// A record in the place of the violation.
-    pub(crate) fn take_accuracy(
-        &mut self,
-        exchange: &Exchange,
-        weights: &AllWeights,
-        line: &Line,
-    ) -> Result<Went, Fault>
-        requires place { self.old.place ≡ Place.Accuracy }
+    pub(crate) fn take_accuracy(&mut self, at: &Settlement<'_>, line: &Line) -> Result<Went, Fault>
         requires lawful { IsRecord (record_of line.now) }
-        requires kept { IsKept exchange.now self.old }
-        requires weights { weights.now
-            ≡ weighted_weights exchange.now.settings.weight self.old.judge.bounds }
-        ensures { (number : ℕ) → Takes exchange.now number self.old (record_of line.now) result
+        requires stands { StandsAt at.now Place.Accuracy self.old }
+        ensures { Takes at.now.exchange.now at.now.number self.old (record_of line.now) result
             self.new }
     {
         match accuracy_in(line) {
-            Some(stated) => self.state_violation(exchange, weights, &stated),
+            Some(stated) => self.state_violation(at, &stated),
             None => Err(Fault::Here(Rule::Order)),
         }
     }

@@ -1,5 +1,5 @@
 //! The round.
-ghost use Rattle.std.specs.Prelude.{◌≡◌, ◌≢◌, ◌<◌, ℕ, IsTrue, false, None};
+ghost use Rattle.std.specs.Prelude.{◌≡◌, ◌≢◌, ℕ, IsTrue, false, None};
 ghost use Rattle.ice_journal.specs.Lines.{record_of};
 ghost use Rattle.ice_journal.specs.Ranges.{IsRecord};
 ghost use Rattle.ice_journal.specs.Records as records;
@@ -12,6 +12,7 @@ use crate::fault::Fault;
 use crate::lines::{bid_in, settlement_in, verdict_in};
 use crate::offer::Offer;
 use crate::place::{Place, Went};
+use crate::settlement::Settlement;
 use ice_defs::Verdict;
 use ice_journal::Line;
 use ice_journal_laws::Rule;
@@ -39,18 +40,13 @@ impl Offer {
     }
 
     /// The settlement with this number begins, where it is the next one.
-    fn state_settlement(
-        &mut self,
-        exchange: &Exchange,
-        number: u8,
-        other: u8,
-    ) -> Result<Went, Fault>
-        requires kept { IsKept exchange.now self.old }
-        requires number { number < 250 }
-        requires opens { CanOpen exchange.now number self.old (records.settle other) }
-        ensures { Takes exchange.now number self.old (records.settle other) result self.new }
+    fn state_settlement(&mut self, at: &Settlement<'_>, other: u8) -> Result<Went, Fault>
+        requires kept { IsKept at.now.exchange.now self.old }
+        requires opens { CanOpen at.now.exchange.now at.now.number self.old (records.settle other) }
+        ensures { Takes at.now.exchange.now at.now.number self.old (records.settle other) result
+            self.new }
     {
-        if other != number + 1 {
+        if other != at.number + 1 {
             return Err(Fault::Here(Rule::Order));
         }
         self.judge.begin_next();
@@ -61,37 +57,31 @@ impl Offer {
     /// A record in the place of a submission.
     pub(crate) fn take_submission(
         &mut self,
-        exchange: &Exchange,
-        number: u8,
+        at: &Settlement<'_>,
         line: &Line,
     ) -> Result<Went, Fault>
         requires lawful { IsRecord (record_of line.now) }
-        requires kept { IsKept exchange.now self.old }
-        requires number { number < 250 }
-        requires opens { CanOpen exchange.now number self.old (record_of line.now) }
-        ensures { Takes exchange.now number self.old (record_of line.now) result self.new }
+        requires kept { IsKept at.now.exchange.now self.old }
+        requires opens { CanOpen at.now.exchange.now at.now.number self.old (record_of line.now) }
+        ensures { Takes at.now.exchange.now at.now.number self.old (record_of line.now) result
+            self.new }
     {
         match bid_in(line) {
-            Some(bid) => self.submit(exchange, &bid),
-            None => self.take_settlement(exchange, number, line),
+            Some(bid) => self.submit(at.exchange, &bid),
+            None => self.take_settlement(at, line),
         }
     }
 
     /// A record that is no submission.
-    fn take_settlement(
-        &mut self,
-        exchange: &Exchange,
-        number: u8,
-        line: &Line,
-    ) -> Result<Went, Fault>
-        requires kept { IsKept exchange.now self.old }
-        requires number { number < 250 }
+    fn take_settlement(&mut self, at: &Settlement<'_>, line: &Line) -> Result<Went, Fault>
+        requires kept { IsKept at.now.exchange.now self.old }
         requires no_submission { submission_in (record_of line.now) ≡ None }
-        requires opens { CanOpen exchange.now number self.old (record_of line.now) }
-        ensures { Takes exchange.now number self.old (record_of line.now) result self.new }
+        requires opens { CanOpen at.now.exchange.now at.now.number self.old (record_of line.now) }
+        ensures { Takes at.now.exchange.now at.now.number self.old (record_of line.now) result
+            self.new }
     {
         match settlement_in(line) {
-            Some(other) => self.state_settlement(exchange, number, other),
+            Some(other) => self.state_settlement(at, other),
             None => Err(Fault::Here(Rule::Order)),
         }
     }
