@@ -12,7 +12,7 @@ from ice_page import numbers, words
 from ice_page.checker import Answer
 from ice_page.course import price_tables, regret_table
 from ice_page.journal import Journal
-from ice_page.markup import cell, column_head, exact, key, row, row_head, table, tag, text
+from ice_page.markup import cell, column_head, exact, foreign, key, row, row_head, table, tag, text
 from ice_page.page import STYLES
 from ice_page.small_lines import lines_part
 from ice_page.view import View
@@ -67,8 +67,8 @@ def head_section(view: Public) -> str:
         surplus = exact(journal.surplus) + view.with_unit
         facts.append(fact("surplus", surplus, "what all pay together"))
     facts.append(fact("checker’s answer", checked(view), "on the whole journal"))
-    made = tag("p", text(view.made), class_="soft") if view.made else ""
-    return tag("h1", text(view.title)) + made + tag("dl", "".join(facts), class_="facts")
+    made = tag("p", foreign(view.made), class_="soft") if view.made else ""
+    return tag("h1", foreign(view.title)) + made + tag("dl", "".join(facts), class_="facts")
 
 
 def fact(name: str, value: str, note: str) -> str:

@@ -58,8 +58,10 @@ class Public(Desk):
             self.assertNotIn("<script", page)
 
     def test_prices_regret_and_rules(self):
-        page = self.page(self.opened(), "--unit=k€", "--title=Slots & more")
-        for words in ("Slots &amp; more", "▲ 146.5", ">705<", ">114<", "cap 2,000", "round 2"):
+        page = self.page(self.opened(), "--unit=k€", "--title=Slots & more", "--date=\u05d0")
+        for words in ("<bdi>Slots &amp; more</bdi>", "<bdi>\u05d0</bdi>"):
+            self.assertIn(words, page)
+        for words in ("▲ 146.5", ">705<", ">114<", "cap 2,000", "round 2"):
             self.assertIn(words, page)
         self.assertNotIn("units traded", page)
 

@@ -9,19 +9,19 @@ from fractions import Fraction
 from typing import Iterable
 
 from . import numbers
-from .plain import plain
+from .plain import plain, plain_around
 
 Attribute = str | int | float | Fraction | None
 
 
 def text(words: object) -> str:
-    """Words as markup; what isn't printable in them is spelled out."""
-    return html.escape(plain(str(words)))
+    """Words as markup; what isn't printable in them is spelled out, but isolates of names stay."""
+    return html.escape(plain_around(str(words)))
 
 
 def foreign(words: str) -> str:
     """Words that somebody else chose, as markup; letters from right to left turn nothing beside."""
-    return tag("bdi", text(words))
+    return tag("bdi", html.escape(plain(words)))
 
 
 def spelled(value: Attribute) -> str:

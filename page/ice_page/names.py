@@ -6,6 +6,7 @@ from collections import Counter
 from pathlib import Path
 
 from .journal import BadJournal, Journal, Judged
+from .plain import isolated
 
 HEADS = ["name", "full name"]
 FILE_LIMIT, MOST_LETTERS = 65_536, 60
@@ -50,10 +51,10 @@ def take(found: dict[str, str], cells: list[str], number: int) -> None:
     if not (short.isprintable() and full.isprintable()) or len(full) > MOST_LETTERS:
         why = f"a full name has at most {MOST_LETTERS} letters, and no control characters"
         raise BadNames(f"line {number}: {why}")
-    if short in found or full in found.values():
+    if short in found or isolated(full) in found.values():
         twice = short if short in found else full
         raise BadNames(f"line {number}: `{twice[:SHOWN]}` stands twice")
-    found[short] = full
+    found[short] = isolated(full)
 
 
 def name_all(journal: Journal, names: dict[str, str]) -> None:

@@ -9,6 +9,7 @@ from typing import NamedTuple
 from . import numbers, words
 from .journal import Node
 from .markup import box, dot, exact, frame, key, label, line, slice_of, tag, text
+from .plain import isolated_lines
 from .view import View
 
 INDENT, ROW, LINE, MIDDLE = 16, 6, 14, 11
@@ -105,7 +106,8 @@ class TreeDrawing:
                 first, last = node.children[0], node.children[-1]
                 note = f" ({first})" if first == last else f" ({first}–{last})"
                 skip = last + 1
-                found.append(Line(node, textwrap.wrap(words, WRAP, break_on_hyphens=False), note))
+                lines = textwrap.wrap(words, WRAP, break_on_hyphens=False)
+                found.append(Line(node, isolated_lines(lines), note))
             else:
                 plain = choice(node) if node.kind == "choose" else f"{node.kind} {self.leaf(node)}"
                 found.append(Line(node, [plain], ""))

@@ -54,6 +54,14 @@ const behind = part => {
 };
 const hasWords = part =>
   !part.closest('svg') && [...part.childNodes].some(one => one.nodeType === 3 && one.data.trim());
+const texts = part => [...part.childNodes].filter(one => one.nodeType === 3);
+const lefts = node => Object.fromEntries(
+  [...node.data.matchAll(/[\\u0590-\\u06ff]+/g)].map(found => {
+    const range = node.ownerDocument.createRange();
+    range.setStart(node, found.index);
+    range.setEnd(node, found.index + found[0].length);
+    return [found[0], range.getBoundingClientRect().left];
+  }));
 const colours = part => JSON.stringify([colour(style(part).color), behind(part)]);
 const measure = frame => {
   const page = frame.contentDocument, width = page.documentElement.clientWidth;
@@ -66,6 +74,9 @@ const measure = frame => {
     outside: parts.filter(part => part.getBoundingClientRect().right > width + 0.5).map(name),
     scrolls: parts.filter(scrolls).map(name),
     words: words.map(part => part.textContent),
+    lefts: Object.fromEntries(
+      words.flatMap(texts).map(node => [node.data, lefts(node)]).filter(
+        pair => Object.keys(pair[1]).length > 1)),
     colours: [...new Set(words.map(colours))].map(JSON.parse),
   };
 };

@@ -1,9 +1,15 @@
 """Full names from a table, links to each bidder, headings, and sets that don't add up."""
+import re
 import tempfile
+import textwrap
 import unittest
 from pathlib import Path
 
-from support import ROOT, page_of, run, sample
+import browser
+from support import ROOT, SAMPLES, opened, page_of, run, sample
+
+from ice_page.markup import foreign, text
+from ice_page.plain import isolated, isolated_lines, plain_around
 
 HALL = (ROOT / "examples/hall-session.journal").read_text()
 TABLE = "name,full name\nchoir,Kammerchor der Universität\nmonday,\"Monday, 7 December\"\n"
@@ -73,6 +79,82 @@ class Named(unittest.TestCase):
             self.assertEqual(status, 1)
             self.assertIn("would overwrite the names", errors)
             self.assertEqual(file.read_text(), TABLE)
+
+
+HEBREW, ARABIC = "\u05ea\u05d6\u05de\u05d5\u05e8\u05ea", "\u0623\u0648\u0628\u0631\u0627"
+BEFORE, BEHIND = "\u2068", "\u2069"
+
+
+def turned(journal: str) -> str:
+    """A table that gives each bidder and each good of a journal a name from right to left."""
+    names = dict.fromkeys(re.findall(r"(?m)^(?:bidder|good|exact|statement) (\S+)", journal))
+    rows = (f"{name},{HEBREW} {number}\n" for number, name in enumerate(names))
+    return "name,full name\n" + "".join(rows)
+
+
+class FromRightToLeft(Named):
+    """A name from right to left turns nothing of what stands beside it."""
+
+    def alone(self, page: str, least: int) -> None:
+        """Tests that each such name on a page is an isolate, and that there are so many."""
+        found = page.count(HEBREW)
+        self.assertGreaterEqual(found, least)
+        # In a drawing its number may be in the next line.
+        whole = re.findall(rf"{BEFORE}{HEBREW}(?: \d+)?{BEHIND}", page)
+        self.assertEqual(len(whole), found)
+
+    def test_pages_of_all_samples(self):
+        for file in SAMPLES:
+            journal = file.read_text()
+            status, page, errors = self.named(turned(journal), journal=journal)
+            self.assertEqual((status, errors), (0, ""), file.name)
+            self.alone(page, 2)
+
+    def test_a_name_that_goes_on_in_the_next_line(self):
+        name = isolated(f"{HEBREW} {HEBREW}")
+        lines = textwrap.wrap(f"buy {name} + a", 12)
+        self.assertEqual(lines, [f"buy {BEFORE}{HEBREW}", f"{HEBREW}{BEHIND} + a"])
+        wanted = [f"buy {BEFORE}{HEBREW}{BEHIND}", f"{BEFORE}{HEBREW}{BEHIND} + a"]
+        self.assertEqual(isolated_lines(lines), wanted)
+        self.assertEqual(isolated_lines(["a b", "c"]), ["a b", "c"])
+
+    def test_pages_of_bidders_and_of_a_session_that_waits(self):
+        airport = sample("airport-slots.session")
+        for journal in (airport, opened(airport, 2)):
+            for more in ((), ("--bidder", "Meridian")):
+                _, page, _ = self.named(turned(journal), *more, journal=journal)
+                self.alone(page, 20)
+
+    def test_which_names_are_isolates(self):
+        for name in ("Kammerchor", "Bühne 7", "合唱团", "Хор", "हॉल 2"):
+            self.assertEqual(isolated(name), name)
+        for name in (HEBREW, ARABIC, f"Opera {ARABIC} 2", "\u0662 Opera"):
+            self.assertEqual(isolated(name), f"{BEFORE}{name}{BEHIND}")
+
+    def test_only_what_stands_around_a_name_stays(self):
+        name = isolated(HEBREW)
+        self.assertEqual(text(f"buy 2 {name} + <b>"), f"buy 2 {name} + &lt;b&gt;")
+        for mark in (BEFORE, BEHIND, "\u202e", "\u200f", "\x1b"):
+            spelled = mark.encode("unicode_escape").decode()
+            self.assertEqual(plain_around(f"a{mark}b"), f"a{spelled}b")
+            self.assertEqual(plain_around(f"{name}{mark}{name}"), f"{name}{spelled}{name}")
+        inside = f"{BEFORE}a\u202eb{BEHIND}"
+        self.assertEqual(plain_around(inside), f"{BEFORE}a\\u202eb{BEHIND}")
+        # What others wrote has no marks at all, since it is an element of its own.
+        self.assertEqual(foreign(name), f"<bdi>\\u2068{HEBREW}\\u2069</bdi>")
+
+    @browser.NEEDS
+    def test_a_browser_shows_them_in_their_order(self):
+        table = f"name,full name\nmonday,{HEBREW}\ntuesday,{ARABIC}\n"
+        page = self.named(table)[1]
+        bare = page.replace(BEFORE, "").replace(BEHIND, "")
+        found, wrong = browser.measured([page, bare], 1160)
+        trade = f"sell {BEFORE}{HEBREW}{BEHIND} + {BEFORE}{ARABIC}{BEHIND}; receives "
+        lefts = found["lefts"][trade]
+        self.assertLess(lefts[HEBREW], lefts[ARABIC])
+        # Without the marks they would be turned round.
+        lefts = wrong["lefts"][trade.replace(BEFORE, "").replace(BEHIND, "")]
+        self.assertGreater(lefts[HEBREW], lefts[ARABIC])
 
 
 class Ways(unittest.TestCase):
