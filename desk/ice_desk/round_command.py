@@ -11,6 +11,7 @@ from typing import IO, Iterator
 
 from . import told
 from .folder import Folder
+from .progress import Progress
 from .staged import Staged
 from .stop import DONE, OPEN, REFUSED, UNWRITTEN, Stop, Words, plain, unread, unwritten
 from .tools import PROGRAM, signals_heard, whole
@@ -18,6 +19,7 @@ from .turn import Held, Options, Turn
 
 NAME = "ice-round"
 SHOWN = ("title", "unit", "date", "made-by", "names")
+STEPS, TRIED = 5, 4
 ABOUT = """\
 Holds a round: collects its bids, runs and checks the session, adds its digest to those that are
 published, and makes the operator's page, the public one and that of each bidder. The first call
@@ -94,8 +96,11 @@ def hold(folder: Folder, options: Options) -> Held:
     folder.read_market()
     kept = [folder.market, *(whole(each) for each in (options.salt, named(options)) if each)]
     try:
-        with Staged(folder.path, kept) as staged:
-            return Turn(folder, staged, options).hold()
+        with (
+            Progress(NAME, TRIED if options.is_trial else STEPS) as progress,
+            Staged(folder.path, kept) as staged,
+        ):
+            return Turn(folder, staged, options, progress).hold()
     except OSError as fault:
         raise unwritten(fault, folder.path) from None
 

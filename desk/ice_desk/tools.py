@@ -8,7 +8,7 @@ import sys
 import tempfile
 from contextlib import contextmanager
 from pathlib import Path
-from typing import IO, Iterator, NamedTuple
+from typing import IO, Callable, Iterator, NamedTuple
 
 from .stop import INTERRUPTED, Stop, plain, unread
 
@@ -16,6 +16,7 @@ TOP = Path(__file__).resolve().parents[2]
 PROGRAM, COLLECT = TOP / "ice", TOP / "examples" / "collect.py"
 DIGEST, TABLE = TOP / "page" / "ice-digest", TOP / "page" / "ice-table"
 MOST_OUTPUT, MOST_LINES = 65_536, 40
+MOMENT, MOST_SAID = 0.5, 400
 SIGNALS = (signal.SIGTERM, signal.SIGHUP, signal.SIGINT)
 
 
@@ -48,12 +49,37 @@ def front(stream: IO[bytes]) -> str:
     return stream.read(MOST_OUTPUT).decode("utf-8", "replace")
 
 
-def run(*words: object, into: Path | None = None) -> Ran:
+def nothing(_: str) -> None:
+    """Does nothing with what a program said."""
+
+
+def said_last(stream: IO[bytes]) -> str:
+    """The last line of a stream, as far as it was written."""
+    size = os.fstat(stream.fileno()).st_size
+    end = os.pread(stream.fileno(), MOST_SAID, max(size - MOST_SAID, 0))
+    lines = end.decode("utf-8", "replace").split("\n")
+    return next((line for line in reversed(lines) if line), "")
+
+
+def wait(
+    process: subprocess.Popen[bytes], errors: IO[bytes], meanwhile: Callable[[str], None]
+) -> int:
+    """Waits for a program, and tells moment by moment what it said last; its status."""
+    while True:
+        try:
+            return process.wait(MOMENT)
+        except subprocess.TimeoutExpired:
+            meanwhile(said_last(errors))
+
+
+def run(
+    *words: object, into: Path | None = None, meanwhile: Callable[[str], None] = nothing
+) -> Ran:
     """Runs a program, whose standard output goes into a file where one is named."""
     with tempfile.TemporaryFile() as errors, open_output(into) as output:
         process = started(list(map(str, words)), output, errors)
         try:
-            status = process.wait()
+            status = wait(process, errors, meanwhile)
         except BaseException:
             process.terminate()
             process.wait()

@@ -1,11 +1,13 @@
 """One round: its bids are collected, the session is run and checked, and all files are made."""
 from __future__ import annotations
 
+import contextlib
+import io
 import tempfile
 from dataclasses import dataclass, field
 from pathlib import Path
 
-from ice_page import command as page
+from ice_page import command as page, numbers
 from ice_page.journal import BadJournal, Journal
 from ice_page.names import name_all, read_names
 from ice_page.words import awaited
@@ -13,6 +15,7 @@ from ice_page.words import awaited
 from .collecting import collect, late
 from .folder import Folder, read, read_journal
 from .judge import answer, said
+from .progress import Progress
 from .public import public_page
 from .staged import Staged
 from .stop import OPEN, REFUSED, Stop, unread
@@ -48,8 +51,11 @@ class Held:
 class Turn:
     """The round that is due in a folder."""
 
-    def __init__(self, folder: Folder, staged: Staged, options: Options) -> None:
+    def __init__(
+        self, folder: Folder, staged: Staged, options: Options, progress: Progress
+    ) -> None:
         self.folder, self.staged, self.options = folder, staged, options
+        self.progress = progress
         self.rounds = folder.rounds()
         self.told: list[str] = []
         self.answer = ""
@@ -59,7 +65,8 @@ class Turn:
         self.gather()
         journal = self.run()
         path = self.staged.path(self.folder.journal)
-        self.answer = answer(self.options.program, path, journal)
+        self.progress.step(f"checking {self.folder.journal}")
+        self.answer = answer(self.options.program, path, journal, self.progress.meanwhile)
         digest = self.digest()
         held = Held(journal, len(self.rounds), digest, self.told)
         if not self.options.is_trial:
@@ -67,11 +74,17 @@ class Turn:
             held.files = self.staged.place()
         return held
 
+    @property
+    def coins(self) -> list[str]:
+        """The word by which tables and pages have payments in coins, where that is asked for."""
+        return [f"--unit-coins={self.options.coins}"] if self.options.coins else []
+
     # The bids
 
     def gather(self) -> None:
         """Collects the bids of the round that is awaited, where any came."""
         number, journal = len(self.rounds) + 1, self.folder.held()
+        self.progress.step(f"collecting the bids of round {number}")
         waits = journal is not None and awaited(journal) and journal.last.number == number - 1
         came = bool(self.folder.bids(number)[0])
         if waits and (came or self.options.is_empty):
@@ -96,7 +109,9 @@ class Turn:
     def run(self) -> Journal:
         """Runs the session, and gives its journal."""
         path, program = self.staged.path(self.folder.journal), self.options.program
-        ran = run(program, "run", self.folder.market, *self.rounds, into=path)
+        self.progress.step(f"running the session with {numbers.plural(len(self.rounds), 'round')}")
+        words, meanwhile = (self.folder.market, *self.rounds), self.progress.meanwhile
+        ran = run(program, "run", *words, into=path, meanwhile=meanwhile)
         if ran.status in (SPENT, LIMIT):
             self.keep_stopped(path, ran)
         if ran.status not in (CLOSED, OPEN):
@@ -115,6 +130,7 @@ class Turn:
         """The digest to publish, behind those that are published already, which have to hold."""
         salt = [f"--salt={whole(self.options.salt)}"] if self.options.salt else []
         path, listed = self.staged.path(self.folder.journal), self.folder.file("published")
+        self.progress.step("comparing the digests")
         before = published(listed)
         if before:
             ran = python(DIGEST, *salt, path, listed)
@@ -135,6 +151,7 @@ class Turn:
     def pages(self, held: Held) -> None:
         """Makes the operator's page, the public one, and those of the bidders."""
         path, digest = self.staged.path(self.folder.journal), [f"--digest={held.digest}"]
+        self.progress.step("making pages")
         checked, journal = [f"--checked={self.answer}"], held.journal
         self.page(path, self.folder.page, *checked, *digest)
         lines = published(self.staged.path(self.folder.published))
@@ -166,17 +183,19 @@ class Turn:
 
     def page(self, source: Path, name: str, *words: str) -> None:
         """Makes a page of a file."""
+        self.progress.part(name)
         told = [*self.options.shown, *words]
-        made = page.main([str(source), "-o", str(self.staged.path(name)), *told])
+        errors = io.StringIO()
+        with contextlib.redirect_stderr(errors):
+            made = page.main([str(source), "-o", str(self.staged.path(name)), *told])
         if made:
-            raise Stop(made, f"no page {name} was made")
+            raise Stop(made, f"{errors.getvalue()}no page {name} was made")
 
     def close(self, path: Path, names: list[str]) -> None:
         """Makes the tables, and each bidder's statement with its page."""
         program, tables = self.options.program, self.folder.tables
-        coins = [f"--round={self.options.coins}"] if self.options.coins else []
         made = self.staged.room / tables
-        ran = python(TABLE, path, made, *coins)
+        ran = python(TABLE, path, made, *self.coins)
         if ran.status:
             raise Stop(ran.status, said(ran, "ice-table"))
         for table in sorted(made.iterdir()):
@@ -191,7 +210,7 @@ class Turn:
     def audit(self, statement: Path, name: str) -> None:
         """Has a statement audited, and makes its page."""
         found = answer(self.options.program, statement, read(statement, name))
-        self.page(statement, f"{name}.html", f"--checked={found}")
+        self.page(statement, f"{name}.html", f"--checked={found}", *self.coins)
 
 
 def published(path: Path) -> list[str]:

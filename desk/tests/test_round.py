@@ -2,6 +2,7 @@
 import hashlib
 import json
 import os
+import pty
 import re
 import shutil
 import signal
@@ -132,6 +133,16 @@ class Rounds(Desk):
             self.bids_come(number)
             self.round("--coins=100")
         self.assertIn("coins", self.files()["tables/payments.csv"].decode().splitlines()[0])
+        self.assertIn("in whole coins", self.files()["Meridian.html"].decode())
+
+    def test_full_names_from_right_to_left(self):
+        name = "\u05e2\u05e8\u05d1"
+        (self.folder / "names.csv").write_text(f"name,full name\narr-2215,{name}\n")
+        self.assertEqual(self.round("--names=names.csv")[0], 9)
+        for page in ("market.html", "market-public.html", "Meridian-0.html"):
+            text = self.files()[page].decode()
+            self.assertGreater(text.count(name), 1)
+            self.assertEqual(text.count(name), text.count(f"\u2068{name}\u2069"), page)
 
     def test_salted_digests(self):
         (self.folder / "salt").write_bytes(bytes(range(32)))
@@ -252,6 +263,13 @@ class Stops(Desk):
         self.assertIn("interrupted", errors)
         self.assertEqual(set(self.files()), {"market.json", "slow", "begun"})
 
+    def test_a_table_of_names_that_is_none(self):
+        self.open()
+        self.bids_come(1)
+        (self.folder / "names.csv").write_text("name,full name\nMeridian,\n")
+        wanted = "ice-round: ice-page: names.csv: line 2: a name and a full name are due\n"
+        self.stops(2, wanted, "--names=names.csv")
+
     def test_control_characters_are_spelled_out(self):
         self.open()
         self.bids_come(1)
@@ -274,6 +292,84 @@ class Stops(Desk):
             ran = subprocess.run(words, stdout=full, check=False, **how)
         self.assertEqual(ran.returncode, 7)
         self.assertTrue(os.path.exists(self.folder / "published"))
+
+
+class OnATerminal(Desk):
+    """A line on the terminal says which step it is at, and leaves nothing there."""
+
+    def on_terminal(self, *words: str, columns: int = 80, **settings: str):
+        """Holds a round whose standard error is a terminal: the status, output, and what it got."""
+        terminal, its_end = pty.openpty()
+        where = {**self.where, "COLUMNS": str(columns), **settings}
+        words = (sys.executable, ROUND, "market.json", *(words or (PROGRAM,)))
+        how = {"cwd": self.folder, "env": where, "stdin": subprocess.DEVNULL}
+        process = subprocess.Popen(words, stdout=subprocess.PIPE, stderr=its_end, **how)
+        os.close(its_end)
+        got = b""
+        try:
+            while part := os.read(terminal, 4096):
+                got += part
+        except OSError:  # nobody has the other end any more
+            pass
+        os.close(terminal)
+        output = process.stdout.read().decode()
+        process.stdout.close()
+        return process.wait(), output, got.decode()
+
+    def shown(self, got: str) -> list[str]:
+        """The lines that stood on the terminal, one over the other."""
+        self.assertNotIn("\x1b", got)
+        return [line.rstrip() for line in got.split("\r") if line.strip()]
+
+    def test_each_step_is_named(self):
+        self.open()
+        self.bids_come(1)
+        status, output, got = self.on_terminal()
+        self.assertEqual(status, 9)
+        self.assertIn("to publish:", output)
+        self.assertNotIn("of 5", output)
+        steps = (
+            "1 of 5, collecting the bids of round 1",
+            "2 of 5, running the session with 1 round",
+            "3 of 5, checking market.journal",
+            "4 of 5, comparing the digests",
+            "5 of 5, making pages",
+            "5 of 5, making pages: Meridian-1.html",
+        )
+        shown = [line for line in self.shown(got) if " s" not in line.partition(", ")[2][-5:]]
+        found = [line for line in shown if line.removeprefix("ice-round: ") in steps]
+        self.assertEqual(found, [f"ice-round: {step}" for step in steps])
+
+    def test_nothing_of_it_is_left(self):
+        """What is written last blanks the whole of what was written before it."""
+        _, _, got = self.on_terminal()
+        *_, before, blank, end = got.split("\r")
+        self.assertEqual((blank, end), (" " * len(before.rstrip()), ""))
+        self.assertNotIn("\n", got)
+
+    def test_a_long_run_says_how_long_and_what_its_program_said(self):
+        slow = self.folder / "slow"
+        slow.write_text("#!/bin/sh\necho first >&2\necho 'ice: 3 of 90' >&2\nsleep 2\nexit 2\n")
+        slow.chmod(0o755)
+        status, _, got = self.on_terminal("--program=slow")
+        self.assertEqual(status, 2)
+        line = "ice-round: 2 of 5, running the session with 0 rounds: [1-9] s, ice: 3 of 90"
+        self.assertRegex("\n".join(self.shown(got)), line)
+        # And what is wrong stands on lines of its own.
+        self.assertIn("\rice-round: first\r\nice-round: ice: 3 of 90\r\nice-round: stopped", got)
+
+    def test_a_narrow_terminal(self):
+        _, _, got = self.on_terminal(columns=30)
+        lines = self.shown(got)
+        self.assertIn("ice-round: 2 of 5, running th", lines)
+        self.assertLess(max(map(len, lines)), 30)
+
+    def test_a_trial_makes_no_pages(self):
+        self.open()
+        self.bids_come(1)
+        _, _, got = self.on_terminal(PROGRAM, "--try")
+        last = "ice-round: 4 of 4, comparing the digests"
+        self.assertEqual([line for line in self.shown(got) if "4 of" in line], [last])
 
 
 if __name__ == "__main__":
