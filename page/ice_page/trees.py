@@ -229,7 +229,7 @@ def reason(view: View, number: int) -> str:
     payment, cut = view.journal.payments[number], view.journal.cut
     added, total = numbers.whole(payment.vickrey), numbers.whole(view.total)
     whose, whom, ending = ("Your", "You", "") if view.alone else ("Its", "It", "s")
-    says = f"{whose} set is worth {numbers.whole(view.worths[number])} at lower values. "
+    says = f"{whose} final set is worth {numbers.whole(view.worths[number])} at lower values. "
     if not payment.vickrey:
         how = " (your Vickrey discount is 0)" if view.alone else ""
         says += f"{whom} add{ending} nothing to the total{how}, "
@@ -260,7 +260,7 @@ def gets(view: View, number: int) -> str:
     """What a bidder gets and pays, in a line."""
     trade = text(words.trade(view.units[number], view.journal.goods))
     if not view.journal.payments:
-        where = "By lower values alone, which decide at the close, you would now get: "
+        where = "Your final set, if the session closed now, by lower values alone: "
         return (where if view.alone else "") + trade
     payment = view.journal.payments[number].payment
     verb = "receive" if payment < 0 else "pay"

@@ -73,7 +73,7 @@ class OneBidder(unittest.TestCase):
         words = page.root.seen()
         for part in (
             "You get: buy dep-0630 + dep-0700 + dep-0730.",
-            "Your set is worth 792 at lower values. You add 270 to the total (your Vickrey "
+            "Your final set is worth 792 at lower values. You add 270 to the total (your Vickrey "
             "discount); the cut is 194.75 (779/4), so you keep 75.25 (301/4).",
             "Your tree",
         ):
@@ -92,7 +92,8 @@ class OneBidder(unittest.TestCase):
         self.assertIn(f"{says}keep 0.", words)
         words = page_of(AIRPORT, "--bidder", "Polar-Cargo").root.seen()
         self.assertIn("You get: no trade.", words)
-        self.assertIn("Your set is worth 0 at lower values. You add nothing to the total", words)
+        says = "Your final set is worth 0 at lower values. You add nothing to the total"
+        self.assertIn(says, words)
         # As where the same total is reached without it.
         paid = ("payment b 1 1/2 31/2", "payment b 0 0/1 16/1")
         journal = sample("two-settlements.session").replace(*paid)
@@ -108,7 +109,8 @@ class OneBidder(unittest.TestCase):
         ):
             words = page_of(journal, "--bidder", name).root.seen()
             self.assertIn(f"Your provisional set is {set_}: your part of the best trade", words)
-            self.assertIn(f"which decide at the close, you would now get: {now}", words)
+            final = "Your final set, if the session closed now, by lower values alone"
+            self.assertIn(f"{final}: {now}", words)
             self.assertNotIn("provisional set is", page_of(AIRPORT, "--bidder", name).root.text)
         page = page_of(journal)
         self.assertEqual(page.root.text.count("Its provisional set"), len(NAMES))

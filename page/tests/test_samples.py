@@ -394,8 +394,8 @@ class ByHand(unittest.TestCase):
         for part in (
             "receives 15.5 (31/2)",
             "pays 15.5 (31/2)",
-            "Its set is worth 16 at lower values. It adds 1 to the total (without it 0 of 1 can be "
-            "reached); the cut is 0.5 (1/2), so it keeps 0.5 (1/2).",
+            "Its final set is worth 16 at lower values. It adds 1 to the total (without it 0 of 1 can "
+            "be reached); the cut is 0.5 (1/2), so it keeps 0.5 (1/2).",
             "round 1: b at node 0",
             "round 1: zz",
             "must fall by 2 or vanish",

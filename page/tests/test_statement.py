@@ -151,7 +151,7 @@ class Pages(unittest.TestCase):
         self.assertEqual(facts["could be missed, at most"], ("0", "the regret"))
         self.assertEqual(facts["surplus of the payments"], ("0", "what all pay together"))
         says = (
-            "Your set is worth −15 at lower values. You add 1 to the total (your Vickrey "
+            "Your final set is worth −15 at lower values. You add 1 to the total (your Vickrey "
             "discount); the cut is 0.5 (1/2), so you keep 0.5 (1/2)."
         )
         words = page.root.seen()
