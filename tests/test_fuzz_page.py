@@ -9,7 +9,7 @@ from pathlib import Path
 
 from harness.program import TESTS
 
-TURNS = 200
+TURNS = 1500
 PAGE = "<!DOCTYPE html>\n<html><head><title>x</title></head><body>{}</body></html>\n"
 
 
@@ -26,7 +26,7 @@ class FuzzPage(unittest.TestCase):
     """What the fuzzer stands on."""
 
     def test_some_turns(self):
-        words = [sys.executable, TESTS / "fuzz_page", "--turns", str(TURNS), "--seed", "gate", "--of", "page"]
+        words = [sys.executable, TESTS / "fuzz_page", "--turns", str(TURNS), "--seed", "gate"]
         ran = subprocess.run(words, capture_output=True, text=True)
         self.assertEqual(ran.returncode, 0, ran.stdout + ran.stderr)
 

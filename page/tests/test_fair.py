@@ -7,20 +7,11 @@ from support import HERE, Page, call, opened, sample
 
 PAIR = "two-settlements.session"
 # The seller is paid 31/2, which the buyer pays: a price of 31/2 explains both.
-EVEN = "prices 2 31\naccuracy 0 1\ndistance 0/1\nfairness 1\nend fair\n"
+EVEN = (HERE / "fair" / PAIR).read_text()
 # One of three sells to one of three, and pays or is paid nothing for it: of prices that leave the
 # third at most 5 to gain there is 5 alone, which is 5 from what the buyer pays and the seller gets.
 EMPTY = "empty-core.session"
-CORE = """prices 1 5
-accuracy 500 2
-row 0 1 110
-row 0 1 101
-distance 5/1
-fairness 100
-hold 2 100 0
-row 0 1 101
-end fair
-"""
+CORE = (HERE / "fair" / EMPTY).read_text()
 
 
 class Pages(unittest.TestCase):
