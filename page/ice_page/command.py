@@ -127,7 +127,7 @@ def read(options: argparse.Namespace) -> tuple[Journal, Answer]:
         except BaseException:
             checker.stop()
             raise
-    if not answer.fits(journal):
+    if checker.said_last and not answer.fits(journal):
         say(checker.said_last)
     return journal, answer
 

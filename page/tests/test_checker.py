@@ -161,6 +161,7 @@ class Asked(unittest.TestCase):
             (opened, f'{words}; echo "no 26 closed"; exit 3', ""),
             (opened, f'{words}; echo "no 25 row"; exit 3', "ice: it stops at line 26\n"),
             (opened, f'{words}; exit 70', "ice: it stops at line 26\n"),
+            (opened, "exit 70", ""),
             (
                 opened,
                 f'echo ice: building >&2; {words}; echo "no 26 closed"; exit 3',
