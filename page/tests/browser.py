@@ -130,7 +130,8 @@ def measured(pages: list[str], width: int, dark: bool = False) -> list[dict[str,
         dom = run(*(DARK if dark else []), "--dump-dom", f"file://{file}")
     body = re.search("<body>(.*)</body>", dom, re.S)
     assert body, dom[:200]
-    return json.loads(html.unescape(body[1]))
+    shown: list[dict[str, Any]] = json.loads(html.unescape(body[1]))
+    return shown
 
 
 def sheets(page: str) -> int:

@@ -7,6 +7,7 @@ import sys
 import tempfile
 from html.parser import HTMLParser
 from pathlib import Path
+from typing import Any
 
 HERE = Path(__file__).resolve().parent
 ROOT = HERE.parents[1]
@@ -34,7 +35,8 @@ class Element:
     """An element of a page."""
 
     def __init__(self, name: str, attributes: dict[str, str]) -> None:
-        self.name, self.attributes, self.parts = name, attributes, []
+        self.name, self.attributes = name, attributes
+        self.parts: list[Any] = []  # elements and words
 
     @property
     def text(self) -> str:
@@ -85,18 +87,18 @@ class Page(HTMLParser):
         self.close()
         assert self.open == [self.root], [element.name for element in self.open]
 
-    def handle_starttag(self, name, attributes):
+    def handle_starttag(self, name: str, attributes: list[tuple[str, str | None]]) -> None:
         assert len(dict(attributes)) == len(attributes), f"an attribute twice: {attributes}"
-        element = Element(name, dict(attributes))
+        element = Element(name, {key: value or "" for key, value in attributes})
         self.open[-1].parts.append(element)
         if name not in VOID:
             self.open.append(element)
 
-    def handle_endtag(self, name):
+    def handle_endtag(self, name: str) -> None:
         assert self.open[-1].name == name, f"{name} closes {self.open[-1].name}"
         self.open.pop()
 
-    def handle_data(self, words):
+    def handle_data(self, words: str) -> None:
         self.open[-1].parts.append(words)
 
     def table(self, caption: str) -> list[list[str]]:
@@ -132,7 +134,7 @@ def call(*words: str) -> tuple[int, str]:
         try:
             status = command.main(list(words))
         except SystemExit as end:
-            status = end.code
+            status = int(end.code or 0)
     return status, errors.getvalue()
 
 

@@ -1,4 +1,5 @@
 """Basics of accessibility, and that the page stands by itself."""
+import math
 import re
 import unittest
 
@@ -10,10 +11,10 @@ WORDS = ("ink", "soft", "buy", "sell", "miss", "good")
 LEAST_CONTRAST = 4.5
 
 
-def light(channel: int) -> float:
+def light(channel: float) -> float:
     """The relative luminance of a channel."""
     share = channel / 255
-    return share / 12.92 if share <= 0.04045 else ((share + 0.055) / 1.055) ** 2.4
+    return share / 12.92 if share <= 0.04045 else math.pow((share + 0.055) / 1.055, 2.4)
 
 
 def luminance(colour: tuple[float, ...]) -> float:
@@ -29,7 +30,7 @@ def contrast(one: tuple[float, ...], other: tuple[float, ...]) -> float:
 
 def palettes() -> list[dict[str, tuple[int, ...]]]:
     """The colours in light, in dark, and on paper, where all but some are those in light."""
-    found = []
+    found: list[dict[str, tuple[int, ...]]] = []
     for block in re.findall(r":root \{([^}]*)\}", STYLES):
         pairs = re.findall(r"--(\w+): #([0-9a-f]{6})", block)
         light = found[0] if found else {}
@@ -40,8 +41,10 @@ def palettes() -> list[dict[str, tuple[int, ...]]]:
 class Access(unittest.TestCase):
     """What readers of screens, of paper and of small letters need."""
 
+    pages: list[tuple[str, Page]]
+
     @classmethod
-    def setUpClass(cls):
+    def setUpClass(cls) -> None:
         cls.pages = [(file.name, page_of(file.read_text())) for file in SAMPLES]
         cls.pages += [
             ("largest", page_of(largest_session())),
@@ -54,7 +57,7 @@ class Access(unittest.TestCase):
             (file, page, element) for file, page in self.pages for element in page.root.all(name)
         ]
 
-    def test_document(self):
+    def test_document(self) -> None:
         for file, page in self.pages:
             with self.subTest(file):
                 (html,) = page.root.all("html")
@@ -62,7 +65,7 @@ class Access(unittest.TestCase):
                 self.assertEqual((len(page.root.all("main")), len(page.root.all("h1"))), (1, 1))
                 self.assertTrue(page.root.all("head")[0].all("title")[0].text)
 
-    def test_headings_skip_no_level(self):
+    def test_headings_skip_no_level(self) -> None:
         for file, page in self.pages:
             levels = [
                 int(level) for level in re.findall("h([123])", " ".join(self.names(page.root)))
@@ -80,7 +83,7 @@ class Access(unittest.TestCase):
                 found += [part.name, *self.names(part)]
         return found
 
-    def test_tables(self):
+    def test_tables(self) -> None:
         self.assertTrue(self.each("table"))
         for file, _, table in self.each("table"):
             self.assertEqual(table.parts[0].name, "caption", file)
@@ -97,7 +100,7 @@ class Access(unittest.TestCase):
         for file, _, body in self.each("tbody"):
             self.assertTrue(all(row.parts[0].name == "th" for row in body.all("tr")), file)
 
-    def test_frames_that_scroll_are_reached_by_keys(self):
+    def test_frames_that_scroll_are_reached_by_keys(self) -> None:
         for file, page in self.pages:
             for frame in page.root.all("div", "wide"):
                 self.assertEqual(
@@ -105,7 +108,7 @@ class Access(unittest.TestCase):
                 )
                 self.assertTrue(frame.attributes["aria-label"])
 
-    def test_drawings_have_titles(self):
+    def test_drawings_have_titles(self) -> None:
         self.assertTrue(self.each("svg"))
         for file, _, drawing in self.each("svg"):
             self.assertEqual(drawing.parts[0].name, "title", file)
@@ -113,7 +116,7 @@ class Access(unittest.TestCase):
             self.assertEqual(drawing.attributes["aria-label"], drawing.parts[0].text)
             self.assertIn(drawing.attributes["role"], ("img", "group"))
 
-    def test_numbers_of_drawings_are_finite(self):
+    def test_numbers_of_drawings_are_finite(self) -> None:
         for file, _, drawing in self.each("svg"):
             for part in drawing.all("rect"):
                 self.assertGreaterEqual(float(part.attributes["width"]), 0, file)
@@ -121,7 +124,7 @@ class Access(unittest.TestCase):
             box = drawing.attributes["viewbox"].split()
             self.assertTrue(all(float(number) >= 0 for number in box), file)
 
-    def test_contrast_in_light_and_dark(self):
+    def test_contrast_in_light_and_dark(self) -> None:
         found = palettes()
         self.assertEqual(len(found), 3)
         self.assertEqual(found[2]["paper"], (255, 255, 255))
@@ -138,13 +141,13 @@ class Access(unittest.TestCase):
                     contrast(colours["paper"], colours[word]), LEAST_CONTRAST, word
                 )
 
-    def test_colour_never_speaks_alone(self):
+    def test_colour_never_speaks_alone(self) -> None:
         for file, page in self.pages:
             for word, sign in (("buy", "+"), ("sell", "\u2212")):
                 for cell in page.root.all("td", word):
                     self.assertTrue(cell.text.startswith(sign), file)
 
-    def test_stands_by_itself(self):
+    def test_stands_by_itself(self) -> None:
         for file, page in self.pages:
             names = set(self.names(page.root))
             self.assertFalse(
@@ -157,7 +160,7 @@ class Access(unittest.TestCase):
                 self.assertIn(link.attributes["href"].removeprefix("#"), marks, file)
         self.assertNotRegex(STYLES, r"url\(|@import|http")
 
-    def test_classes_have_styles(self):
+    def test_classes_have_styles(self) -> None:
         used = {
             class_
             for _, page in self.pages

@@ -45,7 +45,7 @@ def with_other_bids(journal: str, name: str) -> str:
 class OneBidder(unittest.TestCase):
     """What one bidder sees."""
 
-    def test_its_own(self):
+    def test_its_own(self) -> None:
         page = page_of(AIRPORT, "--bidder", "Meridian", "--checked", "yes 32 0/1")
         facts = page.facts()
         self.assertEqual(
@@ -79,13 +79,13 @@ class OneBidder(unittest.TestCase):
         ):
             self.assertIn(part, words)
 
-    def test_who_receives(self):
+    def test_who_receives(self) -> None:
         facts = page_of(sample("two-settlements.session"), "--bidder", "s").facts()
         received = ("15.5 (31/2)", "minus that value, and what you keep")
         self.assertEqual(facts["you receive"], received)
         self.assertNotIn("you pay", facts)
 
-    def test_who_keeps_nothing(self):
+    def test_who_keeps_nothing(self) -> None:
         # It adds 3 and the cut is 194.75; Polar-Cargo trades nothing.
         words = page_of(AIRPORT, "--bidder", "Charter-Sud").root.seen()
         says = "You add 3 to the total (your Vickrey discount); the cut is 194.75 (779/4), so you "
@@ -101,7 +101,7 @@ class OneBidder(unittest.TestCase):
         says = "You add nothing to the total (your Vickrey discount is 0), so you keep nothing."
         self.assertIn(says, words)
 
-    def test_its_provisional_set(self):
+    def test_its_provisional_set(self) -> None:
         journal = opened(AIRPORT, 0)
         for name, set_, now in (
             ("Meridian", "“buy dep-0630 + dep-0700 + arr-2215” (nodes 0–2, 4)", "buy dep-0630"),
@@ -117,7 +117,7 @@ class OneBidder(unittest.TestCase):
         says = "Its provisional set, by which bids are judged: buy dep-0630 + dep-0700 + arr-2215"
         self.assertIn(f"{says} (nodes 0–2, 4).", page.root.seen())
 
-    def test_nothing_of_the_others(self):
+    def test_nothing_of_the_others(self) -> None:
         for name in NAMES:
             page = page_of(AIRPORT, "--bidder", name, "--checked", "yes 32 0/1")
             words = page.root.text
@@ -127,7 +127,7 @@ class OneBidder(unittest.TestCase):
                 self.assertNotIn(number, words)
             self.assertEqual(page.table("Searches and"), [])
 
-    def test_every_sample(self):
+    def test_every_sample(self) -> None:
         for file in SAMPLES:
             journal = file.read_text()
             names = re.findall("^bidder ([^ ]+)", journal, re.M)
@@ -137,7 +137,7 @@ class OneBidder(unittest.TestCase):
                     [card.all("h3")[0].text for card in page.root.all("article")], [name]
                 )
 
-    def test_same_page_whatever_the_others_bid(self):
+    def test_same_page_whatever_the_others_bid(self) -> None:
         # The seller's values, sets, bids and payment, the totals and the logs are others.
         journal = sample("two-settlements.session")
         lines = journal.splitlines()
@@ -169,14 +169,14 @@ class OneBidder(unittest.TestCase):
         self.assertEqual(pages[0], pages[1])
         self.assertNotEqual(run(journal)[1], run(changed)[1])
 
-    def test_same_page_in_a_larger_session(self):
+    def test_same_page_in_a_larger_session(self) -> None:
         for name in NAMES:
             changed = with_other_bids(AIRPORT, name)
             self.assertGreater(sum(a != b for a, b in zip(AIRPORT.split(), changed.split())), 150)
             options = ("--bidder", name, "--checked", "yes 32 0/1", "--title", "Slots")
             self.assertEqual(run(AIRPORT, *options), run(changed, *options), name)
 
-    def test_same_page_while_bids_are_awaited(self):
+    def test_same_page_while_bids_are_awaited(self) -> None:
         for settlement in (0, 2):
             journal = opened(AIRPORT, settlement)
             for name in NAMES:
@@ -186,7 +186,7 @@ class OneBidder(unittest.TestCase):
                 self.assertIn("your sets at the prices", pages[0][1])
                 self.assertEqual(pages[0], pages[1], name)
 
-    def test_stops_tell_nothing(self):
+    def test_stops_tell_nothing(self) -> None:
         for name, state in (
             ("ring.spent.session", "Search spent"),
             ("ring.spent.regret", "Search spent"),
@@ -210,14 +210,14 @@ class OneBidder(unittest.TestCase):
             self.assertEqual(says == lead, state == "Open")
             self.assertNotIn(f"{line} closed", page.root.text)
 
-    def test_a_no_is_shown_without_its_line(self):
+    def test_a_no_is_shown_without_its_line(self) -> None:
         page = page_of(AIRPORT, "--bidder", "Meridian", "--checked", "no 99 above")
         self.assertEqual(
             page.facts()["checker’s answer"],
             ("no", "not what this journal asks for: don’t rely on this page"),
         )
 
-    def test_no_such_bidder(self):
+    def test_no_such_bidder(self) -> None:
         status, _, errors = run(AIRPORT, "--bidder", "Meridia")
         self.assertEqual((status, "no bidder is named Meridia" in errors), (2, True))
         self.assertEqual(call("x", "--bidder")[0], 1)

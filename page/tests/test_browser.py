@@ -1,6 +1,7 @@
 """Pages in a real Chromium: on a phone, on a screen, in light and dark, and on paper."""
 import unittest
 from concurrent.futures import ThreadPoolExecutor
+from typing import Any
 
 import browser
 from support import SAMPLES, opened, run, sample
@@ -25,21 +26,24 @@ def pages() -> dict[str, str]:
 class OnScreens(unittest.TestCase):
     """What a screen shows."""
 
+    pages: dict[str, str]
+    found: dict[tuple[int, bool], dict[str, dict[str, Any]]]
+
     @classmethod
-    def setUpClass(cls):
+    def setUpClass(cls) -> None:
         cls.pages = pages()
         few = ("airport-slots.session", "Meridian, open", "hall.journal", "ring.spent.session")
         dark = {name: cls.pages[name] for name in few}
         ways = {(PHONE, False): cls.pages, (SCREEN, False): cls.pages, (SCREEN, True): dark}
 
-        def measured(way: tuple[int, bool]) -> dict[str, dict]:
+        def measured(way: tuple[int, bool]) -> dict[str, dict[str, Any]]:
             shown = ways[way]
             return dict(zip(shown, browser.measured(list(shown.values()), *way)))
 
         with ThreadPoolExecutor(3) as pool:
             cls.found = dict(zip(ways, pool.map(measured, ways)))
 
-    def test_what_is_outside_is_found(self):
+    def test_what_is_outside_is_found(self) -> None:
         # A page that is too wide in two ways, so that the tests below can fail.
         page = run(AIRPORT)[1]
         broad = page.replace("<footer", '<p class="lead" style="width:500px">so broad</p><footer')
@@ -49,19 +53,19 @@ class OnScreens(unittest.TestCase):
         self.assertEqual((first["outside"], first["scrolls"]), (["P.lead: so broad"], []))
         self.assertEqual((second["outside"], len(second["scrolls"])), (["DIV.: x"], 1))
 
-    def test_nothing_is_outside_a_phone(self):
+    def test_nothing_is_outside_a_phone(self) -> None:
         for name, found in self.found[PHONE, False].items():
             with self.subTest(name):
                 self.assertEqual(found["width"], PHONE)
                 self.assertEqual((found["outside"], found["scrolls"]), ([], []))
                 self.assertGreater(len(found["words"]), 20)
 
-    def test_nothing_is_outside_a_screen(self):
+    def test_nothing_is_outside_a_screen(self) -> None:
         for name, found in self.found[SCREEN, False].items():
             with self.subTest(name):
                 self.assertEqual((found["outside"], found["scrolls"]), ([], []))
 
-    def test_payments_and_trades_on_a_phone(self):
+    def test_payments_and_trades_on_a_phone(self) -> None:
         small = self.found[PHONE, False]["airport-slots.session"]["words"]
         large = self.found[SCREEN, False]["airport-slots.session"]["words"]
         trade = "buy dep-0630 + dep-0700 + dep-0730; worth 792, adds 270, keeps 75.25 (301/4)"
@@ -71,7 +75,7 @@ class OnScreens(unittest.TestCase):
             self.assertEqual("+2" in words, not shown)
             self.assertEqual("● 1 buy dep-0630: pays up to 300 (opening: 190..330)" in words, shown)
 
-    def test_prices_on_a_phone(self):
+    def test_prices_on_a_phone(self) -> None:
         small = self.found[PHONE, False]["Meridian, open"]["words"]
         large = self.found[SCREEN, False]["Meridian, open"]["words"]
         self.assertEqual([f"round {number}" in small for number in (1, 2, 3)], [False, True, True])
@@ -79,7 +83,7 @@ class OnScreens(unittest.TestCase):
         note = "earlier prices stand on a wider screen"
         self.assertEqual((note in small, note in large), (True, False))
 
-    def test_light_and_dark(self):
+    def test_light_and_dark(self) -> None:
         for (width, dark), found in self.found.items():
             for name, page in found.items():
                 papers = [luminance(behind[:3]) for _, behind in page["colours"]]
@@ -94,14 +98,14 @@ class OnScreens(unittest.TestCase):
 class OnPaper(unittest.TestCase):
     """What a printer does."""
 
-    def test_two_sheets_for_a_bidder(self):
+    def test_two_sheets_for_a_bidder(self) -> None:
         journals = (AIRPORT, opened(AIRPORT, 2))
         names = ("Northern-Airways", "Airport-Coordination")
         made = [run(journal, "--bidder", name)[1] for journal in journals for name in names]
         with ThreadPoolExecutor(3) as pool:
             self.assertEqual(list(pool.map(browser.sheets, made)), [2] * len(made))
 
-    def test_sheets_are_counted(self):
+    def test_sheets_are_counted(self) -> None:
         # The page for all is longer than any for one.
         self.assertGreater(browser.sheets(run(AIRPORT)[1]), 4)
 

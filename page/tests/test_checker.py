@@ -19,7 +19,7 @@ class Answers(unittest.TestCase):
         page = page_of(journal, *options)
         return *page.facts()["checker’s answer"], PROVEN in page.root.text
 
-    def test_told(self):
+    def test_told(self) -> None:
         told = {
             "yes 0 0/1": ("yes", True),
             " yes 0 0/1\n": ("yes", True),
@@ -42,7 +42,7 @@ class Answers(unittest.TestCase):
             self.assertEqual("as told to this page" in note, shown == "yes")
             self.assertEqual("don’t rely on this page" in note, shown == "no")
 
-    def test_each_kind(self):
+    def test_each_kind(self) -> None:
         for name, text, proven in (
             ("two-settlements.regret", "yes 5", True),
             ("two-settlements.v1.session", "yes 0 0/1", True),
@@ -52,7 +52,7 @@ class Answers(unittest.TestCase):
                 self.answer(sample(name), "--checked", text)[::2], ("yes", proven), name
             )
 
-    def test_an_assignment_is_never_proven_best(self):
+    def test_an_assignment_is_never_proven_best(self) -> None:
         journal = (
             "ice 1 assign\nsettings 50 0 100 1 5 200\ngood A\nbidder s 1\nnode sell 0 1 -10 -10\n"
             "bidder b 0\nnode buy 0 1 20 30\nassign\nset 1\nset 1\nend assign\n"
@@ -60,7 +60,7 @@ class Answers(unittest.TestCase):
         self.assertEqual(self.answer(journal, "--checked", "yes 10")[::2], ("yes", False))
         self.assertEqual(self.answer(journal, "--checked", "yes 20")[::2], ("no", False))
 
-    def test_sets_that_do_not_add_up(self):
+    def test_sets_that_do_not_add_up(self) -> None:
         session = sample(SESSION)
         trade = (
             "ice 1 assign\nsettings 50 0 100 1 5 200\n{} A\nbidder s 1\nnode sell 0 1 -10 -10\n"
@@ -98,7 +98,7 @@ class Asked(unittest.TestCase):
         page = page_of(journal or sample(SESSION), "--check", "--program", self.program(body))
         return *page.facts()["checker’s answer"], page.root.text
 
-    def test_yes(self):
+    def test_yes(self) -> None:
         value, note, words = self.answer('cat >/dev/null; echo "yes 0 0/1"')
         self.assertEqual(value, "yes")
         self.assertIn("“yes 0 0/1”, asked of ice check for this page: every test passed", note)
@@ -106,14 +106,14 @@ class Asked(unittest.TestCase):
         self.assertIn(hashlib.sha256(sample(SESSION).encode()).hexdigest(), words)
         self.assertIn("ice check read these bytes and said “yes 0 0/1”", words)
 
-    def test_the_program_is_named(self):
+    def test_the_program_is_named(self) -> None:
         program = Path(self.program("cat >/dev/null; echo 'yes 0 0/1'"))
         other = program.with_name("<other>")
         program.rename(other)
         page = page_of(sample(SESSION), "--check", "--program", str(other))
         self.assertIn("asked of <other> check for this page", page.facts()["checker’s answer"][1])
 
-    def test_same_bytes_and_words(self):
+    def test_same_bytes_and_words(self) -> None:
         journal = sample("airport-slots.session")
         with tempfile.TemporaryDirectory() as folder:
             self.answer(
@@ -122,30 +122,30 @@ class Asked(unittest.TestCase):
             self.assertEqual(Path(folder, "bytes").read_text(), journal)
             self.assertEqual(Path(folder, "words").read_text(), "check /dev/stdin\n")
 
-    def test_no(self):
+    def test_no(self) -> None:
         value, note, words = self.answer('cat >/dev/null; echo "no 12 above"; exit 3')
         self.assertEqual(value, "no")
         self.assertIn("“no 12 above”, where this journal asks for “yes 0 0/1”", note)
         self.assertNotIn(PROVEN, words)
 
-    def test_a_yes_with_another_status_is_none(self):
+    def test_a_yes_with_another_status_is_none(self) -> None:
         self.assertEqual(self.answer('cat >/dev/null; echo "yes 0 0/1"; exit 7')[0], "no")
 
-    def test_no_answer(self):
+    def test_no_answer(self) -> None:
         value, note, words = self.answer("cat >/dev/null; exit 70")
         self.assertEqual((value, "ended with status 70" in note), ("no verdict", True))
         self.assertNotIn(PROVEN, words)
         value, note, _ = self.answer('cat >/dev/null; echo "refused 1 53 -"; exit 2')
         self.assertEqual((value, "“refused 1 53 -”" in note), ("no verdict", True))
 
-    def test_program_that_reads_nothing(self):
+    def test_program_that_reads_nothing(self) -> None:
         journal = sample("two-settlements.regret").replace(
             "near 1 0 640\n", "branch 0 0\nnear 1 0 640\n" * 40000 + "near 0\n"
         )
         self.assertGreater(len(journal), 500000)
         self.assertEqual(self.answer('echo "no 9 count"; exit 3', journal)[0], "no")
 
-    def test_a_warning_where_somebody_asked_in_vain(self):
+    def test_a_warning_where_somebody_asked_in_vain(self) -> None:
         def warns(*options: str) -> list[str]:
             return [part.text for part in page_of(sample(SESSION), *options).root.all("dd", "warn")]
 
@@ -153,7 +153,7 @@ class Asked(unittest.TestCase):
         self.assertEqual(warns("--bidder", "b"), [])
         self.assertEqual(warns("--check", "--program", self.program("exit 70")), ["no verdict"])
 
-    def test_words_of_the_program(self):
+    def test_words_of_the_program(self) -> None:
         # The last line that it says is told where its answer isn't the one that is due; an open
         # journal has none. What it says before goes on at once.
         opened, words = sample("open.session"), "echo ice: it stops at line 26 >&2"
@@ -173,13 +173,13 @@ class Asked(unittest.TestCase):
             status, _, errors = run(journal, "--check", "--program", program)
             self.assertEqual((status, errors), (0, told), body)
 
-    def test_bad_journal_ends_the_program(self):
+    def test_bad_journal_ends_the_program(self) -> None:
         status, _, errors = run(
             "ice 1 assign\n", "--check", "--program", self.program('cat >/dev/null; echo "yes 0"')
         )
         self.assertEqual((status, "line 2: the file ends" in errors), (2, True))
 
-    def test_no_program(self):
+    def test_no_program(self) -> None:
         status, page, errors = run(sample(SESSION), "--check", "--program", "/nowhere/ice")
         self.assertEqual((status, page, "/nowhere/ice" in errors), (6, "", True))
 

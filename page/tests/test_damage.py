@@ -19,7 +19,7 @@ class Damage(unittest.TestCase):
         self.assertRegex(errors, LINE if line is None else rf"some\.journal: line {line}: .")
         return errors
 
-    def test_cut_at_each_line(self):
+    def test_cut_at_each_line(self) -> None:
         for file in SAMPLES:
             if file.stat().st_size > 3000:
                 continue
@@ -29,18 +29,18 @@ class Damage(unittest.TestCase):
                     errors = self.refused("".join(lines[:count]), count + 1)
                     self.assertIn("the file ends", errors)
 
-    def test_cut_inside_a_line(self):
+    def test_cut_inside_a_line(self) -> None:
         for file in SAMPLES:
             data = file.read_bytes()
             self.assertIn("ends without a newline", self.refused(data[:-1], data.count(b"\n")))
 
-    def test_a_line_more(self):
+    def test_a_line_more(self) -> None:
         for file in SAMPLES:
             data = file.read_text()
             errors = self.refused(data + "end closed\n", data.count("\n") + 1)
             self.assertIn("stands after the end", errors)
 
-    def test_each_line_left_out(self):
+    def test_each_line_left_out(self) -> None:
         # A log without a branch or with another leaf may still be a log; a verdict's rows, bids
         # with their verdicts and multipliers aren't counted by the page.
         lines = sample("ring.session").splitlines(keepends=True)
@@ -48,7 +48,7 @@ class Damage(unittest.TestCase):
             with self.subTest(line):
                 self.refused("".join(lines[:place] + lines[place + 1 :]))
 
-    def test_one_line_changed(self):
+    def test_one_line_changed(self) -> None:
         lines = sample("two-settlements.session").splitlines()
         changes = {
             1: ["ice 3 session", "ICE 2 session", "ice 2 assign"],
@@ -76,7 +76,7 @@ class Damage(unittest.TestCase):
                     changed = "\n".join([*lines[: number - 1], other, *lines[number:]]) + "\n"
                     self.refused(changed)
 
-    def test_round_file_of_another_round(self):
+    def test_round_file_of_another_round(self) -> None:
         for name, other in (
             ("refused.session", "refused 3 3 bids.0.lo.0"),
             ("unread.session", "unread 3"),
@@ -84,7 +84,7 @@ class Damage(unittest.TestCase):
             lines = sample(name).splitlines()
             self.refused("\n".join([*lines[:-1], other]) + "\n", len(lines))
 
-    def test_other_line_endings_and_bytes(self):
+    def test_other_line_endings_and_bytes(self) -> None:
         text = sample("two-settlements.session")
         self.refused(text.replace("\n", "\r\n"), 1)
         self.refused("\ufeff" + text, 1)
@@ -93,12 +93,12 @@ class Damage(unittest.TestCase):
         self.refused(b"", 1)
         self.refused(b"\0" * 20000, 1)
 
-    def test_one_number_changed_for_a_bidder(self):
+    def test_one_number_changed_for_a_bidder(self) -> None:
         # What no session would say has a page all the same, or the line is named.
         draw = random.Random(5)
         journal = opened(sample("airport-slots.session"), 1)
         names = re.findall("^bidder ([^ ]+)", journal, re.M)
-        statuses = Counter()
+        statuses: Counter[int] = Counter()
         for _ in range(60):
             lines = [line.split(" ") for line in journal.splitlines()]
             words = draw.choice([words for words in lines if len(words) > 1 and words[0] != "near"])
@@ -115,7 +115,7 @@ class Damage(unittest.TestCase):
         self.assertEqual(set(statuses), {0, 2})
         self.assertGreater(statuses[0], 15)
 
-    def test_random_edits(self):
+    def test_random_edits(self) -> None:
         draw = random.Random(12)
         samples = [file.read_bytes() for file in SAMPLES if file.stat().st_size < 3000]
         for _ in range(600):

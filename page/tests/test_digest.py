@@ -12,6 +12,7 @@ from pathlib import Path
 from support import HERE, sample
 
 from ice_page import digest
+from ice_page.lines import FILE_LIMIT
 
 COMMAND = HERE.parent / "ice-digest"
 FRONT = sample("open.session").removesuffix("end open\n")
@@ -30,7 +31,7 @@ def sha(text: str, salt: bytes = b"") -> str:
 class Digests(unittest.TestCase):
     """One call, in a folder of its own."""
 
-    def setUp(self):
+    def setUp(self) -> None:
         made = tempfile.TemporaryDirectory()
         self.addCleanup(made.cleanup)
         self.folder = Path(made.name)
@@ -48,7 +49,7 @@ class Digests(unittest.TestCase):
             try:
                 status = digest.main(list(words))
             except SystemExit as end:
-                status = end.code
+                status = int(end.code or 0)
         return status, output.getvalue(), errors.getvalue()
 
     def digest(self, journal: str, *words: str) -> str:
@@ -80,7 +81,7 @@ class Digests(unittest.TestCase):
         self.assertEqual(errors, "")
         return status, lines
 
-    def test_what_is_published(self):
+    def test_what_is_published(self) -> None:
         front = f"front 0 {len(FRONT)} {sha(FRONT)}\n"
         for last in ("end open", "refused 2 3 bids.0.lo", "refused 2 1 -", "unread 2"):
             self.assertEqual(self.digest(f"{FRONT}{last}\n"), front, last)
@@ -91,7 +92,7 @@ class Digests(unittest.TestCase):
         regret = sample("two-settlements.regret")
         self.assertEqual(self.digest(regret), f"whole - {len(regret)} {sha(regret)}\n")
 
-    def test_later_journals_keep_it(self):
+    def test_later_journals_keep_it(self) -> None:
         first = self.digest(f"{FRONT}end open\n")
         second = self.digest(f"{TAKEN_ON}end open\n")
         whole = self.digest(CLOSED)
@@ -100,7 +101,7 @@ class Digests(unittest.TestCase):
         self.assertEqual(self.compare(CLOSED, first + second + whole), (0, lines))
         self.assertEqual(self.compare(f"{FRONT}end open\n", first), (0, "same front 0\n"))
 
-    def test_changed_journals_do_not(self):
+    def test_changed_journals_do_not(self) -> None:
         first, second = (self.digest(f"{text}end open\n") for text in (FRONT, TAKEN_ON))
         published = first + second + self.digest(CLOSED)
         late = CLOSED.replace("submit z", "submit y")
@@ -118,7 +119,7 @@ class Digests(unittest.TestCase):
         lines = "same front 0\nsame front 1\nother whole 2\n"
         self.assertEqual(self.compare(again, published), (3, lines))
 
-    def test_bytes_that_are_no_front(self):
+    def test_bytes_that_are_no_front(self) -> None:
         # A digest of other bytes than those up to where a settlement awaits its round binds nothing,
         # though the journal has them: the first ten, all but a line, or those of another settlement.
         first, second, whole = (
@@ -144,7 +145,7 @@ class Digests(unittest.TestCase):
         for line in (whole.replace("whole 2", "whole 1"), whole.replace("whole 2", "whole -")):
             self.assertEqual(self.compare(CLOSED, first + second + line)[0], 3, line)
 
-    def test_rounds_without_a_line_are_told(self):
+    def test_rounds_without_a_line_are_told(self) -> None:
         first, second, whole = (
             self.digest(text) for text in (f"{FRONT}end open\n", f"{TAKEN_ON}end open\n", CLOSED)
         )
@@ -157,7 +158,7 @@ class Digests(unittest.TestCase):
         waiting = self.compare(f"{TAKEN_ON}end open\n", first)
         self.assertEqual(waiting, (0, "same front 0\nnone front 1\n"))
 
-    def test_places_without_a_round(self):
+    def test_places_without_a_round(self) -> None:
         # Rows of `accuracy`, bids, and another settlement's prices are no end of a front.
         prices = FRONT[: FRONT.index("balance ")]
         for text in (prices, FRONT + ROUND, f"{TAKEN_ON}{ROUND}settle 2\n", "ice 2 session\n"):
@@ -166,7 +167,7 @@ class Digests(unittest.TestCase):
         skipped = self.file("bad", CLOSED.replace("settle 1\n", "settle 2\n"))
         self.assertIn("`settle 1` is due", self.call(skipped)[2])
 
-    def test_numbers_that_are_too_long(self):
+    def test_numbers_that_are_too_long(self) -> None:
         journal = self.file("journal", CLOSED)
         digest = sha(FRONT)
         for line in (
@@ -179,21 +180,22 @@ class Digests(unittest.TestCase):
             self.assertEqual((status, lines), (2, ""), line[:20])
             self.assertIn("line 1 is no digest", errors)
 
-    def test_files_past_their_limits(self):
+    def test_files_past_their_limits(self) -> None:
         # No more is read than tells that a file is too long.
         journal = self.file("journal", CLOSED)
-        for limit, words in (
-            (digest.FILE_LIMIT, ()),
+        limits: tuple[tuple[int, tuple[str, ...]], ...] = (
+            (FILE_LIMIT, ()),
             (digest.LIST_LIMIT, (journal,)),
             (digest.SALT_BYTES, (journal, "--salt")),
-        ):
+        )
+        for limit, words in limits:
             status, lines, errors = self.call(*words, self.hole(limit + 1))
             self.assertEqual((status, lines), (2, ""), words)
             self.assertRegex(errors, "longer than|has 32 bytes")
         for words in ((), (journal,)):
             self.assertEqual(self.status_in(200, *words, self.hole(1 << 34)), 2)
 
-    def test_front_of_many_rows(self):
+    def test_front_of_many_rows(self) -> None:
         # Five million of them behind `balance`, of which a pattern may not keep each.
         front = FRONT + "row 0 1 1\n" * 5_000_000
         line = self.digest(f"{front}end open\n")
@@ -201,14 +203,14 @@ class Digests(unittest.TestCase):
         self.assertEqual(self.status_in(200, str(self.folder / "journal")), 0)
         self.assertEqual(self.status_in(60, str(self.folder / "journal")), 8)
 
-    def test_words_behind_an_option(self):
+    def test_words_behind_an_option(self) -> None:
         salt = self.file("salt", SALT)
         published = self.digest(f"{FRONT}end open\n", "--salt", salt)
         files = self.file("journal", CLOSED), self.file("list", published)
         found = self.call(files[0], "--salt", salt, files[1])
         self.assertEqual(found, (0, "same front 0\nnone front 1\n", ""))
 
-    def test_salt(self):
+    def test_salt(self) -> None:
         salt = self.file("salt", SALT)
         published = self.digest(f"{FRONT}end open\n", "--salt", salt)
         self.assertEqual(published, f"front 0 {len(FRONT)} {sha(FRONT, SALT)} salted\n")
@@ -223,7 +225,7 @@ class Digests(unittest.TestCase):
         status, lines, errors = self.call(*files)
         self.assertEqual((status, lines, "--salt" in errors), (2, "", True))
 
-    def test_files_at_fault(self):
+    def test_files_at_fault(self) -> None:
         journal = self.file("journal", f"{FRONT}end open\n")
         for text in ("", "ice 1 prices\nend prices\n", FRONT[:-1], "x"):
             self.assertEqual(self.call(self.file("bad", text))[:2], (2, ""), text)
@@ -233,25 +235,25 @@ class Digests(unittest.TestCase):
         for salt in (b"", SALT[1:], SALT + b"\n"):
             self.assertEqual(self.call(journal, "--salt", self.file("salt", salt))[:2], (2, ""))
 
-    def test_files_that_cannot_be_read(self):
+    def test_files_that_cannot_be_read(self) -> None:
         journal, absent = self.file("journal", f"{FRONT}end open\n"), str(self.folder / "absent")
         for words in ((absent,), (journal, absent), (journal, "--salt", absent)):
             status, lines, errors = self.call(*words)
             self.assertEqual((status, lines, absent in errors), (6, "", True), words)
 
-    def test_words(self):
+    def test_words(self) -> None:
         for words in ((), ("a", "b", "c"), ("a", "--salted", "b")):
             self.assertEqual(self.call(*words)[:2], (1, ""), words)
         self.assertEqual(self.call("--help")[0], 0)
 
-    def test_the_command(self):
+    def test_the_command(self) -> None:
         journal = self.file("journal", f"{FRONT}end open\n")
         command = [sys.executable, str(COMMAND), journal]
         ran = subprocess.run(command, stdout=subprocess.PIPE, check=True, text=True)
         self.assertEqual(ran.stdout, f"front 0 {len(FRONT)} {sha(FRONT)}\n")
         with open("/dev/full", "wb") as full:
-            how = {"stdout": full, "stderr": subprocess.DEVNULL, "check": False}
-            self.assertEqual(subprocess.run(command, **how).returncode, 7)
+            ended = subprocess.run(command, stdout=full, stderr=subprocess.DEVNULL, check=False)
+            self.assertEqual(ended.returncode, 7)
         self.assertTrue(os.access(COMMAND, os.X_OK))
 
 

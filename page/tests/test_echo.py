@@ -9,6 +9,7 @@ import tempfile
 import unicodedata
 import unittest
 from pathlib import Path
+from typing import Any
 from unittest import mock
 
 from support import HERE, SAMPLES, page_of, run, sample
@@ -22,7 +23,7 @@ WILD = "a\x1b]0;x\x07\x1b[2J yes 0\x9b31m\u202eb\u2066\u200f\u2028.journal"
 SPELLED = (
     "a\\x1b]0;x\\x07\\x1b[2J yes 0\\x9b31m\\u202eb\\u2066\\u200f\\u2028.journal"
 )
-COMMANDS = {
+COMMANDS: dict[str, tuple[Any, str, tuple[list[str], ...]]] = {
     "ice-page": (command, "read_file", ([], ["--title"], ["-o", "page.html"])),
     "ice-nets": (nets_command, "read_file", (["b"],)),
     "ice-table": (table_command, "read_tables", (["folder"], ["--json"])),
@@ -38,7 +39,7 @@ def call(name: str, *words: str) -> tuple[int, str]:
         try:
             status = COMMANDS[name][0].main(words)
         except SystemExit as end:
-            status = end.code
+            status = int(end.code or 0)
     return status, made.getvalue().decode()
 
 
@@ -54,20 +55,20 @@ def wild(text: str) -> list[str]:
 class Echo(unittest.TestCase):
     """Names and words with such characters."""
 
-    def setUp(self):
+    def setUp(self) -> None:
         folder = tempfile.TemporaryDirectory()
         self.addCleanup(folder.cleanup)
         self.folder = Path(folder.name)
         self.addCleanup(os.chdir, os.getcwd())
         os.chdir(folder.name)
 
-    def test_what_is_spelled(self):
+    def test_what_is_spelled(self) -> None:
         self.assertEqual(plain(WILD), SPELLED)
         self.assertEqual(plain("\udc9b"), "\\udc9b")
         kept = "Börse 2026, 5 k€, 1\xa0000 \u05d0\u05d1 “≈”"
         self.assertEqual(plain(kept), kept)
 
-    def test_names_of_files_and_words(self):
+    def test_names_of_files_and_words(self) -> None:
         Path(WILD).write_text("no journal\n")
         for name, (_, _, more) in COMMANDS.items():
             for words in more:
@@ -80,7 +81,7 @@ class Echo(unittest.TestCase):
             status, said = call(name, "a", "b", "c", "d", f"--{WILD}")
             self.assertEqual((status, wild(said)), (1, []), name)
 
-    def test_bidders_and_rounds(self):
+    def test_bidders_and_rounds(self) -> None:
         Path("j").write_text(sample(SESSION))
         for name, bidder in (("ice-page", ["--bidder", WILD]), ("ice-nets", [WILD])):
             status, said = call(name, "j", *bidder)
@@ -90,7 +91,7 @@ class Echo(unittest.TestCase):
             self.assertEqual((status, wild(said)), (1, []))
             self.assertIn("is no whole number", said)
 
-    def test_words_on_a_page(self):
+    def test_words_on_a_page(self) -> None:
         options = ("--title", "--unit", "--date", "--made-by", "--digest", "--checked")
         for option in options:
             page = run(sample(SESSION), option, WILD)[1]
@@ -98,7 +99,7 @@ class Echo(unittest.TestCase):
             found = page_of(sample(SESSION), option, WILD)
             self.assertIn(SPELLED, [part.text for part in found.root.all("bdi")], option)
 
-    def test_names_on_a_page(self):
+    def test_names_on_a_page(self) -> None:
         Path(WILD).write_text(sample(SESSION))
         page = call("ice-page", WILD)[1]
         self.assertEqual(wild(page), [])
@@ -107,7 +108,7 @@ class Echo(unittest.TestCase):
         # Letters from right to left stand as they are, in an element of their own direction.
         self.assertIn("<bdi>\u05d0</bdi>", run(sample(SESSION), "--title", "\u05d0")[1])
 
-    def test_each_page_loads_nothing(self):
+    def test_each_page_loads_nothing(self) -> None:
         policy = "default-src 'none'; style-src 'unsafe-inline'"
         for file in SAMPLES[:3]:
             head = page_of(file.read_text()).root.all("head")[0]
@@ -122,7 +123,7 @@ class Echo(unittest.TestCase):
 class Endings(unittest.TestCase):
     """Want of memory, interrupts, and outputs that are closed."""
 
-    def setUp(self):
+    def setUp(self) -> None:
         folder = tempfile.TemporaryDirectory()
         self.addCleanup(folder.cleanup)
         self.folder = Path(folder.name)
@@ -134,7 +135,7 @@ class Endings(unittest.TestCase):
         more = {"ice-nets": ["b"], "ice-table": ["--json"]}.get(name, [])
         return [self.journal, *more]
 
-    def test_want_of_memory_and_interrupts(self):
+    def test_want_of_memory_and_interrupts(self) -> None:
         for name, (module, reader, _) in COMMANDS.items():
             self.assertEqual(call(name, *self.words(name))[0], 0)
             for fault, ending in (
@@ -144,13 +145,13 @@ class Endings(unittest.TestCase):
                 with mock.patch.object(module, reader, side_effect=fault):
                     self.assertEqual(call(name, *self.words(name)), ending)
 
-    def ran(self, name: str, how: str) -> subprocess.CompletedProcess:
+    def ran(self, name: str, how: str) -> subprocess.CompletedProcess[str]:
         """A command as a process whose outputs go elsewhere."""
         words = [sys.executable, str(HERE.parent / name), *self.words(name)]
         shell = ["sh", "-c", f'exec "$@" {how}', "sh", *words]
         return subprocess.run(shell, capture_output=True, check=False, text=True)
 
-    def test_outputs_that_are_closed_or_full(self):
+    def test_outputs_that_are_closed_or_full(self) -> None:
         for name, how, status in (
             ("ice-page", ">&-", 7),
             ("ice-digest", ">&-", 7),
@@ -162,13 +163,13 @@ class Endings(unittest.TestCase):
             self.assertNotIn("Traceback", ran.stderr)
             self.assertEqual(f"{name}: standard output: " in ran.stderr, status == 7)
 
-    def test_a_fault_where_nobody_listens(self):
+    def test_a_fault_where_nobody_listens(self) -> None:
         self.journal = "/nowhere/journal"
         for how in ("2>&-", "2>/dev/full"):
             ran = self.ran("ice-page", how)
             self.assertEqual((ran.returncode, ran.stdout), (6, ""), how)
 
-    def test_words_behind_an_option(self):
+    def test_words_behind_an_option(self) -> None:
         for name, *words in (
             ("ice-page", "--title", "x", self.journal, "--unit", "k€"),
             ("ice-nets", self.journal, "--round", "1", "b"),

@@ -51,7 +51,7 @@ def known(journal: str, *options: str) -> Page:
 class Gaps(unittest.TestCase):
     """How much a page says of a gap."""
 
-    def test_how_much_is_known(self):
+    def test_how_much_is_known(self) -> None:
         for told, note, ends in (
             ("gap final 0 10", "every test of ice gap passed", "tested this, and every test passed"),
             (" gap final 0 10\n", "every test of ice gap passed", "and every test passed"),
@@ -68,12 +68,12 @@ class Gaps(unittest.TestCase):
             self.assertIn("Nothing is settled", lead(page))
             self.assertEqual(page.facts()["could be missed, at most"][0], "unknown")
 
-    def test_a_page_without_a_gap(self):
+    def test_a_page_without_a_gap(self) -> None:
         for name, told in (("two-settlements.session", "yes 0 0/1"), ("open.session", "")):
             page = page_of(sample(name), "--checked", told)
             self.assertNotIn("gap of the search", page.facts())
 
-    def test_a_rival(self):
+    def test_a_rival(self) -> None:
         # The final trade is worth 10: a rival of 0 to 14 leaves a regret of 0 to 4.
         page = known(AT_RIVAL, "--gap", "gap rival 0 14")
         self.assertIn("is the best one at lower values, and its regret is from 0 to 4.", lead(page))
@@ -84,7 +84,7 @@ class Gaps(unittest.TestCase):
             self.assertIn("at lower values, and its regret isn’t known.", lead(page))
             self.assertEqual(page.facts()["could be missed, at most"][0], "unknown")
 
-    def test_without_a_bidder(self):
+    def test_without_a_bidder(self) -> None:
         page = known(AT_WITHOUT, "--gap", "gap without 1 0 5")
         self.assertIn("The final trade stands, and no other trade can be worth over 0 more.", lead(page))
         self.assertIn("What each pays isn’t known: that wants the best trade without b ", lead(page))
@@ -95,14 +95,14 @@ class Gaps(unittest.TestCase):
         page = known(AT_WITHOUT, "--gap", "gap without 0 0 5")
         self.assertIn("don’t rely on it", page.facts()["gap of the search"][1])
 
-    def test_nothing_is_proven_without_the_checker(self):
+    def test_nothing_is_proven_without_the_checker(self) -> None:
         for journal in (AT_RIVAL, AT_WITHOUT):
             for answer in ("", "no 12 above", "yes 0 0/1"):
                 page = page_of(journal, "--checked", answer, "--gap", "gap rival 0 14")
                 self.assertNotIn("proven best", page.root.seen())
                 self.assertIn("before that search, and ice check tests it.", lead(page))
 
-    def test_a_bidder_is_not_told(self):
+    def test_a_bidder_is_not_told(self) -> None:
         for journal in (AT_RIVAL, AT_WITHOUT):
             page = known(journal, "--gap", "gap rival 0 14", "--bidder", "b")
             self.assertNotIn("gap of the search", page.facts())
@@ -113,7 +113,7 @@ class Gaps(unittest.TestCase):
 class Asking(unittest.TestCase):
     """How the program is asked."""
 
-    def setUp(self):
+    def setUp(self) -> None:
         folder = tempfile.TemporaryDirectory()
         self.addCleanup(folder.cleanup)
         self.folder = Path(folder.name)
@@ -141,17 +141,17 @@ class Asking(unittest.TestCase):
         """What the program was asked."""
         return self.log.read_text().splitlines()
 
-    def test_both_are_asked_of_the_same_bytes(self):
+    def test_both_are_asked_of_the_same_bytes(self) -> None:
         page = self.page(AT_FINAL, "no 9 closed", "gap final 0 10")
         self.assertEqual(page.facts()["gap of the search"][1], "every test of ice gap passed")
         digest = hashlib.sha256(AT_FINAL.encode()).hexdigest()
         self.assertEqual(self.asked(), [f"check {digest}", f"gap {digest}"])
 
-    def test_a_gap_that_fails(self):
+    def test_a_gap_that_fails(self) -> None:
         page = self.page(AT_FINAL, "no 9 closed", "no 12 above")
         self.assertIn("don’t rely on it", page.facts()["gap of the search"][1])
 
-    def test_a_file_that_changes_meanwhile(self):
+    def test_a_file_that_changes_meanwhile(self) -> None:
         program = Path(self.program("no 9 closed", "gap final 0 10"))
         program.write_text(f"{program.read_text()}".replace("exit", f'echo >>"{self.journal}"\nexit', 1))
         self.journal.write_text(AT_FINAL)
@@ -162,12 +162,12 @@ class Asking(unittest.TestCase):
         note = Page(page.read_text()).facts()["gap of the search"][1]
         self.assertEqual(note, "as the journal states: not tested")
 
-    def test_it_is_asked_of_no_other_journal(self):
+    def test_it_is_asked_of_no_other_journal(self) -> None:
         self.page(sample("two-settlements.session"), "yes 0 0/1", "no 1 spent")
         self.page(AT_FINAL, "no 4 exchange", "gap final 0 10")
         self.assertEqual([line.split()[0] for line in self.asked()], ["check", "check"])
 
-    def test_standard_input_is_not_read_twice(self):
+    def test_standard_input_is_not_read_twice(self) -> None:
         self.journal.write_text(AT_FINAL)
         page = self.folder / "page.html"
         before = os.dup(0)
@@ -184,7 +184,7 @@ class Asking(unittest.TestCase):
         note = Page(page.read_text()).facts()["gap of the search"][1]
         self.assertEqual(note, "as the journal states: not tested")
 
-    def test_words_that_do_not_go_together(self):
+    def test_words_that_do_not_go_together(self) -> None:
         self.journal.write_text(AT_FINAL)
         status, errors = call(str(self.journal), "--check", "--gap", "gap final 0 10")
         self.assertEqual((status, "give one of them" in errors), (1, True))

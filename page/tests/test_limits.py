@@ -43,7 +43,7 @@ def deep(depth: int) -> str:
 class Limits(unittest.TestCase):
     """All limits at once, and each by itself."""
 
-    def test_all_at_once(self):
+    def test_all_at_once(self) -> None:
         journal, start = largest_session(), time.process_time()
         page = page_of(journal, "--unit", "k€")
         self.assertLess(time.process_time() - start, 10)
@@ -70,7 +70,7 @@ class Limits(unittest.TestCase):
         self.assertTrue(all(part.all("path", "link") for part in slices))
         self.assertEqual(drawn, NODES - 3 * bundles)
 
-    def test_a_bidder_of_the_largest_session(self):
+    def test_a_bidder_of_the_largest_session(self) -> None:
         journal = opened(largest_session(), ROUNDS - 1)
         for number in (0, 1):
             start, bidder = time.process_time(), name("bidder", number)
@@ -81,7 +81,7 @@ class Limits(unittest.TestCase):
             self.assertEqual(len(page.table("Your bids")), bids + 1)
             self.assertEqual(bids, 10 * (ROUNDS - 1))
 
-    def test_each_limit(self):
+    def test_each_limit(self) -> None:
         lawful = [
             assignment(32, [wide(3)]),
             assignment(1, [wide(3)] * 40),
@@ -107,7 +107,7 @@ class Limits(unittest.TestCase):
             self.assertEqual((status, why in errors), (2, True), errors)
             self.assertRegex(errors, "line [0-9]+: ")
 
-    def test_idle_bidders(self):
+    def test_idle_bidders(self) -> None:
         # Of many bidders that own and trade nothing the tables have no rows, and a line has all
         # names.
         for count in (6, 7):
@@ -122,7 +122,7 @@ class Limits(unittest.TestCase):
             self.assertEqual(words in page.root.seen(), not few)
             self.assertEqual(len(page.root.all("article")), count + 1)
 
-    def test_names_nobody_has(self):
+    def test_names_nobody_has(self) -> None:
         # Refused bids are counted; of the names that no bidder has, the first few are kept.
         bids = "".join(f"submit nobody{number} 0 0\nverdict 45\n" for number in range(500))
         journal = sample("two-settlements.session").replace(
@@ -133,7 +133,7 @@ class Limits(unittest.TestCase):
         self.assertIn("nobody0", page.root.seen())
         self.assertNotIn("nobody499", page.root.seen())
 
-    def test_long_logs(self):
+    def test_long_logs(self) -> None:
         # 8 MB of short steps, and what stands around them.
         steps = 300_000
         log = "branch 0 0\nnear 2 0 640 1 -72057\n" * steps + "dead 0\n"

@@ -22,7 +22,8 @@ def fault(data: bytes) -> str:
 
 def drawn_log(seed: int, most: int) -> list[str]:
     """A log of some steps, drawn from a seed."""
-    draw, sides, steps = random.Random(seed), 1, []
+    draw, sides = random.Random(seed), 1
+    steps: list[str] = []
     while sides:
         word = draw.choice(["branch 3 17", "near 2 0 640 5 -9", "near 0", "dead 39"])
         if len(steps) + sides >= most and word[0] == "b":
@@ -35,7 +36,7 @@ def drawn_log(seed: int, most: int) -> list[str]:
 class LinesOfBytes(unittest.TestCase):
     """Which bytes are lines."""
 
-    def test_limits(self):
+    def test_limits(self) -> None:
         self.assertEqual(fault(b""), "")
         self.assertEqual(fault(b"a\nb\n"), "")
         self.assertEqual(fault(b"a\n" + b"b" * 8192 + b"\n"), "")
@@ -43,13 +44,13 @@ class LinesOfBytes(unittest.TestCase):
         self.assertEqual(fault(b"b" * 99999), "line 1: longer than 8,192 bytes")
         self.assertEqual(fault(b"a\nb"), "line 2: ends without a newline: the file is cut")
 
-    def test_bytes(self):
+    def test_bytes(self) -> None:
         for byte in (0, 9, 13, 31, 127, 128, 255):
             self.assertEqual(
                 fault(b"a\nb" + bytes([byte]) + b"c\n"), "line 2: a byte that stands in no journal"
             )
 
-    def test_whole_file_has_a_limit(self):
+    def test_whole_file_has_a_limit(self) -> None:
         kept, lines.FILE_LIMIT = lines.FILE_LIMIT, 100
         try:
             self.assertEqual(fault(b"a\n" * 50), "")
@@ -62,7 +63,7 @@ class LinesOfBytes(unittest.TestCase):
 class Logs(unittest.TestCase):
     """Logs, counted."""
 
-    def test_counts_whatever_the_blocks(self):
+    def test_counts_whatever_the_blocks(self) -> None:
         kept = lines.BLOCK
         try:
             for seed in range(60):
@@ -85,7 +86,7 @@ class Logs(unittest.TestCase):
         finally:
             lines.BLOCK = kept
 
-    def test_names_the_line_at_fault(self):
+    def test_names_the_line_at_fault(self) -> None:
         for bad, why in (
             ("leaf 0", "line 3: `leaf 0` stands"),
             ("near 1 O", "line 3: `near 1 O` stands"),

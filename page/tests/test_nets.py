@@ -3,20 +3,21 @@ import io
 import random
 import unittest
 from fractions import Fraction
+from typing import Any
 from unittest import mock
 
 from drawn import all_sets, drawn_tree, profiles
 from support import ROOT, SAMPLES
 
 from ice_page import nets, rules
-from ice_page.journal import Bidder, Lines, Node, read_journal
+from ice_page.journal import Bidder, Bounds, Journal, Lines, Node, read_journal
 from ice_page.records import read_record
 from ice_page.rules import Offer
 
 HALL = (ROOT / "examples/hall-session.journal").read_text()
 
 
-def journal_of(text, name=None):
+def journal_of(text: str, name: str | None = None) -> Journal:
     """A journal read from its text."""
     return read_journal(Lines(io.BytesIO(text.encode())), name)
 
@@ -37,10 +38,10 @@ def drawn_offer(seed: int) -> Offer | None:
 class Tried:
     """What an offer comes to by its definition, found by trying all sets and profiles."""
 
-    def __init__(self, offer: Offer, bounds) -> None:
+    def __init__(self, offer: Offer, bounds: Bounds) -> None:
         self.offer, nodes = offer, offer.bidder.nodes
         sets = all_sets(nodes)
-        self.nets = []
+        self.nets: list[dict[str, Fraction]] = []
         for values in profiles(*bounds):
             net = {}
             for bits in sets:
@@ -48,36 +49,36 @@ class Tried:
                 for node, value in zip(nodes, values):
                     if bits[node.number] == "1":
                         sign = {"buy": -1, "sell": 1, "choose": 0}[node.kind]
-                        price = offer.prices[node.first] if sign else 0
+                        price = offer.prices[node.first] if sign else Fraction(0)
                         net[bits] += value + sign * node.second * price
             self.nets.append(net)
         self.sets = sets
 
-    def could_be_best(self, bits):
+    def could_be_best(self, bits: str) -> bool:
         return any(net[bits] == max(net.values()) for net in self.nets)
 
-    def is_best(self, bits):
+    def is_best(self, bits: str) -> bool:
         return all(net[bits] == max(net.values()) for net in self.nets)
 
-    def is_ahead(self, one, other):
+    def is_ahead(self, one: str, other: str) -> bool:
         return all(net[one] > net[other] for net in self.nets)
 
-    def loss(self):
+    def loss(self) -> Fraction:
         return max(max(net.values()) - net[self.offer.provisional] for net in self.nets)
 
-    def first(self):
+    def first(self) -> bool:
         own = self.offer.provisional
         return any(
             self.is_best(bits) and (self.is_best(own) or self.is_ahead(bits, own))
             for bits in self.sets
         )
 
-    def gains_more(self, least):
+    def gains_more(self, least: Fraction) -> bool:
         own = self.offer.provisional
         return any(all(net[bits] - net[own] > least for net in self.nets) for bits in self.sets)
 
 
-def narrowed(draw: random.Random, bounds):
+def narrowed(draw: random.Random, bounds: Bounds) -> Bounds:
     """Bounds inside these."""
     low, high = [], []
     for least, most in zip(*bounds):
@@ -90,7 +91,7 @@ def narrowed(draw: random.Random, bounds):
 class ByTrying(unittest.TestCase):
     """Each function says what its definition says."""
 
-    def test_tables(self):
+    def test_tables(self) -> None:
         states = set()
         for seed in range(150):
             offer = drawn_offer(seed)
@@ -119,7 +120,7 @@ class ByTrying(unittest.TestCase):
                 states.add(state)
         self.assertEqual(len(states), 3)
 
-    def test_rules(self):
+    def test_rules(self) -> None:
         verdicts = set()
         for seed in range(400):
             offer = drawn_offer(seed)
@@ -143,13 +144,15 @@ class ByTrying(unittest.TestCase):
             verdicts.add(verdict)
         self.assertEqual(verdicts, {"accepted", "42", "43"})
 
-    def test_verdicts_of_journals(self):
+    def test_verdicts_of_journals(self) -> None:
         judged = 0
         for file in SAMPLES:
             text = file.read_text()
             journal = journal_of(text)
             names = [bidder.name for bidder in journal.bidders]
-            settlement, taken, submitted = -1, set(), None
+            settlement = -1
+            submitted: list[Any] = [""]
+            taken: set[str] = set()
             for line in text.splitlines():
                 if line.startswith("settle "):
                     settlement, taken = settlement + 1, set()
@@ -163,6 +166,7 @@ class ByTrying(unittest.TestCase):
                     continue
                 number = names.index(name)
                 offer = rules.offer(journal, journal.settlements[settlement], number)
+                assert offer is not None
                 verdict, node = offer.judge(*bounds)
                 at = "" if node is None else f" {node}"
                 self.assertEqual(line, f"verdict {verdict}{at}", (file.name, settlement, name))
@@ -178,9 +182,11 @@ class ByHand(unittest.TestCase):
     def offer(self, number: int) -> Offer:
         """The offer of round 1 to a bidder."""
         journal = journal_of(HALL)
-        return rules.offer(journal, journal.settlements[0], number)
+        offer = rules.offer(journal, journal.settlements[0], number)
+        assert offer is not None
+        return offer
 
-    def test_choir(self):
+    def test_choir(self) -> None:
         offer = self.offer(1)
         table = nets.table_of(offer, 3)
         two_days, wednesday = Fraction(370, 6), Fraction(95, 6)
@@ -201,7 +207,7 @@ class ByHand(unittest.TestCase):
         self.assertEqual(offer.judge([0, 76, 0, 0, 20], [0, 80, 0, 0, 30])[0], "accepted")
         self.assertEqual(offer.judge([0, 75, 0, 0, 20], [0, 80, 0, 0, 30])[0], "42")
 
-    def test_opera(self):
+    def test_opera(self) -> None:
         offer = self.offer(2)
         cost = Fraction(295, 6)
         bids = ((75, "40"), (68, "43"), (66, "43"), (65, "accepted"))
@@ -212,7 +218,7 @@ class ByHand(unittest.TestCase):
         # With 66 two days lead by more than 65 less their cost for sure: that counts too.
         self.assertEqual(offer.judge([66, 0, 0], [70, 0, 0])[0], "accepted")
 
-    def test_a_value_that_sets_share(self):
+    def test_a_value_that_sets_share(self) -> None:
         # Worth 0..9 at the root, whichever leaf is taken: they leave -1..8 and -3..6, and yet
         # the first leads.
         root = Node(0, "choose", 1, 1, None, 1, [1, 2])
@@ -231,7 +237,7 @@ class ByHand(unittest.TestCase):
         )
         self.assertFalse(table.shares)
 
-    def test_sets_alike_share_a_row(self):
+    def test_sets_alike_share_a_row(self) -> None:
         # Three alike leaves at a price of 2, worth 3 each: all, and the root takes at most two.
         root = Node(0, "choose", 0, 2, None, 1, [1, 2, 3])
         leaves = [Node(number, "buy", 0, 1, 0, 2) for number in root.children]
@@ -258,7 +264,7 @@ class Many(unittest.TestCase):
         high = [0, *(child + 10 for child in root.children)]
         return Offer(Bidder("b", [0] * leaves, nodes), (low, high), prices, "0" * len(nodes), 1)
 
-    def test_those_that_leave_most_are_shown(self):
+    def test_those_that_leave_most_are_shown(self) -> None:
         # Any of the 2^6 choices could be best: with all six 60 is left at most, with five 50.
         table = nets.table_of(self.offer(6), 6)
         most = [row.most for row in table.rows]
@@ -268,7 +274,7 @@ class Many(unittest.TestCase):
         self.assertTrue(table.rows[-1].is_provisional)
         self.assertTrue(table.shares)
 
-    def test_all_are_shown_where_they_just_fit(self):
+    def test_all_are_shown_where_they_just_fit(self) -> None:
         with mock.patch.object(nets, "SHOWN", 64):
             # The empty set and the root alone trade the same, so that 65 sets have 64 rows.
             table = nets.table_of(self.offer(6), 6)
@@ -276,7 +282,7 @@ class Many(unittest.TestCase):
         with mock.patch.object(nets, "SHOWN", 63):
             self.assertEqual(nets.table_of(self.offer(6), 6).extent, nets.FIRST)
 
-    def test_so_many_are_looked_at(self):
+    def test_so_many_are_looked_at(self) -> None:
         with mock.patch.object(nets, "LOOKED_AT", 7):
             table = nets.table_of(self.offer(6), 6)
             self.assertEqual((table.extent, len(table.candidates)), (nets.AMONG, 8))
@@ -286,7 +292,7 @@ class Many(unittest.TestCase):
                 self.assertEqual(nets.table_of(self.offer(6), 6).extent, nets.ALL)
         self.assertEqual((nets.SHOWN, nets.LOOKED_AT), (20, 1000))
 
-    def test_the_largest_tree(self):
+    def test_the_largest_tree(self) -> None:
         table = nets.table_of(self.offer(32), 32)
         self.assertEqual((table.extent, table.all_sets), (nets.FIRST, 1 + 2**32))
 

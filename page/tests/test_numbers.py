@@ -6,7 +6,7 @@ import support  # noqa: F401
 
 from ice_page import numbers
 
-DECIMALS = [
+DECIMALS: list[tuple[Fraction | int, str]] = [
     (0, "0"),
     (-1234567, "−1,234,567"),
     (Fraction(1, 2), "0.5"),
@@ -19,7 +19,7 @@ DECIMALS = [
     (Fraction(19999, 10), "1,999.9"),
     (Fraction(5999999, 3000), "≈2,000.000"),
 ]
-PLACED = [
+PLACED: list[tuple[Fraction | int, int, str]] = [
     (Fraction(1, 4), 2, "0.25"),
     (Fraction(3), 2, "3.00"),
     (Fraction(1, 4), 1, "≈0.2"),
@@ -43,21 +43,22 @@ PERCENTS = [
 class Numbers(unittest.TestCase):
     """How numbers are printed."""
 
-    def test_decimals(self):
+    def test_decimals(self) -> None:
         for number, words in DECIMALS:
             self.assertEqual(numbers.decimal(number), words)
         for number, places, words in PLACED:
             self.assertEqual(numbers.decimal(number, places), words)
 
-    def test_exact_values(self):
-        for number, words in ((3, ""), (Fraction(31, 2), "31/2"), (Fraction(-31, 2), "−31/2")):
+    def test_exact_values(self) -> None:
+        self.assertEqual(numbers.ratio(3), "")
+        for number, words in ((Fraction(31, 2), "31/2"), (Fraction(-31, 2), "−31/2")):
             self.assertEqual(numbers.ratio(number), words)
 
-    def test_percents(self):
+    def test_percents(self) -> None:
         for pair, words in PERCENTS:
             self.assertEqual(numbers.percent(*pair), words, pair)
 
-    def test_counts(self):
+    def test_counts(self) -> None:
         for number, one, words in (
             (0, "unit", "0 units"),
             (1, "round", "1 round"),

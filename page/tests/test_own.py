@@ -26,7 +26,8 @@ def with_bids(journal: str, *bids: tuple[str, str]) -> str:
 
 def told(journal: str, *words: str) -> tuple[int, str, str]:
     """Runs what `ice-nets` runs, on a journal: the status, and what it writes."""
-    output, errors = io.TextIOWrapper(io.BytesIO(), "utf-8"), io.StringIO()
+    made, errors = io.BytesIO(), io.StringIO()
+    output = io.TextIOWrapper(made, "utf-8", write_through=True)
     with tempfile.TemporaryDirectory() as folder:
         file = Path(folder, "some.journal")
         file.write_text(journal)
@@ -34,8 +35,8 @@ def told(journal: str, *words: str) -> tuple[int, str, str]:
             try:
                 status = nets_command.main([str(file), *words])
             except SystemExit as end:
-                status = end.code
-    return status, output.buffer.getvalue().decode(), errors.getvalue()
+                status = int(end.code or 0)
+    return status, made.getvalue().decode(), errors.getvalue()
 
 
 class OnItsPage(unittest.TestCase):
@@ -45,7 +46,7 @@ class OnItsPage(unittest.TestCase):
         """The words of a page for a bidder."""
         return page_of(journal, "--bidder", name, *options).root.seen()
 
-    def test_sets_at_the_prices(self):
+    def test_sets_at_the_prices(self) -> None:
         page = page_of(STOPPED, "--bidder", "choir", "--unit", "k€")
         self.assertEqual(
             page.table("Round 1: your sets at the prices"),
@@ -82,7 +83,7 @@ class OnItsPage(unittest.TestCase):
             self.assertIn(part, words)
         self.assertNotIn("Your bids", words)
 
-    def test_a_set_that_is_best_for_sure(self):
+    def test_a_set_that_is_best_for_sure(self) -> None:
         words = self.words("dance")
         # Two days cost 265/6 and are worth 50 to 60.
         self.assertIn("buy monday + wednesdaybest for sure · nodes 0–2", words)
@@ -90,7 +91,7 @@ class OnItsPage(unittest.TestCase):
         self.assertIn("Your present intervals pass it", words)
         self.assertIn("No other set can be best: what you want is clear.", words)
 
-    def test_when_the_second_rule_asks_for_nothing(self):
+    def test_when_the_second_rule_asks_for_nothing(self) -> None:
         # The dance may lack 60 - 265/6 = 95/6 by its provisional set.
         for improve, says in (
             (0, "As “improve” is 0, this rule asks for nothing more."),
@@ -106,7 +107,7 @@ class OnItsPage(unittest.TestCase):
         journal = journal.replace("settings 100 0 200 5 ", "settings 100 0 200 16 ")
         self.assertIn("has to be 0 (less by 16, “improve”)", self.words("dance", journal))
 
-    def test_where_the_provisional_set_comes_from(self):
+    def test_where_the_provisional_set_comes_from(self) -> None:
         for weight, says in (
             (100, "at lower values."),
             (0, "at upper values."),
@@ -115,7 +116,7 @@ class OnItsPage(unittest.TestCase):
             journal = STOPPED.replace("settings 100 ", f"settings {weight} ")
             self.assertIn(f"your part of the best trade {says}", self.words("opera", journal))
 
-    def test_only_while_a_bid_is_awaited(self):
+    def test_only_while_a_bid_is_awaited(self) -> None:
         self.assertNotIn("your sets at the prices", self.words("choir", HALL))
         for stop in ("end open", "refused 2 3 bids.0", "unread 2"):
             journal = STOPPED.replace("end open", stop)
@@ -126,7 +127,7 @@ class OnItsPage(unittest.TestCase):
             self.assertNotIn("your sets at the prices", self.words(bidder, journal))
             self.assertIn("The journal ends: no bids are awaited.", told(journal, bidder)[1])
 
-    def test_a_round_by_its_number(self):
+    def test_a_round_by_its_number(self) -> None:
         self.assertIn("Round 1: your sets", self.words("choir", HALL, "--round", "1"))
         for number in ("0", "2", "-1"):
             status, _, errors = run(HALL, "--bidder", "choir", "--round", number)
@@ -134,7 +135,7 @@ class OnItsPage(unittest.TestCase):
         status, _, errors = run(HALL, "--round", "1")
         self.assertEqual((status, "--round goes with --bidder" in errors), (1, True))
 
-    def test_its_bids(self):
+    def test_its_bids(self) -> None:
         journal = with_bids(
             HALL,
             ("choir 5 0 62 0 0 20 5 0 80 0 0 30", "42"),
@@ -187,14 +188,14 @@ class OnItsPage(unittest.TestCase):
             self.words("opera", journal),
         )
 
-    def test_a_verdict_that_its_numbers_dont_show(self):
+    def test_a_verdict_that_its_numbers_dont_show(self) -> None:
         # The page retells it, and claims no reason.
         for verdict, means in (("42", "(first rule)"), ("43", "(second rule)")):
             journal = with_bids(HALL, ("choir 5 0 76 0 0 20 5 0 80 0 0 30", verdict))
             rows = page_of(journal, "--bidder", "choir").table("Your bids")
             self.assertTrue(rows[1][2].endswith(means), rows[1][2])
 
-    def test_every_bid_of_every_sample(self):
+    def test_every_bid_of_every_sample(self) -> None:
         for file in SAMPLES:
             text = file.read_text()
             for name in re.findall("^bidder ([^ ]+)", text, re.M):
@@ -207,10 +208,11 @@ class OnItsPage(unittest.TestCase):
                     if verdict in ("42", "43"):
                         self.assertRegex(row[2], "could leave|you may lack up to")
 
-    def test_a_payment_in_coins(self):
+    def test_a_payment_in_coins(self) -> None:
         def told(name: str, coins: str) -> str:
             page = run(HALL, "--bidder", name, "--unit-coins", coins)[1]
-            return re.search("in whole coins (.*?)<", page)[1]
+            (coin,) = re.findall("in whole coins (.*?)<", page)[:1]
+            return str(coin)
 
         both = ", as all payments are rounded"
         self.assertEqual(told("choir", "1"), "57 or 58" + both)
@@ -223,7 +225,7 @@ class OnItsPage(unittest.TestCase):
             status, page, errors = run(HALL, *words)
             self.assertEqual((status, page), (1, ""), errors)
 
-    def test_at_most_400_bids_of_a_round(self):
+    def test_at_most_400_bids_of_a_round(self) -> None:
         bids = [("opera 0 0", "46")] * 401
         rows = page_of(with_bids(HALL, *bids), "--bidder", "opera").table("Your bids")
         self.assertEqual(len(rows), 401)
@@ -233,7 +235,7 @@ class OnItsPage(unittest.TestCase):
 class AsText(unittest.TestCase):
     """The same from `ice-nets`."""
 
-    def test_the_table(self):
+    def test_the_table(self) -> None:
         status, words, errors = told(STOPPED, "choir")
         self.assertEqual((status, errors), (0, ""))
         self.assertTrue(words.isascii())
@@ -258,7 +260,7 @@ class AsText(unittest.TestCase):
         said = " ".join(words.split())
         self.assertIn("By the new intervals that has to be at most ~10.833 (65/6)", said)
 
-    def test_the_block_of_the_document(self):
+    def test_the_block_of_the_document(self) -> None:
         document = (ROOT / "docs/bidding.md").read_text()
         block = [line[4:] for line in document.splitlines() if line.startswith("    ")][1:]
         shown = [line for line in block if line]
@@ -266,7 +268,7 @@ class AsText(unittest.TestCase):
         written = told(STOPPED, "choir")[1].splitlines()
         self.assertEqual(shown, [line for line in written[:8] if line])
 
-    def test_the_same_sentences_as_the_page(self):
+    def test_the_same_sentences_as_the_page(self) -> None:
         bid = ("choir 5 0 62 0 0 20 5 0 80 0 0 30", "42")
         for journal, options in ((STOPPED, ()), (with_bids(HALL, bid), ("--round", "1"))):
             _, words, _ = told(journal, "choir", *options)
@@ -279,7 +281,7 @@ class AsText(unittest.TestCase):
                 plain = sentence.translate(str.maketrans("−≈–’“”", "-~-'\"\""))
                 self.assertIn(plain, said)
 
-    def test_closed(self):
+    def test_closed(self) -> None:
         status, words, _ = told(HALL, "opera")
         self.assertEqual(status, 0)
         self.assertEqual(
@@ -294,7 +296,7 @@ class AsText(unittest.TestCase):
             ],
         )
 
-    def test_statuses(self):
+    def test_statuses(self) -> None:
         self.assertEqual(told(HALL)[0], 1)
         self.assertEqual(told(HALL, "choir", "--round", "x")[0], 1)
         for words, why in (
@@ -307,11 +309,11 @@ class AsText(unittest.TestCase):
         absent = subprocess.run([str(PROGRAM), "/absent", "x"], capture_output=True, check=False)
         self.assertEqual(absent.returncode, 6)
         with open("/dev/full", "wb") as full:
-            words = [str(PROGRAM), str(ROOT / "examples/hall-session.journal"), "choir"]
-            ran = subprocess.run(words, stdout=full, stderr=subprocess.PIPE, check=False)
+            command = [str(PROGRAM), str(ROOT / "examples/hall-session.journal"), "choir"]
+            ran = subprocess.run(command, stdout=full, stderr=subprocess.PIPE, check=False)
         self.assertEqual(ran.returncode, 7)
 
-    def test_standard_input(self):
+    def test_standard_input(self) -> None:
         ran = subprocess.run(
             [str(PROGRAM), "-", "choir"], input=STOPPED, capture_output=True, text=True, check=False
         )

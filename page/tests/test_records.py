@@ -173,7 +173,7 @@ def is_record(line: str) -> bool:
 class Records(unittest.TestCase):
     """Which lines are records."""
 
-    def test_forms_are_those_of_the_documents(self):
+    def test_forms_are_those_of_the_documents(self) -> None:
         rows = re.findall(
             r"^\| (`[^|]*) \| [^|]* \|$", (ROOT / "docs/formats.md").read_text(), re.M
         )
@@ -187,7 +187,7 @@ class Records(unittest.TestCase):
         self.assertEqual(stated, {form.heading for form in ALL_FORMS})
         self.assertEqual(len(stated), len(ALL_FORMS))
 
-    def test_both_ends_of_each_range(self):
+    def test_both_ends_of_each_range(self) -> None:
         for form, least, most in RANGES:
             for number in (least, least + 1, most - 1, most):
                 self.assertTrue(is_record(form.format(number)), form.format(number))
@@ -195,7 +195,7 @@ class Records(unittest.TestCase):
                 lawful = form == "verdict {}" and number in range(42, 47)
                 self.assertEqual(is_record(form.format(number)), lawful, form.format(number))
 
-    def test_one_spelling(self):
+    def test_one_spelling(self) -> None:
         for line in RECORDS:
             self.assertTrue(is_record(line), line)
         for line in NO_RECORDS:

@@ -23,7 +23,7 @@ def number(words: str) -> int:
 class Parts(unittest.TestCase):
     """The parts of the regret, as a page shows them."""
 
-    def test_by_hand(self):
+    def test_by_hand(self) -> None:
         # The final trade: the choir has monday and tuesday, 60..80. The rival: the opera has
         # tuesday and wednesday, 55..70. The hall sells two days at 10 each in both.
         rows = page_of(HALL).table(PARTS)
@@ -37,7 +37,7 @@ class Parts(unittest.TestCase):
             ],
         )
 
-    def test_parts_sum_to_the_regret(self):
+    def test_parts_sum_to_the_regret(self) -> None:
         shown = 0
         for file in SAMPLES:
             journal = file.read_text()
@@ -53,7 +53,7 @@ class Parts(unittest.TestCase):
                     shown += 1
         self.assertGreater(shown, 5)
 
-    def test_part_is_the_most_that_values_inside_allow(self):
+    def test_part_is_the_most_that_values_inside_allow(self) -> None:
         """By trying both ends of each interval, which is where a sum over nodes is greatest."""
         draw = random.Random(67)
         for _ in range(60):
@@ -75,13 +75,13 @@ class Parts(unittest.TestCase):
             self.assertEqual((found.gain, found.open), (max(gains), max(gains) - min(gains)))
             self.assertEqual(found.differs, final != rival)
 
-    def test_odds_are_named(self):
+    def test_odds_are_named(self) -> None:
         damaged = HALL.replace("\nregret 10\n", "\nregret 11\n")
         words = page_of(damaged).root.seen()
         self.assertIn("don’t sum to the regret that settlement 0 states", words)
         self.assertNotIn("don’t sum", page_of(HALL).root.seen())
 
-    def test_one_bidder_sees_nothing_of_it(self):
+    def test_one_bidder_sees_nothing_of_it(self) -> None:
         self.assertIn(HEADING, page_of(HALL).root.seen())
         self.assertNotIn(HEADING, page_of(HALL, "--bidder", "choir").root.seen())
 
@@ -89,23 +89,23 @@ class Parts(unittest.TestCase):
 class Asked(unittest.TestCase):
     """Who needs to be asked, in a sentence."""
 
-    def test_all_that_have_something_open(self):
+    def test_all_that_have_something_open(self) -> None:
         words = page_of(opened(HALL, 0)).root.seen()
         self.assertIn("35 lies open, 20 of it with choir. So choir and opera need to be", words)
         self.assertIn("once they have told their values of what differs, it is known", words)
 
-    def test_one_alone(self):
+    def test_one_alone(self) -> None:
         # 117 of 120 lie with Charter-Sud, and without it 3 is no more than the 35 that close.
         words = page_of(opened(SEASON, 2)).root.seen()
         self.assertIn("120 lies open, 117 of it with Charter-Sud. So Charter-Sud alone", words)
         self.assertIn("can be worth 3 more at most (the session closes at 35)", words)
 
-    def test_closed(self):
+    def test_closed(self) -> None:
         words = page_of(SEASON).root.seen()
         self.assertIn("49 lies open, all of it with Charter-Sud. The session has closed", words)
         self.assertNotIn("to be asked", words)
 
-    def test_fewest(self):
+    def test_fewest(self) -> None:
         self.assertEqual(wanted([3, 9, 0, 5], 0), [1, 3, 0])
         self.assertEqual(wanted([3, 9, 0, 5], 3), [1, 3])
         self.assertEqual(wanted([3, 9, 0, 5], 7), [1, 3])
@@ -116,7 +116,7 @@ class Asked(unittest.TestCase):
 class Changes(unittest.TestCase):
     """What each accepted bid did to the regret."""
 
-    def test_by_hand(self):
+    def test_by_hand(self) -> None:
         # The opera's upper value falls from 70 to 60, and nothing else: the rival is no better.
         rows = page_of(HALL).table(CHANGES)
         self.assertEqual(
@@ -129,7 +129,7 @@ class Changes(unittest.TestCase):
             ],
         )
 
-    def test_changes_sum_to_those_of_the_regret(self):
+    def test_changes_sum_to_those_of_the_regret(self) -> None:
         shown = 0
         for file in SAMPLES:
             journal = file.read_text()
@@ -145,7 +145,7 @@ class Changes(unittest.TestCase):
                     shown += 1
         self.assertGreater(shown, 5)
 
-    def test_a_bid_alone_is_named(self):
+    def test_a_bid_alone_is_named(self) -> None:
         rows = {row[0]: row[1:] for row in page_of(SEASON).table(CHANGES)[1:]}
         submitted = re.findall(r"(?m)^submit (\S+) .*\nverdict accepted$", SEASON)
         self.assertEqual(set(rows) - {"other trades", "all: the regret"}, set(submitted))
@@ -155,7 +155,7 @@ class Changes(unittest.TestCase):
 class SmallLines(unittest.TestCase):
     """Prices and regret as small lines."""
 
-    def test_each_good_and_the_regret(self):
+    def test_each_good_and_the_regret(self) -> None:
         page = page_of(SEASON)
         (listed,) = page.root.all("ul", "courses")
         entries = {entry.parts[0].text: entry for entry in listed.all("li")}
@@ -168,7 +168,7 @@ class SmallLines(unittest.TestCase):
         # from 4 at the greatest value down to 22 at 0
         self.assertEqual(heights, [4.0, 19.1, 19.7, 21.2])
 
-    def test_one_settlement_has_none(self):
+    def test_one_settlement_has_none(self) -> None:
         self.assertEqual(page_of(opened(HALL, 0)).root.all("ul", "courses"), [])
 
 

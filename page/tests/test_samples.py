@@ -28,7 +28,7 @@ class Told:
         self.lines = [line.split() for line in journal.splitlines()]
         self.goods = [line[1] for line in self.lines if line[0] in ("good", "exact")]
         self.bidders = [line[1] for line in self.lines if line[0] == "bidder"]
-        self.nodes = {name: [] for name in self.bidders}
+        self.nodes: dict[str, list[list[str]]] = {name: [] for name in self.bidders}
         name = ""
         for line in self.lines:
             if line[0] == "bidder":
@@ -71,7 +71,7 @@ class Told:
             name: sum(int(node[-1]) - int(node[-2]) for node in self.nodes[name])
             for name in self.bidders
         }
-        loose = {name: [] for name in [*self.bidders, "all"]}
+        loose: dict[str, list[int]] = {name: [] for name in [*self.bidders, "all"]}
         for line, behind in zip(self.lines, [*self.lines[1:], [""]]):
             if line[0] == "submit" and behind == ["verdict", "accepted"]:
                 values = list(map(int, line[3:]))
@@ -84,7 +84,8 @@ class Told:
 
     def logs(self) -> list[tuple[int, int, int, int]]:
         """Branches, leaves, dead sides and bytes of each log."""
-        logs, inside = [], False
+        logs: list[list[int]] = []
+        inside = False
         for line in self.lines:
             if line[0] in ("branch", "near", "leaf", "dead"):
                 if not inside:
@@ -92,18 +93,20 @@ class Told:
                 logs[-1][{"branch": 0, "dead": 2}.get(line[0], 1)] += 1
                 logs[-1][3] += len(" ".join(line)) + 1
             inside = line[0] in ("branch", "near", "leaf", "dead")
-        return [tuple(log) for log in logs]
+        return [(log[0], log[1], log[2], log[3]) for log in logs]
 
 
 class Samples(unittest.TestCase):
     """Each sample's page has its numbers."""
 
+    pages: list[tuple[str, Told, Page, str]]
+
     @classmethod
-    def setUpClass(cls):
+    def setUpClass(cls) -> None:
         texts = [(file.name, file.read_text()) for file in SAMPLES]
         cls.pages = [(name, Told(text), page_of(text), text) for name, text in texts]
 
-    def test_matrix(self):
+    def test_matrix(self) -> None:
         for name, told, page, _ in self.pages:
             with self.subTest(name):
                 rows = page.table("Who trades what")
@@ -128,7 +131,7 @@ class Samples(unittest.TestCase):
                 )
                 self.assertNotIn("don’t add up", page.root.seen())
 
-    def test_payments(self):
+    def test_payments(self) -> None:
         for name, told, page, _ in self.pages:
             with self.subTest(name):
                 rows = page.table("What each pays")
@@ -155,8 +158,8 @@ class Samples(unittest.TestCase):
                 self.assertEqual([row[0] for row in sums], ["all: the surplus", "paid", "received"])
                 self.assertEqual(sums[0][1], minus(sum(map(told.worth, told.bidders))))
                 self.amount(sums[0][4], surplus)
-                self.amount(sums[1][4], sum(each for each in paid if each > 0))
-                self.amount(sums[2][4], -sum(each for each in paid if each < 0))
+                self.amount(sums[1][4], sum((each for each in paid if each > 0), Fraction(0)))
+                self.amount(sums[2][4], -sum((each for each in paid if each < 0), Fraction(0)))
                 self.assertEqual(
                     page.facts()["surplus of the payments"][0], str(Fraction(surplus))
                 )
@@ -174,7 +177,7 @@ class Samples(unittest.TestCase):
             abs(value_of(rest.removesuffix(exact)) - number), Fraction(1, 2000)
         )
 
-    def test_facts(self):
+    def test_facts(self) -> None:
         for name, told, page, journal in self.pages:
             with self.subTest(name):
                 facts = page.facts()
@@ -190,7 +193,7 @@ class Samples(unittest.TestCase):
                 self.assertEqual(facts["checker’s answer"][0], "not checked")
                 self.assertNotIn("proven best", page.root.seen())
 
-    def test_course(self):
+    def test_course(self) -> None:
         for name, told, page, _ in self.pages:
             with self.subTest(name):
                 rows = page.table("What was sure")[1:]
@@ -229,7 +232,7 @@ class Samples(unittest.TestCase):
                 else:
                     self.amount(shown, column[place])
 
-    def test_bids(self):
+    def test_bids(self) -> None:
         for name, told, page, _ in self.pages:
             with self.subTest(name):
                 verdicts = [verdict[0] for verdict in told.rest("verdict")]
@@ -244,7 +247,7 @@ class Samples(unittest.TestCase):
                 different = sorted(set(verdicts) - {"accepted"})
                 self.assertEqual(counts, [str(verdicts.count(verdict)) for verdict in different])
 
-    def test_uncertainty(self):
+    def test_uncertainty(self) -> None:
         for name, told, page, _ in self.pages:
             with self.subTest(name):
                 rows = page.table("Bids, and how the uncertainty shrank")[1:]
@@ -252,7 +255,7 @@ class Samples(unittest.TestCase):
                     opening = sum(int(node[-1]) - int(node[-2]) for node in told.nodes[bidder])
                     self.assertEqual((cells[0], cells[1]), (bidder, minus(opening)))
 
-    def test_how_much_was_told(self):
+    def test_how_much_was_told(self) -> None:
         for name, told, page, _ in self.pages:
             with self.subTest(name):
                 rows = page.table("How much was told")
@@ -271,7 +274,7 @@ class Samples(unittest.TestCase):
                             share = Fraction(100 * (first - now), first)
                             self.assertLessEqual(abs(share - value_of(cell[:-2])), Fraction(1, 2))
 
-    def test_a_simulated_session(self):
+    def test_a_simulated_session(self) -> None:
         page = page_of(sample("simulated.session"))
         rows = page.table("How much was told")
         # the seller has told all before, and the buyer's 16 to 17 is a tenth of 10 to 20
@@ -280,7 +283,7 @@ class Samples(unittest.TestCase):
         found = [cells[:4] for cells in page.table("What was sure")[1:]]
         self.assertEqual(found, [["0", "0", "5", ""], ["1", "1", "0", "0 %"]])
 
-    def test_trees(self):
+    def test_trees(self) -> None:
         for name, told, page, _ in self.pages:
             with self.subTest(name):
                 cards = page.root.all("article")
@@ -301,7 +304,7 @@ class Samples(unittest.TestCase):
                     self.assertEqual(len(card.all("svg")), 1)
                     self.assertEqual(len(card.all("path", "link")), len(shown) - 1)
 
-    def test_logs(self):
+    def test_logs(self) -> None:
         for name, told, page, _ in self.pages:
             with self.subTest(name):
                 rows = [
@@ -314,7 +317,7 @@ class Samples(unittest.TestCase):
                 logs = [[minus(count) if count else "" for count in log] for log in told.logs()]
                 self.assertEqual(rows, logs)
 
-    def test_footer(self):
+    def test_footer(self) -> None:
         for name, told, page, journal in self.pages:
             with self.subTest(name):
                 words = page.root.all("footer")[0].text
@@ -335,7 +338,7 @@ class ByHand(unittest.TestCase):
         """Its page, with the checker's yes."""
         return page_of(sample("two-settlements.session"), "--checked", "yes 0 0/1", "--unit", "k€")
 
-    def test_glance(self):
+    def test_glance(self) -> None:
         facts = self.page().facts()
         self.assertEqual(facts["state"], ("Closed", "settlement 1"))
         self.assertEqual(facts["total value, at least"], ("1 k€", "at lower values, proven best"))
@@ -343,11 +346,11 @@ class ByHand(unittest.TestCase):
         self.assertEqual(facts["surplus of the payments"], ("0 k€", "the total less the discounts"))
         self.assertEqual(facts["checker’s answer"][0], "yes")
 
-    def test_matrix(self):
+    def test_matrix(self) -> None:
         rows = self.page().table("Who trades what")
         self.assertEqual(rows[1:], [["s", "−1", "−15"], ["b", "+1", "16"], ["traded", "1", "1"]])
 
-    def test_payments(self):
+    def test_payments(self) -> None:
         page = self.page()
         self.assertEqual(
             page.table("What each pays"),
@@ -378,7 +381,7 @@ class ByHand(unittest.TestCase):
         nothing = "1 of the 2 that trade keeps nothing (a discount of 0): it pays the whole lower"
         self.assertIn(nothing, one)
 
-    def test_course(self):
+    def test_course(self) -> None:
         page = self.page()
         self.assertEqual(
             [row[:4] for row in page.table("What was sure")[1:]],
@@ -389,7 +392,7 @@ class ByHand(unittest.TestCase):
         self.assertEqual(rows[1], ["s", "0", "0".replace("0", ""), "0", ""])
         self.assertEqual(rows[2][:2] + rows[2][3:], ["b", "10", "2", "20 %"])
 
-    def test_words(self):
+    def test_words(self) -> None:
         words = self.page().root.seen()
         for part in (
             "receives 15.5 (31/2)",

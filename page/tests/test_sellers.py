@@ -15,7 +15,7 @@ def sentences(page: Page) -> list[str]:
 class Sellers(unittest.TestCase):
     """Prices and reserves of those that sell."""
 
-    def test_above_its_reserve(self):
+    def test_above_its_reserve(self) -> None:
         # The seller's value is -15 throughout; round 1 begins with a price of 14.
         page = page_of(sample("two-settlements.session"), "--unit", "k€")
         self.assertEqual(
@@ -28,7 +28,7 @@ class Sellers(unittest.TestCase):
         reserve = "reserve: what a seller asked at least, by its lower values, in k€"
         self.assertIn(reserve, page.root.seen())
 
-    def test_the_airport(self):
+    def test_the_airport(self) -> None:
         # Prices in halves, as round 3 began: 298 and 351 and 433 / 2 and 282 and 242 for ten slots.
         first, second = sentences(page_of(AIRPORT))
         self.assertEqual(
@@ -43,14 +43,14 @@ class Sellers(unittest.TestCase):
             "reserve. At the prices of round 3 that comes to 118.",
         )
 
-    def test_who_buys_too_has_one_price(self):
+    def test_who_buys_too_has_one_price(self) -> None:
         words = page_of(AIRPORT).root.seen()
         swaps = "Caledonian-Express, Transcontinental-Long-Haul-Lines"
         self.assertIn(f"with one price for what they sell and buy: {swaps}", words)
         words = page_of(sample("two-settlements.session")).root.seen()
         self.assertNotIn("with one price", words)
 
-    def test_to_be_rid_of_it(self):
+    def test_to_be_rid_of_it(self) -> None:
         journal = sample("two-settlements.session").replace("sell 0 1 -15 -15", "sell 0 1 8 8")
         for payment, begins in (
             (
@@ -72,12 +72,12 @@ class Sellers(unittest.TestCase):
             changed = journal.replace("payment s 1 1/2 -31/2", f"payment s {payment}")
             self.assertTrue(sentences(page_of(changed))[0].startswith(begins), begins)
 
-    def test_below_its_reserve(self):
+    def test_below_its_reserve(self) -> None:
         # No lawful journal says so, and a page retells what it is given.
         changed = sample("two-settlements.session").replace("s 1 1/2 -31/2", "s 1 1/2 -13/1")
         self.assertIn("so that is 2 below its reserve", sentences(page_of(changed))[0])
 
-    def test_no_rounds_have_no_prices(self):
+    def test_no_rounds_have_no_prices(self) -> None:
         lines = sample("two-settlements.session").splitlines()
         first, last = lines.index("settle 0"), lines.index("settle 1")
         lines[last] = "settle 0"
@@ -87,7 +87,7 @@ class Sellers(unittest.TestCase):
         self.assertEqual(len(says), 1)
         self.assertTrue(says[0].endswith("above its reserve."), says)
 
-    def test_who_has_none(self):
+    def test_who_has_none(self) -> None:
         self.assertEqual(sentences(page_of(opened(AIRPORT, 2))), [])
         alone = page_of(AIRPORT, "--bidder", "Airport-Coordination")
         self.assertEqual((sentences(alone), HEADING in alone.root.text), ([], False))

@@ -19,7 +19,7 @@ def wide(least: int, most: int, children: int) -> list[Node]:
 class Sets(unittest.TestCase):
     """What is found of a tree."""
 
-    def test_as_by_trying_all(self):
+    def test_as_by_trying_all(self) -> None:
         sizes = set()
         for seed in range(120):
             draw = random.Random(seed)
@@ -43,12 +43,12 @@ class Sets(unittest.TestCase):
             sizes.add(len(every))
         self.assertGreater(len(sizes), 20)
 
-    def test_counts_by_hand(self):
+    def test_counts_by_hand(self) -> None:
         # The empty set, and of 5 children 2 or 3: 10 + 10; of 199 all subsets.
         self.assertEqual(sets.how_many(wide(2, 3, 5)), 21)
         self.assertEqual(sets.how_many(wide(0, 199, 199)), 1 + 2**199)
 
-    def test_a_thousand_sets_of_the_largest_trees(self):
+    def test_a_thousand_sets_of_the_largest_trees(self) -> None:
         draw = random.Random(7)
         for least, most in ((0, 199), (0, 100), (50, 150), (1, 1)):
             nodes = wide(least, most, 199)
@@ -61,11 +61,11 @@ class Sets(unittest.TestCase):
             pairs = zip(found, found[1:])
             self.assertTrue(all(one.weight >= other.weight for one, other in pairs))
 
-    def test_ties_take_the_empty_set(self):
+    def test_ties_take_the_empty_set(self) -> None:
         self.assertEqual(sets.best(wide(0, 2, 2), [0, 0, 0]), (0, "000"))
         self.assertEqual(sets.best(wide(1, 1, 2), [-3, 3, 3]), (0, "000"))
 
-    def test_choices_that_no_children_meet(self):
+    def test_choices_that_no_children_meet(self) -> None:
         # No journal that passes has them; a page of one is made all the same.
         nodes = wide(3, 3, 2)
         self.assertEqual([each.bits for each in sets.in_order(nodes, [1, 1, 1])], ["000"])

@@ -24,7 +24,8 @@ def names(journal: str) -> list[str]:
 def statement_of(journal: str, name: str) -> str:
     """The statement of a bidder, as docs/formats.md says what it may see."""
     mine, whose, group, sets = names(journal).index(name), "", "", 0
-    lines, found = [f"statement {name}"], {}
+    lines = [f"statement {name}"]
+    found: dict[str, str | None] = {}
     for line in journal.splitlines():
         word, *fields = line.split()
         whose = fields[0] if word in ("bidder", "submit", "payment") else whose
@@ -80,7 +81,7 @@ CLOSED = [
 class OneStatement(unittest.TestCase):
     """A bidder's page is told by its statement."""
 
-    def test_two_journals_with_one_statement(self):
+    def test_two_journals_with_one_statement(self) -> None:
         # The buyer's seven bids, its last one alone, and the older version of journals.
         others = ("two-settlements.one-bid.session", "two-settlements.v1.session")
         one = sample("two-settlements.session")
@@ -99,7 +100,7 @@ class OneStatement(unittest.TestCase):
                 self.assertEqual(pages[0][0], 0)
                 self.assertEqual(pages[0] == pages[1], same, (name, other, options))
 
-    def test_a_page_is_told_by_the_statement(self):
+    def test_a_page_is_told_by_the_statement(self) -> None:
         # The second journal is made of the statement, and of nothing else.
         self.assertGreater(len(CLOSED), 8)
         for file, journal in CLOSED:
@@ -111,7 +112,7 @@ class OneStatement(unittest.TestCase):
                 self.assertEqual(pages[0][0], 0)
                 self.assertEqual(pages[0], pages[1], (file, name))
 
-    def test_a_page_of_the_statement_is_the_same(self):
+    def test_a_page_of_the_statement_is_the_same(self) -> None:
         for file, journal in CLOSED:
             for name in names(journal):
                 statement = statement_of(journal, name)
@@ -134,14 +135,14 @@ class OneStatement(unittest.TestCase):
 class Pages(unittest.TestCase):
     """Pages of statements."""
 
-    def test_written_by_hand(self):
+    def test_written_by_hand(self) -> None:
         # Both files were written by hand.
         journal = sample("two-settlements.session")
         self.assertEqual(statement_of(journal, "s"), SELLER)
         self.assertEqual(statement_of(journal, "b"), BUYER)
         self.assertEqual([len(text.splitlines()) for text in (SELLER, BUYER)], [16, 30])
 
-    def test_the_seller(self):
+    def test_the_seller(self) -> None:
         page = page_of(SELLER)
         facts = page.facts()
         self.assertEqual(facts["state"], ("Closed", "after 1 round"))
@@ -160,14 +161,14 @@ class Pages(unittest.TestCase):
         self.assertNotIn("Your bids", words)
         self.assertEqual(page.root.all("h1")[0].text, "some.journal · for s alone")
 
-    def test_the_values_of_its_bids(self):
+    def test_the_values_of_its_bids(self) -> None:
         rows = page_of(BUYER).table("Your bids")[1:]
         stated = ["0: 5..18", "0: 18..16", "lower: 16 16 upper: 18", "0: 10..20", "0: 16..20"]
         self.assertEqual([row[1] for row in rows], [*stated, "0: 16..18", "0: 16..17"])
         verdicts = [re.findall(r"accepted:|refused \((\d+)", row[2]) for row in rows]
         self.assertEqual(verdicts, [["40"], ["41"], ["46"], ["42"], ["43"], [""], ["44"]])
 
-    def test_the_audit(self):
+    def test_the_audit(self) -> None:
         for told, shown in (
             ("yes -31/2", "yes"),
             ("yes 31/2", "no"),
@@ -185,7 +186,7 @@ class Pages(unittest.TestCase):
         words = page_of(SELLER, "--checked", "no 15 payment").root.all("p", "lead")[0].text
         self.assertIn("The audit doesn’t accept this statement.", words)
 
-    def test_the_audit_is_asked(self):
+    def test_the_audit_is_asked(self) -> None:
         with tempfile.TemporaryDirectory() as folder:
             program = Path(folder, "auditor")
             program.write_text(AUDITOR)
@@ -199,7 +200,7 @@ class Pages(unittest.TestCase):
                 status, _, errors = run(empty, "--check", "--program", str(program))
                 self.assertEqual((status, "line 1: " in errors), (2, True))
 
-    def test_other_words(self):
+    def test_other_words(self) -> None:
         self.assertEqual(run(BUYER, "--bidder", "b", "--round", "1")[0], 0)
         status, _, errors = run(BUYER, "--bidder", "s")
         self.assertEqual((status, "no bidder is named s" in errors), (2, True))
@@ -216,7 +217,7 @@ class Damage(unittest.TestCase):
         self.assertEqual((status, page), (2, ""), text)
         return errors
 
-    def test_each_line_left_out_or_doubled(self):
+    def test_each_line_left_out_or_doubled(self) -> None:
         for text in (SELLER, BUYER):
             lines = text.splitlines(keepends=True)
             for place, line in enumerate(lines):
@@ -225,11 +226,11 @@ class Damage(unittest.TestCase):
                 if not line.startswith(("submit", "good")):
                     self.refused("".join(lines[: place + 1] + lines[place:]))
 
-    def test_each_cut(self):
+    def test_each_cut(self) -> None:
         for size in range(len(SELLER)):
             self.refused(SELLER[:size])
 
-    def test_names_at_odds(self):
+    def test_names_at_odds(self) -> None:
         for old, new, line in (
             ("statement b", "statement c", 4),
             ("submit b 1 18 1 16", "submit c 1 18 1 16", 13),
@@ -238,7 +239,7 @@ class Damage(unittest.TestCase):
             said = self.refused(BUYER.replace(old, new))
             self.assertRegex(said, f"line {line}: [bcs] stands in the statement of [bc]")
 
-    def test_lines_of_the_other_kind(self):
+    def test_lines_of_the_other_kind(self) -> None:
         for old, new, said in (
             ("kept 0", "set 0", "line 8: `set 0` stands where `kept` is due"),
             ("kept 0", "kept 00", "line 8: 2 bits for the 1 nodes of s"),

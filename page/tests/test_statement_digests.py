@@ -10,6 +10,7 @@ import sys
 import tempfile
 import unittest
 from pathlib import Path
+from typing import Callable
 
 from support import HERE, ROOT, SAMPLES, page_of, run, sample
 from test_statement import BUYER, CLOSED, SELLER, names, statement_of
@@ -51,40 +52,41 @@ def reaudit(statement: str) -> str:
     return ran.stdout.decode()
 
 
-def call(main, *words: str) -> tuple[int, str, str]:
+def call(main: Callable[[list[str]], int], *words: str) -> tuple[int, str, str]:
     """The status of a command, standard output and standard error."""
     output, errors = io.StringIO(), io.StringIO()
     with contextlib.redirect_stdout(output), contextlib.redirect_stderr(errors):
         try:
             status = main(list(words))
         except SystemExit as end:
-            status = end.code
+            status = int(end.code or 0)
     return status, output.getvalue(), errors.getvalue()
 
 
 class Statements(unittest.TestCase):
     """What is made of a journal."""
 
-    def test_written_by_hand(self):
+    def test_written_by_hand(self) -> None:
         found = statements(sample("two-settlements.session"))
         self.assertEqual(found, {"s": SELLER, "b": BUYER})
 
-    def test_every_closed_session(self):
+    def test_every_closed_session(self) -> None:
         for file, journal in CLOSED:
             due = {name: statement_of(journal, name) for name in names(journal)}
             self.assertEqual(statements(journal), due, file)
 
-    def test_as_the_program_writes_it(self):
+    def test_as_the_program_writes_it(self) -> None:
         text = (ROOT / "docs/formats.md").read_text()
         shown = re.search(r"hall-session\.journal opera\n(statement .*?end statement\n)", text, re.S)
+        assert shown is not None
         self.assertEqual(statements(HALL.read_text())["opera"], shown[1])
 
-    def test_an_open_session(self):
+    def test_an_open_session(self) -> None:
         front = OPEN.removesuffix("end open\n")
         for end in AWAITED:
             self.assertEqual(statements(f"{front}{end}\n")["b"], OPEN_BUYER, end)
 
-    def test_a_later_statement_begins_with_it(self):
+    def test_a_later_statement_begins_with_it(self) -> None:
         # What is said of an open session stands at the front of what is said later.
         for file in SAMPLES:
             journal = file.read_text()
@@ -95,7 +97,7 @@ class Statements(unittest.TestCase):
             for name, text in statements(f"{journal[:place]}end open\n").items():
                 self.assertTrue(later[name].startswith(text.removesuffix("end open\n")), file.name)
 
-    def test_what_has_none(self):
+    def test_what_has_none(self) -> None:
         for name in ("two-settlements.regret", "ring.spent.session", "ring.spent.regret"):
             with self.assertRaises(BadJournal):
                 statements(sample(name))
@@ -103,12 +105,12 @@ class Statements(unittest.TestCase):
         with self.assertRaises(BadJournal):
             statements(twice)
 
-    def test_nothing_of_another_bidder(self):
+    def test_nothing_of_another_bidder(self) -> None:
         other = OPEN.replace("bidder s 1", "bidder t 7").replace("sell 0 1 -15 -15", "sell 0 3 -9 -9")
         self.assertNotEqual(OPEN, other)
         self.assertEqual(statements(other)["b"], OPEN_BUYER)
 
-    def test_the_command(self):
+    def test_the_command(self) -> None:
         with tempfile.TemporaryDirectory() as folder:
             file = Path(folder, "journal")
             file.write_text(OPEN)
@@ -116,8 +118,8 @@ class Statements(unittest.TestCase):
             ran = subprocess.run([*command, "b"], stdout=subprocess.PIPE, check=True, text=True)
             self.assertEqual(ran.stdout, OPEN_BUYER)
             with open("/dev/full", "wb") as full:
-                how = {"stdout": full, "stderr": subprocess.DEVNULL, "check": False}
-                self.assertEqual(subprocess.run([*command, "b"], **how).returncode, 7)
+                ended = subprocess.run([*command, "b"], stdout=full, stderr=subprocess.DEVNULL, check=False)
+                self.assertEqual(ended.returncode, 7)
             main = statement_command.main
             status, _, errors = call(main, str(file), "\x1b]0;x")
             self.assertEqual((status, "\x1b" in errors), (2, False))
@@ -129,7 +131,7 @@ class Statements(unittest.TestCase):
 class OpenPages(unittest.TestCase):
     """A page of the statement of an open session."""
 
-    def test_the_same_as_of_the_journal(self):
+    def test_the_same_as_of_the_journal(self) -> None:
         status, of_journal, _ = run(OPEN, "--bidder", "b")
         page = run(OPEN_BUYER)[1]
         for own, theirs in (
@@ -144,7 +146,7 @@ class OpenPages(unittest.TestCase):
             page = page.replace(own, theirs)
         self.assertEqual((status, page == of_journal), (0, True))
 
-    def test_the_audit(self):
+    def test_the_audit(self) -> None:
         # An audit fails at the last line alone, `end open`, where all before it is right.
         for told, shown in (
             ("no 11 order", "right so far"),
@@ -155,7 +157,7 @@ class OpenPages(unittest.TestCase):
             facts = page_of(OPEN_BUYER, "--checked", told).facts()
             self.assertEqual(facts["audit’s answer"][0], shown, told)
 
-    def test_where_it_may_end(self):
+    def test_where_it_may_end(self) -> None:
         lines = OPEN_BUYER.splitlines(keepends=True)
         for place in range(1, 10):
             cut = "".join([*lines[:place], "end open\n"])
@@ -165,7 +167,7 @@ class OpenPages(unittest.TestCase):
 class Digests(unittest.TestCase):
     """Lists of digests, each test in a folder of its own."""
 
-    def setUp(self):
+    def setUp(self) -> None:
         made = tempfile.TemporaryDirectory()
         self.addCleanup(made.cleanup)
         self.folder = Path(made.name)
@@ -194,7 +196,7 @@ class Digests(unittest.TestCase):
         status, line, _ = call(statement_digests.main, "--statement", *words)
         return status, line
 
-    def test_a_list(self):
+    def test_a_list(self) -> None:
         published = self.publish(sample("two-settlements.session"))
         lines = published.splitlines()
         self.assertEqual((len(lines), lines), (40, sorted(lines)))
@@ -215,14 +217,14 @@ class Digests(unittest.TestCase):
         (self.folder / "salts").unlink()
         self.assertNotEqual(self.publish(sample("two-settlements.session")), published)
 
-    def test_each_bidder_finds_its_own(self):
+    def test_each_bidder_finds_its_own(self) -> None:
         published = self.publish(HALL.read_text())
         found = statements(HALL.read_text())
         self.assertEqual(len(found), 4)
         for name, text in found.items():
             self.assertEqual(self.look(text, self.salt(name), published), (0, "same statement 1\n"))
 
-    def test_another_statement_is_not_there(self):
+    def test_another_statement_is_not_there(self) -> None:
         # Each of these passes its audit: what it changes rests on the others' bids.
         published = self.publish(HALL.read_text())
         text, salt = statements(HALL.read_text())["choir"], self.salt("choir")
@@ -244,14 +246,14 @@ class Digests(unittest.TestCase):
         wrong = f"salt choir {self.salt('opera').split()[2]}\n"
         self.assertEqual(self.look(text, wrong, published)[0], 3)
 
-    def test_an_open_session(self):
+    def test_an_open_session(self) -> None:
         published = self.publish(OPEN)
         found = self.look(OPEN_BUYER, self.salt("b"), published)
         self.assertEqual(found, (0, "same statement 0\n"))
         later = published.replace("statement 0 ", "statement 1 ")
         self.assertEqual(self.look(OPEN_BUYER, self.salt("b"), later)[0], 3)
 
-    def test_files_at_fault(self):
+    def test_files_at_fault(self) -> None:
         published, salt = self.publish(OPEN), self.salt("b")
         for text in ("", "x\n", salt[:-1], f"{salt}{salt}", salt.replace("b", "s", 1), salt.upper()):
             self.assertEqual(self.look(OPEN_BUYER, text, published), (2, ""), text)
@@ -267,7 +269,7 @@ class Digests(unittest.TestCase):
             words = ("--statements", self.file("bad", text), str(self.folder / "salts"))
             self.assertEqual(call(statement_digests.main, *words)[:2], (2, ""), text[:80])
 
-    def test_files_that_cannot_be_read_or_made(self):
+    def test_files_that_cannot_be_read_or_made(self) -> None:
         journal, absent = self.file("journal", OPEN), str(self.folder / "absent")
         salts = str(self.folder / "none" / "salts")
         main = statement_digests.main
@@ -276,15 +278,16 @@ class Digests(unittest.TestCase):
         for words in ((absent, journal, journal), (journal, journal, absent)):
             self.assertEqual(call(main, "--statement", *words)[:2] in ((6, ""), (2, "")), True)
 
-    def test_the_command(self):
+    def test_the_command(self) -> None:
         command = [sys.executable, str(HERE.parent / "ice-digest"), "--statements"]
         words = [self.file("journal", OPEN), str(self.folder / "salts")]
         ran = subprocess.run([*command, *words], stdout=subprocess.PIPE, check=True, text=True)
         self.assertEqual(ran.stdout, self.publish(OPEN))
         with open("/dev/full", "wb") as full:
-            how = {"stdout": full, "stderr": subprocess.DEVNULL, "check": False}
-            self.assertEqual(subprocess.run([*command, *words], **how).returncode, 7)
-        for wrong in ([], words[:1], [*words, "x"]):
+            ended = subprocess.run([*command, *words], stdout=full, stderr=subprocess.DEVNULL, check=False)
+            self.assertEqual(ended.returncode, 7)
+        wrongs: tuple[list[str], ...] = ([], words[:1], [*words, "x"])
+        for wrong in wrongs:
             self.assertEqual(call(statement_digests.main, "--statements", *wrong)[0], 1)
 
 

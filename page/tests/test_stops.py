@@ -88,14 +88,14 @@ class Stops(unittest.TestCase):
                 rows = page.table("Searches and") + page.table("More") + page.table("The last")
                 self.assertTrue(any(row[0].endswith(f"{seeks}, spent") for row in rows))
 
-    def test_spent_session(self):
+    def test_spent_session(self) -> None:
         for name in ("airport-slots.session", "ring.session", "two-settlements.v1.session"):
             self.spent(name, "session")
 
-    def test_spent_regret(self):
+    def test_spent_regret(self) -> None:
         self.spent("two-settlements.regret", "regret")
 
-    def test_gap_is_in_tenths_of_a_per_cent_rounded_up(self):
+    def test_gap_is_in_tenths_of_a_per_cent_rounded_up(self) -> None:
         places = Places(sample("two-settlements.regret"))
         _, number = places.groups[0]
         for value, bound, gap in ((200, 201, "0.5"), (300, 301, "0.4"), (100, 250, "150.0")):
@@ -104,7 +104,7 @@ class Stops(unittest.TestCase):
         page = page_of(places.spent(number, 0, 5))
         self.assertNotIn("a gap of", page.root.all("p", "lead")[0].text)
 
-    def test_regret_is_unknown_before_it_is_stated(self):
+    def test_regret_is_unknown_before_it_is_stated(self) -> None:
         places = Places(sample("two-settlements.session"))
         known = {}
         for settlement, number in places.groups:
@@ -123,7 +123,7 @@ class Stops(unittest.TestCase):
             },
         )
 
-    def test_limits(self):
+    def test_limits(self) -> None:
         places = Places(sample("airport-slots.session"))
         self.assertEqual([settlement for settlement, _ in places.prices], [0, 1, 2])
         for _, number in places.prices:
@@ -140,7 +140,7 @@ class Stops(unittest.TestCase):
                     self.assertIn(f"the stage {stage} of the pricing needs", lead)
                     self.assertIn(words, lead)
 
-    def test_open(self):
+    def test_open(self) -> None:
         places = Places(sample("airport-slots.session"))
         for settlement, number in places.rounds:
             file = settlement + 2
@@ -165,7 +165,7 @@ class Stops(unittest.TestCase):
 class Ends(unittest.TestCase):
     """How a journal closes."""
 
-    def test_no_rounds(self):
+    def test_no_rounds(self) -> None:
         # Settlement 0 has a regret of 5; a session without rounds closes with it.
         journal = sample("open.session").replace(
             "settings 60 0 100 2 5 200", "settings 60 0 100 2 0 200"
@@ -191,7 +191,7 @@ class Ends(unittest.TestCase):
         self.assertEqual(page.facts()["could be missed, at most"][0], "5")
         self.assertEqual(page.facts()["checker’s answer"][0], "yes")
 
-    def test_all_rounds_held(self):
+    def test_all_rounds_held(self) -> None:
         journal = sample("two-settlements.session").replace(" 2 5 200\n", " 2 1 200\n")
         self.assertIn("Closed: the regret is 0,", page_of(journal).root.seen())
         late = journal.replace("rival 1\n", "rival 3\n").replace("regret 0\n", "regret 2\n")

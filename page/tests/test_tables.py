@@ -38,7 +38,7 @@ def run(*words: str) -> tuple[int, str, str]:
         try:
             status = table_command.main(list(words))
         except SystemExit as end:
-            status = end.code
+            status = int(end.code or 0)
     return status, output.getvalue(), errors.getvalue()
 
 
@@ -68,7 +68,7 @@ def records(file: Path, word: str) -> list[list[str]]:
 class Cells(unittest.TestCase):
     """What stands in the tables of sessions that the tutorial and the examples reckon."""
 
-    def test_payments(self):
+    def test_payments(self) -> None:
         rows = tables(HALL)["payments"]
         self.assertEqual(rows[1], ["hall", "-20", "40", "37.5", "75", "2", "-57.5", "-115", "2"])
         self.assertEqual(rows[2], ["choir", "60", "5", "2.5", "5", "2", "57.5", "115", "2"])
@@ -76,7 +76,7 @@ class Cells(unittest.TestCase):
         exact = [[row[0], row[2], *map("/".join, (row[4:6], row[7:9]))] for row in rows[1:]]
         self.assertEqual(exact, records(HALL, "payment"))
 
-    def test_trades(self):
+    def test_trades(self) -> None:
         self.assertEqual(
             tables(HALL)["trades"][1:],
             [
@@ -87,7 +87,7 @@ class Cells(unittest.TestCase):
             ],
         )
 
-    def test_prices(self):
+    def test_prices(self) -> None:
         # 170/6, 200/6 and 95/6
         self.assertEqual(
             tables(HALL)["prices"][1:],
@@ -98,7 +98,7 @@ class Cells(unittest.TestCase):
             ],
         )
 
-    def test_settlements(self):
+    def test_settlements(self) -> None:
         first, last = tables(HALL)["settlements"][1:]
         self.assertEqual(first[:5], ["0", "40", "50", "10", "40"])
         ((violation, _),) = records(HALL, "accuracy")
@@ -107,7 +107,7 @@ class Cells(unittest.TestCase):
         self.assertEqual(first[10:], ["1", "1", "0"])
         self.assertEqual(last, ["1", "40", "40", "0"] + [""] * 6 + ["0", "0", "0"])
 
-    def test_bids(self):
+    def test_bids(self) -> None:
         rows = tables(SEASON)["bids"][1:]
         submitted = records(SEASON, "submit")
         self.assertEqual([row[2] for row in rows], [fields[0] for fields in submitted])
@@ -122,7 +122,7 @@ class Cells(unittest.TestCase):
         self.assertEqual([row[1] for row in rows[10:14]], ["11", "12", "1", "2"])
         self.assertTrue(rows[0][5].startswith("left the best set open: "))
 
-    def test_an_open_session(self):
+    def test_an_open_session(self) -> None:
         found = tables(sample("open.session"))
         self.assertEqual((found["payments"][1:], found["bids"][1:]), ([], []))
         spent = tables(sample("ring.spent.session"))["trades"][1:]
@@ -132,7 +132,7 @@ class Cells(unittest.TestCase):
 class Open(unittest.TestCase):
     """What stands while a session waits: the provisional trade, not the best at lower values."""
 
-    def test_the_provisional_trade(self):
+    def test_the_provisional_trade(self) -> None:
         lines = HALL.read_text().splitlines()
         lines[next(n for n, line in enumerate(lines) if line.startswith("submit")) :] = ["end open"]
         place = lines.index(next(line for line in lines if line.startswith("provisional")))
@@ -152,19 +152,20 @@ class Open(unittest.TestCase):
 class Coins(unittest.TestCase):
     """Rounding by the largest remainder."""
 
-    def test_by_hand(self):
-        for numbers, coins, wanted in [
+    def test_by_hand(self) -> None:
+        cases: list[tuple[list[str], int, list[str]]] = [
             (["5/2", "-5/2"], 1, ["3", "-3"]),
             (["1/3", "1/3", "-2/3"], 1, ["1", "0", "-1"]),
             (["2/3", "1/3", "-1"], 1, ["1", "0", "-1"]),
             (["1/3", "1/3", "-2/3"], 100, ["34/100", "33/100", "-67/100"]),
             (["7", "-3", "-2"], 1, ["7", "-3", "-2"]),
             ([], 1, []),
-        ]:
+        ]
+        for numbers, coins, wanted in cases:
             found = rounded(list(map(Fraction, numbers)), coins)
             self.assertEqual(found, list(map(Fraction, wanted)), numbers)
 
-    def test_the_sum_stays(self):
+    def test_the_sum_stays(self) -> None:
         for file in (HALL, SEASON):
             for coins in (1, 10, 100):
                 rows = tables(file, "--unit-coins", str(coins))["payments"]
@@ -179,12 +180,12 @@ class Coins(unittest.TestCase):
 class Forms(unittest.TestCase):
     """The files, and the document."""
 
-    def test_heads_are_the_same_for_each_journal(self):
+    def test_heads_are_the_same_for_each_journal(self) -> None:
         for file in SAMPLES:
             found = {name: ",".join(rows[0]) for name, rows in tables(file).items()}
             self.assertEqual(found, HEADS, file)
 
-    def test_a_document(self):
+    def test_a_document(self) -> None:
         status, output, _ = run(str(HALL), "--json", "--unit-coins", "1")
         found = json.loads(output)
         self.assertEqual((status, list(found)), (0, list(HEADS)))
@@ -195,19 +196,19 @@ class Forms(unittest.TestCase):
         self.assertIsNone(found["settlements"][1]["violation"])
         self.assertEqual(found["bids"][0]["node"], None)
 
-    def test_the_name_that_the_option_had_before(self):
+    def test_the_name_that_the_option_had_before(self) -> None:
         now = run(str(HALL), "--json", "--unit-coins", "1")
         status, output, errors = run(str(HALL), "--json", "--round", "1")
         self.assertEqual((status, output), now[:2])
         self.assertEqual(errors, "ice-table: --round is called --unit-coins now\n")
         self.assertEqual(now[2], "")
 
-    def test_cents(self):
+    def test_cents(self) -> None:
         for coins, wanted in (("1", ["-57", "57"]), ("100", ["-57.5", "57.5"])):
             rows = tables(HALL, "--unit-coins", coins)["payments"]
             self.assertEqual([row[-1] for row in rows[1:3]], wanted)
 
-    def test_semicolons(self):
+    def test_semicolons(self) -> None:
         rows = tables(HALL, "--semicolon")["payments"]
         self.assertTrue(rows[0][0].startswith("\ufeffbidder"))
         self.assertEqual(rows[1][3:7], ["37,5", "75", "2", "-57,5"])
@@ -216,7 +217,7 @@ class Forms(unittest.TestCase):
 class Sizes(unittest.TestCase):
     """Bids of any number, in little memory."""
 
-    def test_many_bids(self):
+    def test_many_bids(self) -> None:
         # Two thousand bids of nobody, each of which took more than a kilobyte.
         bid = "submit b 1 5 1 18\n"
         journal = sample("two-settlements.session").replace(
@@ -233,7 +234,7 @@ class Sizes(unittest.TestCase):
         self.assertEqual(found, count)
         self.assertLess(peak, 500_000)
 
-    def test_places_that_take_no_more(self):
+    def test_places_that_take_no_more(self) -> None:
         with tempfile.TemporaryDirectory() as folder:
             file = Path(folder, "bids.csv")
             file.symlink_to("/dev/full")
@@ -255,28 +256,29 @@ class Sizes(unittest.TestCase):
 class Stops(unittest.TestCase):
     """What ends without tables."""
 
-    def test_words(self):
+    def test_words(self) -> None:
         journal = str(HALL)
-        for words in (
+        wrong: tuple[list[str], ...] = (
             [],
             [journal],
             [journal, "folder", "--json"],
             [journal, "--json", "--semicolon"],
             [journal, "--json", "--unit-coins", "0"],
             [journal, "--json", "--unit-coins", "coin"],
-        ):
+        )
+        for words in wrong:
             status, output, errors = run(*words)
             self.assertEqual((status, output), (1, ""), words)
             self.assertIn("ice-table: ", errors)
 
-    def test_never_over_the_journal(self):
+    def test_never_over_the_journal(self) -> None:
         with tempfile.TemporaryDirectory() as folder:
             file = Path(folder, "bids.csv")
             file.write_bytes(HALL.read_bytes())
             self.assertEqual(run(str(file), folder)[0], 1)
             self.assertEqual(file.read_bytes(), HALL.read_bytes())
 
-    def test_files(self):
+    def test_files(self) -> None:
         with tempfile.TemporaryDirectory() as folder:
             bad = Path(folder, "bad.journal")
             bad.write_text("ice 1 session\nsettings\n")

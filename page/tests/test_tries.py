@@ -18,7 +18,7 @@ def tries(page: Page) -> list[list[str]]:
 class Tries(unittest.TestCase):
     """The last refused try of each, as its journal has it."""
 
-    def test_a_round_by_hand(self):
+    def test_a_round_by_hand(self) -> None:
         # The buyer's seven bids: 40, 41, 46, 42, 43, accepted, and 44 for 16..17 behind that.
         page = page_of(sample("two-settlements.session"))
         self.assertEqual(
@@ -31,7 +31,7 @@ class Tries(unittest.TestCase):
         heads = [head.text for head in page.root.all("h3")]
         self.assertIn("Who was refused in round 1, and its last such try", heads)
 
-    def test_the_last_round(self):
+    def test_the_last_round(self) -> None:
         rows = tries(page_of(AIRPORT))
         names = ["Airport-Coordination", "Northern-Airways", "Polar-Cargo", "Charter-Sud"]
         self.assertEqual([row[0] for row in rows], names)
@@ -56,7 +56,7 @@ class Tries(unittest.TestCase):
             ],
         )
 
-    def test_values_as_before_are_left_out(self):
+    def test_values_as_before_are_left_out(self) -> None:
         # Its accepted bid of round 2 was -68..-50, 124..158 and 64..94.
         before = "submit Polar-Cargo 4 0 -61 143 65 4 0 -54 157 78\nverdict 43\n"
         same = "submit Polar-Cargo 4 0 -68 124 64 4 0 -50 158 94\nverdict 43\n"
@@ -65,7 +65,7 @@ class Tries(unittest.TestCase):
             rows = {row[0]: row[1] for row in tries(page_of(AIRPORT.replace(before, bid)))}
             self.assertEqual(rows["Polar-Cargo"], shown)
 
-    def test_an_earlier_round(self):
+    def test_an_earlier_round(self) -> None:
         # Without any bid in round 3 the last refusals are those of round 2.
         rows = tries(page_of(AIRPORT[: ROUND_3[0]] + AIRPORT[ROUND_3[1] :]))
         self.assertEqual(
@@ -85,7 +85,7 @@ class Tries(unittest.TestCase):
         crossed = "× crossed bounds at node 3; 2 refused and 1 accepted in this round"
         self.assertEqual(shown["Caledonian-Express"][1], crossed)
 
-    def test_a_name_that_nobody_has_is_the_last_refusal(self):
+    def test_a_name_that_nobody_has_is_the_last_refusal(self) -> None:
         # No try of an earlier round is shown beside it.
         bid = "submit Meridiam 1 0 1 0\nverdict 45\n"
         rows = tries(page_of(AIRPORT[: ROUND_3[0]] + bid + AIRPORT[ROUND_3[1] :]))
@@ -93,7 +93,7 @@ class Tries(unittest.TestCase):
             rows, [["Meridiam", "", "× unknown name; 1 refused and 0 accepted in this round"]]
         )
 
-    def test_many_values(self):
+    def test_many_values(self) -> None:
         # Of thirteen that are other than before twelve stand there.
         bid = "submit Northern-Airways 13 " + " ".join(map(str, range(1, 14)))
         bid += " 13 " + " ".join(map(str, range(1, 14))) + "\nverdict 42\n"
@@ -101,11 +101,11 @@ class Tries(unittest.TestCase):
         self.assertTrue(rows[0][1].startswith("0: 1 1: 2 "))
         self.assertTrue(rows[0][1].endswith(" 11: 12 and 1 more"), rows)
 
-    def test_tries_of_earlier_rounds_are_not_kept(self):
+    def test_tries_of_earlier_rounds_are_not_kept(self) -> None:
         journal = read_journal(Lines(io.BytesIO(AIRPORT.encode())))
         self.assertEqual([len(each.tries) for each in journal.settlements], [0, 0, 4, 0])
 
-    def test_who_has_none(self):
+    def test_who_has_none(self) -> None:
         self.assertEqual(tries(page_of(opened(AIRPORT, 0))), [])
         for name in ("Meridian", "Polar-Cargo"):
             self.assertEqual(tries(page_of(AIRPORT, "--bidder", name)), [])
