@@ -21,14 +21,14 @@ def timed(words, out, most):
 class Problems:
     """The assignment problems of a journal's groups, each with the value that the journal states."""
 
-    def __init__(self, text):
+    def __init__(self, text) -> None:
         self.exact, self.trees, self.names = [], [], []
         self.weight, self.lo, self.hi, self.found = 0, [], [], []
         lines = [line.split() for line in text.splitlines()]
         for place, words in enumerate(lines):
             self.take(words, lines[place + 1 :])
 
-    def take(self, words, later):
+    def take(self, words, later) -> None:
         if words[0] == "settings":
             self.weight = int(words[1])
         elif words[0] in ("good", "exact"):
@@ -76,7 +76,7 @@ class Problems:
         return f"Maximize\nvalue: {aim}\nSubject To\n{rows}\nBinary\n" + "\n".join(name for name, _ in nodes) + "\nEnd\n"
 
     @staticmethod
-    def tree_rows(bidder, tree, rows, units):
+    def tree_rows(bidder, tree, rows, units) -> None:
         def walk(node):
             """Adds the rows of a node, and gives the node behind it."""
             form, *numbers = tree[node]
@@ -121,7 +121,7 @@ def installed(names):
     return [name for name in names.split(",") if name and shutil.which({"glpk": "glpsol"}.get(name, name))]
 
 
-def put_to_solvers(told, name, text, folder):
+def put_to_solvers(told, name, text, folder) -> None:
     """Puts the problems of a journal to told.solvers, prints the time of each, and ends where one finds another value."""
     problems = Problems(text).found
     for solver in told.solvers:

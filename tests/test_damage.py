@@ -89,7 +89,7 @@ def answer(line: int, due: str) -> str:
 class Damage(unittest.TestCase):
     """What `check`, `replay` and `migrate` say of journals that were damaged."""
 
-    def setUp(self):
+    def setUp(self) -> None:
         folder = tempfile.TemporaryDirectory()
         self.addCleanup(folder.cleanup)
         self.file = Path(folder.name, "journal")
@@ -104,7 +104,7 @@ class Damage(unittest.TestCase):
                 self.assertEqual(ran.output.decode(), f"{due}\n", repr(data[-80:]))
                 self.assertEqual((ran.status, ran.errors), (status_of(due), b""))
 
-    def test_cut_after_each_byte(self):
+    def test_cut_after_each_byte(self) -> None:
         for name in ("sale.assign", "sale.regret", SESSION, "rounds.session"):
             whole = shared(name).encode()
             self.answers(b"", "refused 1 53 -")
@@ -114,7 +114,7 @@ class Damage(unittest.TestCase):
                 due = f"no {line} short" if is_whole else f"refused 1 51 {line}"
                 self.answers(whole[:end], due)
 
-    def test_cut_journals_are_neither_replayed_nor_migrated(self):
+    def test_cut_journals_are_neither_replayed_nor_migrated(self) -> None:
         whole = shared(SESSION).encode()
         ends = [place for place, byte in enumerate(whole[:-1], 1) if byte == 10]
         for line, end in enumerate(ends, 2):
@@ -123,25 +123,25 @@ class Damage(unittest.TestCase):
             self.answers(whole[: end + 1], f"refused 1 51 {line}", "replay", "0")
             self.answers(whole[: end + 1], f"refused 1 51 {line}", "migrate")
 
-    def test_each_line_doubled(self):
+    def test_each_line_doubled(self) -> None:
         lines = shared(SESSION).splitlines(keepends=True)
         for line in range(1, len(lines) + 1):
             damaged = "".join(lines[:line] + lines[line - 1 :])
             self.answers(damaged, DOUBLED.get(line, f"no {line + 1} order"))
 
-    def test_each_line_swapped_with_the_next(self):
+    def test_each_line_swapped_with_the_next(self) -> None:
         lines = shared(SESSION).splitlines(keepends=True)
         for line in range(1, len(lines)):
             pair = [lines[line], lines[line - 1]]
             damaged = "".join(lines[: line - 1] + pair + lines[line + 1 :])
             self.answers(damaged, SWAPPED.get(line, f"no {line} order"))
 
-    def test_each_number_one_more_and_one_less(self):
+    def test_each_number_one_more_and_one_less(self) -> None:
         lines = shared(SESSION).splitlines(keepends=True)
         for line, new, due in number_changes():
             self.answers("".join(lines[: line - 1] + [new + "\n"] + lines[line:]), due)
 
-    def test_bytes_that_no_record_has(self):
+    def test_bytes_that_no_record_has(self) -> None:
         whole = shared(SESSION)
         for old, new, line in (
             ("good A\n", "good A\r\n", 3),
@@ -162,7 +162,7 @@ class Damage(unittest.TestCase):
         ):
             self.answers(whole.replace(old, new, 1), f"refused 1 50 {line}")
 
-    def test_bytes_without_sense(self):
+    def test_bytes_without_sense(self) -> None:
         self.answers(bytes(range(256)), "refused 1 50 1")
         self.answers(b"\0" * 65536, "refused 1 51 1")
         self.answers(b"\n" * 65536, "refused 1 50 1")

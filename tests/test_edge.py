@@ -78,7 +78,7 @@ def for_each_file(
 class Edge(unittest.TestCase):
     """What the tests of faults share."""
 
-    def setUp(self):
+    def setUp(self) -> None:
         folder = tempfile.TemporaryDirectory()
         self.addCleanup(folder.cleanup)
         self.folder = Path(folder.name)
@@ -112,7 +112,7 @@ class Writes(Edge):
     """Writes that fail or come short."""
 
     @for_each_call
-    def test_each_write_fails_after_no_byte_and_after_one(self, program, call, whole):
+    def test_each_write_fails_after_no_byte_and_after_one(self, program, call, whole) -> None:
         front = b""
         for number, piece in enumerate(pieces(call.command, whole.output), 1):
             for taken in (0, 1):
@@ -122,11 +122,11 @@ class Writes(Edge):
             front += piece
 
     @for_each_call
-    def test_each_write_takes_a_byte(self, program, call, whole):
+    def test_each_write_takes_a_byte(self, program, call, whole) -> None:
         for size in (1, 7):
             self.is_same(program.run(call.words(), environment=edge(short_write=size)), whole)
 
-    def test_long_writes_fail(self):
+    def test_long_writes_fail(self) -> None:
         journal, file = self.folder / "journal", self.folder / "counts"
         journal.write_bytes(made.long_session(1))
         words = ["migrate", journal]
@@ -141,7 +141,7 @@ class Writes(Edge):
                     ran = program.run(words, environment=edge(fail_write=number))
                     self.fails_to_write(ran, b"".join(due[: number - 1]))
 
-    def test_a_file_that_takes_no_more_bytes(self):
+    def test_a_file_that_takes_no_more_bytes(self) -> None:
         # The system's own limit of a file's length, without a file in C: after each byte.
         for program in programs():
             for name in ("check, closed at once", "run, closed at once", "migrate"):
@@ -173,19 +173,19 @@ class Writes(Edge):
         return ran.returncode, ran.stderr
 
     @for_each_call
-    def test_a_full_device(self, program, call, _):
+    def test_a_full_device(self, program, call, _) -> None:
         self.assertEqual(self.status_onto(program, call, ">/dev/full"), (WRITE_FAULT, ""))
 
     @for_each_call
-    def test_an_output_that_is_closed(self, program, call, _):
+    def test_an_output_that_is_closed(self, program, call, _) -> None:
         self.assertEqual(self.status_onto(program, call, ">&-"), (WRITE_FAULT, ""))
 
     @for_each_call
-    def test_an_output_that_is_read_only(self, program, call, _):
+    def test_an_output_that_is_read_only(self, program, call, _) -> None:
         self.assertEqual(self.status_onto(program, call, "1</dev/null"), (WRITE_FAULT, ""))
 
     @for_each_call
-    def test_a_pipe_whose_reader_went(self, program, call, _):
+    def test_a_pipe_whose_reader_went(self, program, call, _) -> None:
         reader, writer = os.pipe()
         os.close(reader)
         ran = subprocess.run(
@@ -195,13 +195,13 @@ class Writes(Edge):
         self.assertEqual((ran.returncode, ran.stderr), (WRITE_FAULT, b""))
 
     @for_each_call
-    def test_other_streams_that_are_closed(self, program, call, whole):
+    def test_other_streams_that_are_closed(self, program, call, whole) -> None:
         for streams in ("<&-", "2>&-", "<&- 2>&-"):
             words = ["sh", "-c", f'"$@" {streams}', "sh", program.path, *call.words()]
             ran = subprocess.run(words, capture_output=True)
             self.is_same(Ran(ran.returncode, ran.stdout, ran.stderr), whole)
 
-    def test_a_signal_leaves_whole_lines(self):
+    def test_a_signal_leaves_whole_lines(self) -> None:
         call = CALLS["run, with a round"]
         for program in programs():
             lines = program.run(call.words()).output.splitlines(keepends=True)
@@ -220,12 +220,12 @@ class Reads(Edge):
     """Reads that fail or come short, and files that change meanwhile."""
 
     @for_each_call
-    def test_each_read_gives_few_bytes(self, program, call, whole):
+    def test_each_read_gives_few_bytes(self, program, call, whole) -> None:
         for size in (1, 7):
             self.is_same(program.run(call.words(), environment=edge(short_read=size)), whole)
 
     @for_each_call
-    def test_each_read_fails(self, program, call, whole):
+    def test_each_read_fails(self, program, call, whole) -> None:
         file = self.folder / "counts"
         program.run(call.words(), environment=edge(counts=file, short_read=64))
         reads = counts(file).reads
@@ -237,7 +237,7 @@ class Reads(Edge):
         self.assertEqual(unread, sorted(unread), "files are read in their order")
         self.assertEqual(sorted(set(unread)), list(range(1, len(call.files) + 1)))
 
-    def test_long_files_in_parts(self):
+    def test_long_files_in_parts(self) -> None:
         # A journal, which is written again line by line, and an exchange at its limit and past it.
         journal, exchange = self.folder / "journal", self.folder / "exchange"
         journal.write_bytes(made.long_session(1))
@@ -264,7 +264,7 @@ class Reads(Edge):
                     words = ["best", exchange, FILES / "fifteen.prices"]
                     self.is_same(program.run(words, environment=edge(short_read=16_384)), due)
 
-    def test_a_file_that_changes_while_it_is_read(self):
+    def test_a_file_that_changes_while_it_is_read(self) -> None:
         journal = self.folder / "journal"
         whole = shared("sale.assign")
         for change, due in (
@@ -283,7 +283,7 @@ class Reads(Edge):
                     ran = ended(child)
                     self.assertEqual((ran.output.decode(), ran.errors), (due, b""))
 
-    def test_files_that_go_between_two_rounds(self):
+    def test_files_that_go_between_two_rounds(self) -> None:
         # The exchange is read before the first line is written, and a round when it begins.
         for program in programs():
             call = CALLS["run, with a round"]
@@ -305,7 +305,7 @@ class Reads(Edge):
             self.assertEqual(ran.output, b"".join(lines[:before]) + b"unread 2\n")
             self.assertEqual(ran.status, UNREAD)
 
-    def test_a_round_is_read_when_it_begins(self):
+    def test_a_round_is_read_when_it_begins(self) -> None:
         # Each line is written as soon as it is known, those of a settlement before its round.
         call = CALLS["run, with a round"]
         pipe = self.folder / "pipe"
@@ -332,7 +332,7 @@ class Files(Edge):
     """What a word may name instead of a file."""
 
     @for_each_file
-    def test_names_that_cannot_be_read(self, program, call, place, whole):
+    def test_names_that_cannot_be_read(self, program, call, place, whole) -> None:
         link, circle = self.folder / "link", self.folder / "circle"
         for path, target in ((link, self.folder / "nowhere"), (circle, circle)):
             path.unlink(missing_ok=True)
@@ -354,7 +354,7 @@ class Files(Edge):
             number = self.unread(call, Ran(ran.returncode, ran.stdout, ran.stderr), whole)
             self.assertEqual(number, place, name)
 
-    def test_a_file_without_leave(self):
+    def test_a_file_without_leave(self) -> None:
         is_root = os.geteuid() == 0
         closed = self.folder / "closed"
         closed.write_text(shared("sale.assign"))
@@ -369,7 +369,7 @@ class Files(Edge):
             self.assertEqual((ran.returncode, ran.stdout), (UNREAD, b"unread 1\n"))
 
     @for_each_file
-    def test_an_empty_device(self, program, call, place, _):
+    def test_an_empty_device(self, program, call, place, _) -> None:
         ran = program.run(call.words({place: "/dev/null"}))
         if call.command == "audit":
             # no line of it is at fault: it is a statement that ends too early
@@ -378,7 +378,7 @@ class Files(Edge):
         self.assertEqual((ran.status, ran.errors), (INPUT, b""))
         self.assertRegex(ran.output.splitlines()[-1], b"^refused %d " % place)
 
-    def test_a_device_that_never_ends(self):
+    def test_a_device_that_never_ends(self) -> None:
         for name in ("check, closed at once", "run, closed at once", "run, with a round", "best"):
             call = CALLS[name]
             last = call.files[-1]
@@ -389,7 +389,7 @@ class Files(Edge):
                     self.assertEqual(ran.output.splitlines()[-1], b"refused %d 61 -" % last)
 
     @for_each_file
-    def test_links_and_pipes(self, program, call, place, whole):
+    def test_links_and_pipes(self, program, call, place, whole) -> None:
         link, pipe = self.folder / "link", self.folder / "pipe"
         for path in (link, pipe):
             path.unlink(missing_ok=True)
@@ -406,7 +406,7 @@ class Files(Edge):
         self.is_same(ended(child), whole)
 
     @for_each_file
-    def test_words_that_are_no_text(self, program, call, place, _):
+    def test_words_that_are_no_text(self, program, call, place, _) -> None:
         ran = program.run(call.words({place: b"caf\xe9"}))
         self.assertEqual((ran.status, ran.output), (WORDS, b"words refused\n"))
 

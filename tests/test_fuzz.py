@@ -14,12 +14,12 @@ TURNS = 500
 class Fuzz(unittest.TestCase):
     """What the fuzzer stands on."""
 
-    def test_some_turns(self):
+    def test_some_turns(self) -> None:
         words = [sys.executable, TESTS / "fuzz", "--turns", str(TURNS), "--seed", "gate"]
         ran = subprocess.run(words, capture_output=True, text=True)
         self.assertEqual(ran.returncode, 0, ran.stdout + ran.stderr)
 
-    def test_journals_that_are_right(self):
+    def test_journals_that_are_right(self) -> None:
         for name, answer in (
             ("sale.assign", "yes 10"),
             ("sale.regret", "yes 0"),
@@ -33,7 +33,7 @@ class Fuzz(unittest.TestCase):
             with self.subTest(name):
                 self.assertEqual(list(faults(shared(name).encode(), answer)), [])
 
-    def test_journals_that_are_wrong(self):
+    def test_journals_that_are_wrong(self) -> None:
         for name, answer, *change in (
             ("sale.assign", "yes 11"),
             ("sale.assign", "yes 20", 9, "set 0"),
@@ -52,7 +52,7 @@ class Fuzz(unittest.TestCase):
                 journal = changed(shared(name), list(zip(change[::2], change[1::2])))
                 self.assertNotEqual(list(faults(journal.encode(), answer)), [])
 
-    def test_gaps_that_are_right(self):
+    def test_gaps_that_are_right(self) -> None:
         for name, answer in (
             ("spent-final.session", "gap final 0 10"),
             ("spent-rival.session", "gap rival 0 10"),
@@ -64,7 +64,7 @@ class Fuzz(unittest.TestCase):
             with self.subTest(name):
                 self.assertEqual(list(gap_faults(shared(name).encode(), answer)), [])
 
-    def test_gaps_that_are_wrong(self):
+    def test_gaps_that_are_wrong(self) -> None:
         for name, answer, *change in (
             ("spent-final.session", "gap final 0 11"),
             ("spent-final.session", "gap rival 0 10"),
@@ -80,7 +80,7 @@ class Fuzz(unittest.TestCase):
                 journal = changed(shared(name), list(zip(change[::2], change[1::2])))
                 self.assertNotEqual(list(gap_faults(journal.encode(), answer)), [])
 
-    def test_answers_of_another_form(self):
+    def test_answers_of_another_form(self) -> None:
         for command, status, output in (
             ("check", DONE, b"yes\n"),
             ("check", DONE, b"yes 0"),

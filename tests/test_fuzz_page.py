@@ -25,12 +25,12 @@ def fuzzer():
 class FuzzPage(unittest.TestCase):
     """What the fuzzer stands on."""
 
-    def test_some_turns(self):
+    def test_some_turns(self) -> None:
         words = [sys.executable, TESTS / "fuzz_page", "--turns", str(TURNS), "--seed", "gate"]
         ran = subprocess.run(words, capture_output=True, text=True)
         self.assertEqual(ran.returncode, 0, ran.stdout + ran.stderr)
 
-    def test_what_it_notices(self):
+    def test_what_it_notices(self) -> None:
         fuzz = fuzzer()
 
         def says(text, status=0):

@@ -55,17 +55,17 @@ class Gaps(unittest.TestCase):
             self.gap_of(program, journal) for journal in spent_journals(program, list(words))
         ]
 
-    def test_each_group(self):
+    def test_each_group(self) -> None:
         for program in programs():
             found = {group for file in MARKETS for group in self.groups(program, "run", file)}
             self.assertEqual(found, {"final", "rival", "provisional", "without"})
 
-    def test_regret(self):
+    def test_regret(self) -> None:
         for program in programs():
             found = {group for file in MARKETS for group in self.groups(program, "regret", file)}
             self.assertEqual(found, {"final", "rival"})
 
-    def test_simulate(self):
+    def test_simulate(self) -> None:
         hall = ROOT / "examples/hall.json"
         bids = ", ".join(
             f'{{"bidder": "{name}", "lo": [{values}], "hi": [{values}]}}'

@@ -11,7 +11,7 @@ from harness.program import DONE, IS_ALL, programs
 class Limits(unittest.TestCase):
     """What is taken at a limit, and what is refused past it."""
 
-    def setUp(self):
+    def setUp(self) -> None:
         folder = tempfile.TemporaryDirectory()
         self.addCleanup(folder.cleanup)
         self.file = Path(folder.name, "file")
@@ -43,19 +43,19 @@ class Limits(unittest.TestCase):
                     self.assertTrue(ran.output.startswith(b"ice 2 %s\n" % kind), str(ran))
                     self.assertEqual(ran.status, DONE, str(ran))
 
-    def test_depth(self):
+    def test_depth(self) -> None:
         sets = f"best s 500\nset {'1' * 16}\nbest b 1000\nset 1\nend best\n"
         self.answers(made.deep(15), sets, ["best", "file", "fifteen.prices"])
         self.begins_journal(made.deep(15))
         self.refused(made.deep(16), f"refused 1 24 bidders.0.tree{'.of.0' * 16}\n")
 
-    def test_depth_of_the_second_bidder(self):
+    def test_depth_of_the_second_bidder(self) -> None:
         tree = made.nested(16, made.PURCHASE)
         place = f"bidders.1.tree{'.of.0' * 16}"
         data = made.exchange(made.SELLER, {**made.BUYER, "tree": tree})
         self.refused(data, f"refused 1 24 {place}\n")
 
-    def test_nested_json(self):
+    def test_nested_json(self) -> None:
         self.refused(b"[" * 200 + b"]" * 200, "refused 1 1 -\n")
         flat = ["xor", "file"]
         self.answers(b"[" * 200 + b"]" * 200, "refused 1 1 -\n", flat)
@@ -64,16 +64,16 @@ class Limits(unittest.TestCase):
         self.refused(b"[" * 128 + b"]" * 128, "refused 1 1 -\n")
         self.refused(b"[" * 1_000_000, "refused 1 1 -\n")
 
-    def test_bidders(self):
+    def test_bidders(self) -> None:
         self.begins_journal(made.crowd(40))
         self.refused(made.crowd(41), "refused 1 12 bidders.40\n")
 
-    def test_nodes_of_a_tree(self):
+    def test_nodes_of_a_tree(self) -> None:
         self.begins_journal(made.exchange({**made.BUYER, "tree": made.wide(199)}))
         data = made.exchange({**made.BUYER, "tree": made.wide(200)})
         self.refused(data, "refused 1 23 bidders.0.tree.of.199\n")
 
-    def test_packages(self):
+    def test_packages(self) -> None:
         for word, count in (("or", 200), ("xor", 200), ("or", 100), ("xor", 100)):
             output = "refused 1 23 bidders.0\n"
             self.answers(made.packages(word, count), output, ["xor", "file"])
@@ -82,7 +82,7 @@ class Limits(unittest.TestCase):
             ran = program.run(["xor", self.file])
             self.assertEqual((ran.status, ran.output.count(b'"buy":"B"')), (DONE, 99), str(ran))
 
-    def test_bids_of_a_round(self):
+    def test_bids_of_a_round(self) -> None:
         full = [0] * 200
         for data, last in (
             (made.bids(*[("b", [], [])] * 400), "end open"),
@@ -98,18 +98,18 @@ class Limits(unittest.TestCase):
                     self.assertEqual(ran.output.decode().splitlines()[-1], last)
                     self.assertEqual(ran.status, status_of(last), str(ran))
 
-    def test_logs(self):
+    def test_logs(self) -> None:
         self.answers(made.long_logs(), "yes 0\n", ["check", "file"])
         self.answers(made.long_logs("branch 0 0"), "no 407 fixed\n", ["check", "file"])
 
-    def test_length_of_a_line(self):
+    def test_length_of_a_line(self) -> None:
         # 8,192 bytes without the newline are a line, if no record; the next one makes it none.
         head = b"ice 1 assign\n"
         for length in (8192, 8193):
             data = head + b"x" * length + b"\n"
             self.answers(data, "refused 1 50 2\n", ["check", "file"])
 
-    def test_length_of_an_exchange(self):
+    def test_length_of_an_exchange(self) -> None:
         space = b" " * (made.EXCHANGE_BYTES - len(made.exchange(made.SELLER, made.BUYER)))
         whole = made.exchange(made.SELLER, made.BUYER) + space
         sets = "best s 500\nset 1\nbest b 1000\nset 1\nend best\n"
@@ -117,7 +117,7 @@ class Limits(unittest.TestCase):
         self.refused(whole + b" ", "refused 1 61 -\n")
         self.answers(b" " * (made.EXCHANGE_BYTES + 1), "refused 1 61 -\n", ["xor", "file"])
 
-    def test_length_of_a_round(self):
+    def test_length_of_a_round(self) -> None:
         data = made.bids(("s", [-15], [-15]))
         whole = data + b" " * (made.EXCHANGE_BYTES - len(data))
         for data, last in ((whole, "end open"), (whole + b" ", "refused 2 61 -")):
@@ -127,7 +127,7 @@ class Limits(unittest.TestCase):
                 self.assertEqual(ran.output.decode().splitlines()[-1], last)
                 self.assertEqual(b"submit s 1 -15 1 -15" in ran.output, data == whole)
 
-    def test_length_of_true_values(self):
+    def test_length_of_true_values(self) -> None:
         data = made.bids(("s", [-15], [-15]), ("b", [17], [17]))
         whole = data + b" " * (made.EXCHANGE_BYTES - len(data))
         for data, last in ((whole, "end closed"), (whole + b" ", "refused 2 61 -")):
@@ -140,7 +140,7 @@ class Limits(unittest.TestCase):
         too_long = b" " * (made.EXCHANGE_BYTES + 1)
         self.answers(too_long, "refused 1 61 -\n", ["simulate", "file", "absent"])
 
-    def test_length_in_line_form(self):
+    def test_length_in_line_form(self) -> None:
         whole = b"i" * made.EXCHANGE_BYTES
         self.refused(whole, "refused 1 51 1\n")
         self.answers(whole, "refused 2 51 1\n", ["best", "sale.exchange", "file"])
@@ -148,14 +148,14 @@ class Limits(unittest.TestCase):
         self.refused(long, "refused 1 61 -\n")
         self.answers(long, "refused 2 61 -\n", ["best", "sale.exchange", "file"])
 
-    def test_length_of_a_journal(self):
+    def test_length_of_a_journal(self) -> None:
         alone = [[command, "file"] for command in ("check", "migrate", "audit", "fair", "gap")]
         calls = *alone, ["statement", "file", "s"]
         self.answers(b"x" * made.JOURNAL_BYTES, "refused 1 51 1\n", *calls)
         self.answers(b"x" * (made.JOURNAL_BYTES + 1), "refused 1 61 -\n", *calls)
 
     @unittest.skipUnless(IS_ALL, "long: ICE_TESTS=all tries it")
-    def test_work_of_long_files(self):
+    def test_work_of_long_files(self) -> None:
         # Each is answered within a room and a time that stand here, whatever it is made of.
         million = 1_000_000
         zeros = b"[" + b"0," * (made.EXCHANGE_BYTES // 2 - 2) + b"0]"

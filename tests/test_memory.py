@@ -29,7 +29,7 @@ def calls() -> Iterator[tuple[str, Sequence[Word]]]:
 class Memory(unittest.TestCase):
     """Each test goes over all builds."""
 
-    def setUp(self):
+    def setUp(self) -> None:
         folder = tempfile.TemporaryDirectory()
         self.addCleanup(folder.cleanup)
         self.file = Path(folder.name, "counts")
@@ -66,11 +66,11 @@ class Memory(unittest.TestCase):
                         wanted += 1
             self.assertGreater(wanted, 0)
 
-    def test_each_request_alone(self):
+    def test_each_request_alone(self) -> None:
         for name, words in calls():
             self.walk(words, self.step(name))
 
-    def test_each_request_and_all_behind_it(self):
+    def test_each_request_and_all_behind_it(self) -> None:
         for name, words in calls():
             self.walk(words, self.step(name), fail_on=1)
 
@@ -78,7 +78,7 @@ class Memory(unittest.TestCase):
         """Every request is refused of most calls, and of the long ones where all is tested."""
         return 1 if IS_ALL or name not in ("gen", "run, generated") else 10
 
-    def test_limits_of_the_system(self):
+    def test_limits_of_the_system(self) -> None:
         for program in filter(lambda made: made.keeps_to_room, programs()):
             for name, words in calls():
                 with self.subTest(name, program=str(program)):

@@ -16,7 +16,7 @@ from harness.spelling import Texts
 class Spellings(unittest.TestCase):
     """What is a record, and what is none."""
 
-    def setUp(self):
+    def setUp(self) -> None:
         folder = tempfile.TemporaryDirectory()
         self.addCleanup(folder.cleanup)
         self.file = Path(folder.name, "journal")
@@ -38,13 +38,13 @@ class Spellings(unittest.TestCase):
                     due = "refused 1 50 1\n", INPUT
                     self.assertEqual(self.answer(program, [text]), due)
 
-    def test_fields(self):
+    def test_fields(self) -> None:
         self.try_all(spelling.of_fields())
 
-    def test_whole_records(self):
+    def test_whole_records(self) -> None:
         self.try_all(spelling.of_whole_records())
 
-    def test_lists(self):
+    def test_lists(self) -> None:
         for head, what in (
             ("bidder s", "owned"),
             ("leaf", "multiplier"),
@@ -52,10 +52,10 @@ class Spellings(unittest.TestCase):
         ):
             self.try_all(spelling.listed(head, what))
 
-    def test_submissions(self):
+    def test_submissions(self) -> None:
         self.try_all(spelling.of_submissions())
 
-    def test_changes(self):
+    def test_changes(self) -> None:
         self.try_all(spelling.of_changes())
 
 

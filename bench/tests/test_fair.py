@@ -45,11 +45,11 @@ def faults(journal, text):
 class Answers(unittest.TestCase):
     """Right answers pass, and each wrong number fails its test."""
 
-    def test_right(self):
+    def test_right(self) -> None:
         self.assertEqual(faults("two-settlements.session", PAIR), [])
         self.assertEqual(faults("empty-core.session", CORE), [])
 
-    def test_wrong(self):
+    def test_wrong(self) -> None:
         for old, new, names in (
             ("prices 1 5", "prices 1 6", ["violation", "distance"]),
             ("accuracy 500 2", "accuracy 600 2", ["violation", "accuracy", "fairness"]),

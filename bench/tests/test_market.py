@@ -19,7 +19,7 @@ class Words(unittest.TestCase):
         )
         return ran.returncode, ran.stderr
 
-    def test_wrong_words(self):
+    def test_wrong_words(self) -> None:
         with tempfile.TemporaryDirectory() as folder:
             for words in (
                 [],
@@ -31,7 +31,7 @@ class Words(unittest.TestCase):
                 self.assertEqual((status, errors[:5]), (1, "usage"), errors)
                 self.assertEqual(list(Path(folder).iterdir()), [])
 
-    def test_right_words(self):
+    def test_right_words(self) -> None:
         with tempfile.TemporaryDirectory() as folder:
             self.assertEqual(self.call(folder, "slots", "1", "1", "m", "t")[0], 0)
             self.assertEqual(sorted(file.name for file in Path(folder).iterdir()), ["m", "t"])

@@ -59,7 +59,7 @@ def played(program: Program) -> playing.Played:
 class Rule(unittest.TestCase):
     """Which bids are tried."""
 
-    def test_bounds_are_rounded_towards_the_truth(self):
+    def test_bounds_are_rounded_towards_the_truth(self) -> None:
         for low, high, truth, keep, wanted in [
             (55, 70, 57, "17/20", (56, 68)),
             (55, 70, 57, "7/10", (56, 66)),
@@ -71,7 +71,7 @@ class Rule(unittest.TestCase):
             found = playing.tightened(([low], [high]), [truth], Fraction(keep))
             self.assertEqual(found, ([wanted[0]], [wanted[1]]))
 
-    def test_who_is_refused_tries_again_behind_the_others(self):
+    def test_who_is_refused_tries_again_behind_the_others(self) -> None:
         program = Program(stubborn=2)
         result = played(program)
         self.assertEqual([bid["bidder"] for bid in program.bids], [*TRUTHS, "opera", "opera"])
@@ -80,7 +80,7 @@ class Rule(unittest.TestCase):
         verdicts = ["accepted"] * 2 + ["43"] + ["accepted"] + ["43", "accepted"]
         self.assertEqual((result.rounds, result.refused, result.verdicts), (1, 2, verdicts))
 
-    def test_after_the_last_part_nobody_tries_again(self):
+    def test_after_the_last_part_nobody_tries_again(self) -> None:
         program = Program(stubborn=9)
         self.assertEqual((played(program).refused, len(program.bids)), (4, 7))
         self.assertEqual(program.bids[-1]["lo"], [57, 0, 0])
@@ -89,7 +89,7 @@ class Rule(unittest.TestCase):
 class Proxies(unittest.TestCase):
     """Sessions that the program plays."""
 
-    def test_it_is_given_the_true_values(self):
+    def test_it_is_given_the_true_values(self) -> None:
         given = []
 
         def simulate(market: Path, rounds: list[Path]) -> tuple[int, bytes]:
@@ -102,7 +102,7 @@ class Proxies(unittest.TestCase):
         verdicts = [line.split()[1] for line in LINES if line.startswith("verdict")]
         self.assertEqual((result.rounds, result.verdicts), (1, verdicts))
 
-    def test_what_it_refuses(self):
+    def test_what_it_refuses(self) -> None:
         def simulate(*_: object) -> tuple[int, bytes]:
             return 2, b"refused 2 92 bids.1\n"
 
@@ -114,19 +114,19 @@ class Proxies(unittest.TestCase):
 class Numbers(unittest.TestCase):
     """What is printed of a session."""
 
-    def test_receipts(self):
+    def test_receipts(self) -> None:
         # hall: value -20, discounts 40 and 75/2; choir: value 60, discounts 5 and 5/2
         journal = played(Program(stubborn=0)).journal
         found = playing.receipts(journal)
         self.assertEqual(found, (Fraction(115, 2), Fraction(60), Fraction(5), Fraction(20)))
         self.assertEqual(playing.welfare(journal, TRUTHS), 60 - 10 - 10)
 
-    def test_a_line(self):
+    def test_a_line(self) -> None:
         line = playing.cells("here", played(Program(stubborn=1)), TRUTHS)
         wanted = ["here", "closed", "1", "5", "1", "40", "115/2", "60", "5", "20", "10 0"]
         self.assertEqual(line, wanted)
 
-    def test_an_open_journal_has_no_receipts(self):
+    def test_an_open_journal_has_no_receipts(self) -> None:
         journal = playing.Player(MARKET, Program(0), Path(tempfile.gettempdir())).session()[1]
         self.assertIsNone(playing.receipts(journal))
 
@@ -148,20 +148,20 @@ class Command(unittest.TestCase):
                     status = end.code
         return status, output.getvalue().splitlines(), errors.getvalue()
 
-    def test_a_table(self):
+    def test_a_table(self) -> None:
         status, lines, _ = self.call("--vary", "improve=0,9", "weight=5", "--vary", "rounds=2")
         self.assertEqual((status, lines[0]), (0, "greatest welfare at the true values: not found"))
         self.assertEqual(lines[1].split()[:3], ["setting", "end", "rounds"])
         names = [line.split("  ")[0] for line in lines[2:]]
         self.assertEqual(names, ["as it is", "improve 0", "improve 9", "weight 5", "rounds 2"])
 
-    def test_words(self):
+    def test_words(self) -> None:
         for word in ("improve", "improve=x", "improve=-1", "weight=101", "size=1", "rounds=21"):
             self.assertEqual(self.call("--vary", word)[0], 1, word)
         for word in ("1/2", "2,0", "x", "1/0", "-1,0"):
             self.assertEqual(self.call("--keep", word)[0], 1, word)
 
-    def test_wrong_words_are_told_without_names_of_functions(self):
+    def test_wrong_words_are_told_without_names_of_functions(self) -> None:
         for words, told in (
             (("--vary", "rounds=21"), "values of rounds are 0 to 20: rounds=0,20"),
             (("--vary", "size=1"), "the settings are weight, close_regret, cap, "),
@@ -169,7 +169,7 @@ class Command(unittest.TestCase):
         ):
             self.assertIn(told, self.call(*words)[2])
 
-    def test_truths(self):
+    def test_truths(self) -> None:
         def with_bid(**change):
             return {"bids": [{**ROUND["bids"][0], **change}, *ROUND["bids"][1:]]}
 
@@ -187,7 +187,7 @@ class Command(unittest.TestCase):
             self.assertEqual((status, lines), (2, []), errors)
             self.assertIn(words, errors)
 
-    def test_markets(self):
+    def test_markets(self) -> None:
         for market, words in [
             ([], "an array where an object is due"),
             ({**HALL, "settings": 7}, "settings: a number where an object is due"),
@@ -198,12 +198,12 @@ class Command(unittest.TestCase):
             self.assertEqual((status, lines), (2, []), errors)
             self.assertIn(words, errors)
 
-    def test_what_the_program_says(self):
+    def test_what_the_program_says(self) -> None:
         for said in (b"refused 1 4 settings.cap\n", b"unread 1\n", b"", b"ice 9\n"):
             status, _, errors = self.call(run=lambda *files, said=said: (2, said))
             self.assertEqual((status, len(errors.splitlines())), (2, 1), errors)
 
-    def test_a_program_that_is_not_there(self):
+    def test_a_program_that_is_not_there(self) -> None:
         status, _, errors = self.call("--program", os.devnull, run=None)
         self.assertEqual(status, 6, errors)
 
@@ -212,14 +212,14 @@ class Command(unittest.TestCase):
 class Built(unittest.TestCase):
     """The same with the program: the hall closes at the trade that is best at the true values."""
 
-    def test_the_hall(self):
+    def test_the_hall(self) -> None:
         run = playing.runner(ROOT / "crates/ice_cli/out/ice_cli")
         with tempfile.TemporaryDirectory() as folder:
             result = playing.Player(MARKET, run, Path(folder)).play()
         self.assertEqual(result.journal.end.word, "closed")
         self.assertEqual(playing.welfare(result.journal, TRUTHS), 40)
 
-    def test_the_hall_by_proxies(self):
+    def test_the_hall_by_proxies(self) -> None:
         simulate = playing.runner(ROOT / "crates/ice_cli/out/ice_cli", "simulate")
         with tempfile.TemporaryDirectory() as folder:
             result = playing.Simulator(MARKET, simulate, Path(folder)).play()

@@ -50,23 +50,23 @@ End
 class Written(unittest.TestCase):
     """Problems as they are written."""
 
-    def test_by_hand(self):
+    def test_by_hand(self) -> None:
         final, rival = Problems(JOURNAL).found
         self.assertEqual(final, ("Maximize\nvalue: -15 x0_0\n+0 x1_0\n+20 x1_1\n+12 x1_2\n" + ROWS, 5))
         # of what the final sets have the lower values stay; the node of one unit has one value
         self.assertEqual(rival, ("Maximize\nvalue: -15 x0_0\n+0 x1_0\n+20 x1_1\n+12 x1_2\n" + ROWS, 5))
 
-    def test_upper_values_of_a_rival(self):
+    def test_upper_values_of_a_rival(self) -> None:
         text = JOURNAL.replace("final 5\nset 1\nset 110", "final 0\nset 0\nset 000").replace("rival 5", "rival 22")
         _final, (rival, value) = Problems(text).found
         self.assertEqual(rival.split("\nSubject")[0], "Maximize\nvalue: -8 x0_0\n+0 x1_0\n+30 x1_1\n+12 x1_2")
         self.assertEqual(value, 22)
 
-    def test_a_spent_search_is_no_problem(self):
+    def test_a_spent_search_is_no_problem(self) -> None:
         text = (TOP / "tests/files/spent.regret").read_text()
         self.assertEqual(Problems(text).found, [])
 
-    def test_a_bidder_is_left_out(self):
+    def test_a_bidder_is_left_out(self) -> None:
         text = (TOP / "tests/files/sale.session").read_text()
         left_out = [row for program, _value in Problems(text).found for row in program.splitlines() if row.endswith("_0 = 0")]
         self.assertEqual(left_out, ["r1: x0_0 = 0", "r1: x1_0 = 0"])
@@ -76,7 +76,7 @@ class Written(unittest.TestCase):
 class Solved(unittest.TestCase):
     """Problems as the solvers solve them."""
 
-    def test_examples(self):
+    def test_examples(self) -> None:
         with tempfile.TemporaryDirectory() as name:
             folder = Path(name)
             for path in sorted(TOP.glob("examples/*-session.journal")) + sorted(TOP.glob("examples/*regret.journal")):

@@ -28,6 +28,8 @@ SEASON, HALL = EXAMPLES / "season-session.journal", EXAMPLES / "hall-session.jou
 HALL_WITHOUT = HERE / "hall-without-opera.journal"
 PROGRAM = f"--program={HERE / 'program'}"
 NAMES = re.findall(r"(?m)^bidder (\S+)", SEASON.read_text())
+# The status, standard output and standard error.
+Ran = tuple[int, str, str]
 MINE = ("bidder", "submit", "payment")
 
 
@@ -36,6 +38,7 @@ def fronts(journal: str) -> list[str]:
     found = []
     for place in [each.start() for each in re.finditer("^settle ", journal, re.M)][:-1]:
         bids = re.compile("^(submit|settle) ", re.M).search(journal, place + 1)
+        assert bids is not None
         found.append(journal[: bids.start()] + "end open\n")
     return [*found, journal]
 
@@ -43,7 +46,8 @@ def fronts(journal: str) -> list[str]:
 def statement_of(journal: str, name: str) -> str:
     """The statement of a bidder, as docs/formats.md says what it may see."""
     names = re.findall(r"(?m)^bidder (\S+)", journal)
-    lines, found, whose, group, sets = [f"statement {name}"], {}, "", "", 0
+    lines, whose, group, sets = [f"statement {name}"], "", "", 0
+    found: dict[str, str | None] = {}
     for line in journal.splitlines():
         word, *fields = line.split()
         whose = fields[0] if word in MINE else whose
@@ -80,14 +84,15 @@ class Desk(unittest.TestCase):
     """Each test has a folder of its own, with the season's market and a stand-in that ran it."""
 
     opened: dict[str, bytes] = {}
+    played: Path
 
     @classmethod
-    def setUpClass(cls):
+    def setUpClass(cls) -> None:
         cls.played = Path(tempfile.mkdtemp(prefix="played-"))
         cls.addClassCleanup(shutil.rmtree, cls.played)
         play(cls.played)
 
-    def setUp(self):
+    def setUp(self) -> None:
         self.folder = Path(tempfile.mkdtemp(prefix="desk-"))
         self.addCleanup(shutil.rmtree, self.folder)
         self.addCleanup(os.chdir, Path.cwd())
@@ -111,9 +116,10 @@ class Desk(unittest.TestCase):
         for place, bid in enumerate(bids):
             (there / f"{1000 + place}-{bid['bidder']}.json").write_text(json.dumps(bid))
 
-    def call(self, main: Callable[[list[str]], int], *words: object, **settings: str):
+    def call(self, main: Callable[[list[str]], int], *words: object, **settings: str) -> Ran:
         """Runs a command in the folder: its status, and what it wrote."""
-        errors, output = io.StringIO(), io.TextIOWrapper(io.BytesIO(), encoding="utf-8")
+        errors, made = io.StringIO(), io.BytesIO()
+        output = io.TextIOWrapper(made, encoding="utf-8")
         with (
             contextlib.redirect_stdout(output),
             contextlib.redirect_stderr(errors),
@@ -122,20 +128,20 @@ class Desk(unittest.TestCase):
             try:
                 status = main(list(map(str, words)))
             except SystemExit as end:
-                status = end.code
+                status = int(end.code or 0)
         output.flush()
-        return status, output.buffer.getvalue().decode(), errors.getvalue()
+        return status, made.getvalue().decode(), errors.getvalue()
 
-    def round(self, *words: str, market: str = "market.json", **settings: str):
+    def round(self, *words: str, market: str = "market.json", **settings: str) -> Ran:
         """Holds a round with the stand-in."""
         return self.call(round_command.main, market, PROGRAM, *words, **settings)
 
-    def without(self, *words: object, **settings: str):
+    def without(self, *words: object, **settings: str) -> Ran:
         """Leaves a bidder out of the hall's session, which the stand-in runs without the opera."""
         settings = {"WITHOUT": str(HALL_WITHOUT), **settings}
         return self.call(without_command.main, *words, PROGRAM, **settings)
 
-    def public(self, *words: object):
+    def public(self, *words: object) -> Ran:
         """Makes a public page."""
         return self.call(public_command.main, *words)
 

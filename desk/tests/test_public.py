@@ -44,28 +44,28 @@ class Public(Desk):
         self.assertEqual((status, errors), (0, ""))
         return page
 
-    def opened(self) -> str:
+    def awaiting(self) -> str:
         """The season's journal as it waited for bids of round 2."""
         place = JOURNAL.index("submit ", JOURNAL.index("settle 1\n"))
         return JOURNAL[:place] + "end open\n"
 
-    def test_it_has_no_bids(self):
-        for journal in (JOURNAL, self.opened()):
+    def test_it_has_no_bids(self) -> None:
+        for journal in (JOURNAL, self.awaiting()):
             page = self.page(journal)
             self.assertEqual(page, self.page(with_other_bids(journal)))
             for name in NAMES:
                 self.assertNotIn(name, page)
             self.assertNotIn("<script", page)
 
-    def test_prices_regret_and_rules(self):
-        page = self.page(self.opened(), "--unit=k€", "--title=Slots & more", "--date=\u05d0")
+    def test_prices_regret_and_rules(self) -> None:
+        page = self.page(self.awaiting(), "--unit=k€", "--title=Slots & more", "--date=\u05d0")
         for words in ("<bdi>Slots &amp; more</bdi>", "<bdi>\u05d0</bdi>"):
             self.assertIn(words, page)
         for words in ("▲ 146.5", ">705<", ">114<", "cap 2,000", "round 2"):
             self.assertIn(words, page)
         self.assertNotIn("units traded", page)
 
-    def test_what_was_traded_in_all(self):
+    def test_what_was_traded_in_all(self) -> None:
         page = self.page(JOURNAL)
         rows = re.findall(r'<th scope="row">([^<]*)</th><td class="right">([^<]*)</td></tr>', page)
         # By the final sets: the airport sells 9 units, a swap sells dep-0800 and one arr-1800,
@@ -76,7 +76,7 @@ class Public(Desk):
         for words in ("Closed", "195.25", "after 3 rounds"):
             self.assertIn(words, page)
 
-    def test_digests(self):
+    def test_digests(self) -> None:
         line = "front 0 2545 " + "0f" * 32
         (self.folder / "list").write_text(f"{line}\n")
         page = self.page(JOURNAL, "list")
@@ -89,16 +89,16 @@ class Public(Desk):
         self.assertEqual(status, 2)
         self.assertIn("line 2 is no digest", errors)
 
-    def test_what_the_checker_says(self):
+    def test_what_the_checker_says(self) -> None:
         self.assertIn(">not asked<", self.page(JOURNAL))
         self.assertIn(">yes<", self.page(JOURNAL, "--checked=yes 32 0/1"))
         self.assertIn(">no<", self.page(JOURNAL, "--checked=yes 31 0/1"))
         self.assertIn(">no<", self.page(JOURNAL, "--checked=no 7 value"))
-        opened = self.opened()
+        opened = self.awaiting()
         lines = opened.count("\n")
         self.assertIn(">right so far<", self.page(opened, f"--checked=no {lines} closed"))
 
-    def test_statuses(self):
+    def test_statuses(self) -> None:
         for status, words in (
             (2, (EXAMPLES / "hall.journal",)),
             (2, (EXAMPLES / "hall.json",)),

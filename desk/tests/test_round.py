@@ -20,7 +20,7 @@ FRONT = re.compile(r"(front|whole) (\d+) (\d+) ([0-9a-f]{64})")
 class Rounds(Desk):
     """The season, round by round."""
 
-    def test_the_first_call_opens_the_session(self):
+    def test_the_first_call_opens_the_session(self) -> None:
         status, output, errors = self.round()
         self.assertEqual((status, errors), (9, ""))
         wanted = {"market.json", "market.journal", "market.html", "market-public.html", "published"}
@@ -30,7 +30,7 @@ class Rounds(Desk):
         self.assertIn("  regret 705\n", output)
         self.assertIn("bids of round 1 into bids-1/", output)
 
-    def test_the_whole_session(self):
+    def test_the_whole_session(self) -> None:
         self.open()
         for number, status in ((1, 9), (2, 9), (3, 0)):
             self.bids_come(number)
@@ -48,17 +48,18 @@ class Rounds(Desk):
         self.assertIn("tables/payments.csv", files)
         self.assertFalse([name for name in files if name.startswith(".")])
 
-    def test_digests_are_those_of_the_journals_fronts(self):
+    def test_digests_are_those_of_the_journals_fronts(self) -> None:
         self.test_the_whole_session()
         journal = SEASON.read_bytes()
         lines = (self.folder / "published").read_text().splitlines()
-        found = [FRONT.fullmatch(line).groups() for line in lines]
+        found = [match.groups() for match in map(FRONT.fullmatch, lines) if match]
+        self.assertEqual(len(found), len(lines))
         self.assertEqual([each[:2] for each in found][:3], [("front", str(n)) for n in range(3)])
         self.assertEqual(found[3][:2], ("whole", "3"))
         for _, _, size, digest in found:
             self.assertEqual(hashlib.sha256(journal[: int(size)]).hexdigest(), digest)
 
-    def test_what_changed_is_said(self):
+    def test_what_changed_is_said(self) -> None:
         self.open()
         self.bids_come(1)
         _, output, _ = self.round()
@@ -69,7 +70,7 @@ class Rounds(Desk):
         self.assertIn("no bid came of Caledonian-Express, Transcontinental", output)
         self.assertIn("190 of it with Polar-Cargo. So Polar-Cargo, Charter-Sud and", output)
 
-    def test_what_is_put_aside_is_said(self):
+    def test_what_is_put_aside_is_said(self) -> None:
         self.open()
         for number in (1, 2):
             self.bids_come(number)
@@ -79,7 +80,7 @@ class Rounds(Desk):
         self.assertEqual(len(aside), 2)
         self.assertEqual(len(json.loads((self.folder / "round-2.json").read_text())["bids"]), 12)
 
-    def test_the_same_call_again_changes_nothing(self):
+    def test_the_same_call_again_changes_nothing(self) -> None:
         self.open()
         self.bids_come(1)
         self.round()
@@ -87,7 +88,7 @@ class Rounds(Desk):
         self.assertEqual(self.round()[0], 9)
         self.assertEqual(self.files(), before)
 
-    def test_by_hand_between(self):
+    def test_by_hand_between(self) -> None:
         """Whoever makes the round file by hand, or the journal too, goes on as before."""
         self.open()
         shutil.copy(SEASON.parent / "season-round-1.json", self.folder / "round-1.json")
@@ -97,14 +98,14 @@ class Rounds(Desk):
         self.assertEqual(self.round()[0], 9)
         self.assertIn("round-2.json", self.files())
 
-    def test_a_round_with_no_bid(self):
+    def test_a_round_with_no_bid(self) -> None:
         self.open()
         self.assertEqual(self.round()[0], 9)
         self.assertNotIn("round-1.json", self.files())
         self.round("--empty")
         self.assertEqual(json.loads(self.files()["round-1.json"]), {"bids": []})
 
-    def test_a_trial_writes_nothing(self):
+    def test_a_trial_writes_nothing(self) -> None:
         self.open()
         self.bids_come(1)
         before = self.files()
@@ -116,7 +117,7 @@ class Rounds(Desk):
         self.assertNotIn("114", output)
         self.assertNotIn("price", output)
 
-    def test_a_late_bid_is_named(self):
+    def test_a_late_bid_is_named(self) -> None:
         self.open()
         self.bids_come(1)
         self.assertNotIn("other bids", self.round()[1])
@@ -124,7 +125,7 @@ class Rounds(Desk):
         shutil.copy(bid, bid.with_name("1900-Airport-Coordination.json"))
         self.assertIn("bids-1 has other bids than round-1.json", self.round()[1])
 
-    def test_coins_and_words_for_pages(self):
+    def test_coins_and_words_for_pages(self) -> None:
         self.bids_come(1)
         self.round("--title=Slots & more", "--unit=k€")
         self.assertIn("Slots &amp; more", self.files()["Meridian-0.html"].decode())
@@ -135,7 +136,7 @@ class Rounds(Desk):
         self.assertIn("coins", self.files()["tables/payments.csv"].decode().splitlines()[0])
         self.assertIn("in whole coins", self.files()["Meridian.html"].decode())
 
-    def test_full_names_from_right_to_left(self):
+    def test_full_names_from_right_to_left(self) -> None:
         name = "\u05e2\u05e8\u05d1"
         (self.folder / "names.csv").write_text(f"name,full name\narr-2215,{name}\n")
         self.assertEqual(self.round("--names=names.csv")[0], 9)
@@ -144,7 +145,7 @@ class Rounds(Desk):
             self.assertGreater(text.count(name), 1)
             self.assertEqual(text.count(name), text.count(f"\u2068{name}\u2069"), page)
 
-    def test_salted_digests(self):
+    def test_salted_digests(self) -> None:
         (self.folder / "salt").write_bytes(bytes(range(32)))
         self.round("--salt=salt")
         _, _, size, digest, salted = (self.folder / "published").read_text().split()
@@ -165,14 +166,14 @@ class Stops(Desk):
         self.assertIn("all files are as they were", errors)
         self.assertEqual(self.files(), before)
 
-    def test_the_checker_says_no(self):
+    def test_the_checker_says_no(self) -> None:
         self.open()
         self.bids_come(1)
         last = fronts(SEASON.read_text())[1].count("\n")
         wanted = f"ice check says `no 7 value`, where `no {last} closed` is due"
         self.stops(3, wanted, WRONG="1")
 
-    def test_the_audit_says_another_payment(self):
+    def test_the_audit_says_another_payment(self) -> None:
         """The stand-in takes each payment from the statement, so here it is told a wrong one."""
         self.open()
         for number in (1, 2):
@@ -181,12 +182,12 @@ class Stops(Desk):
         self.bids_come(3)
         self.stops(3, "Meridian.statement: ice audit says `yes 7`", AUDIT="yes 7")
 
-    def test_the_run_is_refused(self):
+    def test_the_run_is_refused(self) -> None:
         self.open()
         self.bids_come(1)
         self.stops(2, "ice: it is stopped", STATUS="2")
 
-    def test_the_branches_are_used_up(self):
+    def test_the_branches_are_used_up(self) -> None:
         self.open()
         before = self.files()
         status, _, errors = self.round(STATUS="4")
@@ -196,7 +197,7 @@ class Stops(Desk):
         self.assertEqual(after.pop("market-stopped.journal"), b"ice 2 session\n")
         self.assertEqual(after, before)
 
-    def test_a_digest_that_does_not_hold(self):
+    def test_a_digest_that_does_not_hold(self) -> None:
         self.open()
         listed = self.folder / "published"
         text = listed.read_text()
@@ -204,23 +205,23 @@ class Stops(Desk):
         self.bids_come(1)
         self.stops(3, "digests that were published don't hold:\nice-round: other front 0")
 
-    def test_no_digests_stand_there(self):
+    def test_no_digests_stand_there(self) -> None:
         self.open()
         (self.folder / "published").write_text("front 0\n")
         self.stops(2, "line 1 is no digest")
 
-    def test_a_gap_in_the_rounds(self):
+    def test_a_gap_in_the_rounds(self) -> None:
         self.open()
         (self.folder / "round-2.json").write_text('{"bids": []}')
         self.stops(2, "round-2.json is there, and round-1.json isn't")
 
-    def test_no_market(self):
+    def test_no_market(self) -> None:
         (self.folder / "market.json").write_text("{}")
         self.stops(2, "the member `settings` is missing")
         (self.folder / "market.json").unlink()
         self.stops(6, "No such file")
 
-    def test_names_of_files_that_fall_together(self):
+    def test_names_of_files_that_fall_together(self) -> None:
         """A bidder of the market's name would have the operator's page for its own at the end."""
         market = self.folder / "market.json"
         market.rename(self.folder / "meridian.json")
@@ -233,25 +234,25 @@ class Stops(Desk):
                 self.assertEqual((status, self.files()), (2, before))
                 self.assertIn("Meridian.html and meridian.html would be one file", errors)
 
-    def test_a_folder_in_the_place_of_a_page(self):
+    def test_a_folder_in_the_place_of_a_page(self) -> None:
         """What was put into place before is put back."""
         self.open()
         self.bids_come(1)
         (self.folder / "Polar-Cargo-1.html").mkdir()
         self.stops(7, "Polar-Cargo-1.html")
 
-    def test_two_at_once(self):
+    def test_two_at_once(self) -> None:
         import fcntl
 
         with (self.folder / "market.json").open() as stream:
             fcntl.flock(stream, fcntl.LOCK_EX)
             self.stops(2, "another ice-round works on market.json")
 
-    def test_an_interrupt(self):
+    def test_an_interrupt(self) -> None:
         slow = self.folder / "slow"
         slow.write_text("#!/bin/sh\ntouch begun\nexec sleep 60\n")
         slow.chmod(0o755)
-        words = [sys.executable, ROUND, "market.json", "--program=slow"]
+        words = [sys.executable, str(ROUND), "market.json", "--program=slow"]
         process = subprocess.Popen(words, cwd=self.folder, stderr=subprocess.PIPE, text=True)
         for _ in range(400):
             if (self.folder / "begun").exists():
@@ -263,14 +264,14 @@ class Stops(Desk):
         self.assertIn("interrupted", errors)
         self.assertEqual(set(self.files()), {"market.json", "slow", "begun"})
 
-    def test_a_table_of_names_that_is_none(self):
+    def test_a_table_of_names_that_is_none(self) -> None:
         self.open()
         self.bids_come(1)
         (self.folder / "names.csv").write_text("name,full name\nMeridian,\n")
         wanted = "ice-round: ice-page: names.csv: line 2: a name and a full name are due\n"
         self.stops(2, wanted, "--names=names.csv")
 
-    def test_control_characters_are_spelled_out(self):
+    def test_control_characters_are_spelled_out(self) -> None:
         self.open()
         self.bids_come(1)
         bid = {"bidder": "a\u001b]0;x\u0007\u202e", "lo": [], "hi": []}
@@ -279,17 +280,16 @@ class Stops(Desk):
         self.assertIn("put aside", output)
         self.assertTrue(all(each.isprintable() or each == "\n" for each in output + errors))
 
-    def test_words(self):
+    def test_words(self) -> None:
         before = self.files()
         for words in (["--coins=0"], ["--unknown"], ["one", "two"]):
             self.assertEqual(self.round(*words)[0], 1)
         self.assertEqual(self.files(), before)
 
-    def test_a_full_output(self):
+    def test_a_full_output(self) -> None:
         with open("/dev/full", "w", encoding="utf-8") as full:
-            words = [sys.executable, ROUND, "market.json", PROGRAM]
-            how = {"cwd": self.folder, "env": self.where, "stderr": subprocess.PIPE}
-            ran = subprocess.run(words, stdout=full, check=False, **how)
+            words = [sys.executable, str(ROUND), "market.json", PROGRAM]
+            ran = subprocess.run(words, stdout=full, stderr=subprocess.PIPE, cwd=self.folder, env=self.where, check=False)
         self.assertEqual(ran.returncode, 7)
         self.assertTrue(os.path.exists(self.folder / "published"))
 

@@ -2,6 +2,8 @@
 import json
 import re
 import unittest
+from fractions import Fraction
+from typing import Any
 
 from support import EXAMPLES, HALL, TOP, Desk
 
@@ -14,7 +16,7 @@ SESSIONS = sorted(EXAMPLES.glob("*-session.journal")) + sorted(
 )
 
 
-def flat(tree: dict) -> list[tuple]:
+def flat(tree: dict[str, Any]) -> list[tuple[Any, ...]]:
     """The nodes of a tree in preorder, each as a node record has it, but for its two values."""
     if "choose" in tree:
         inside = [each for child in tree["of"] for each in flat(child)]
@@ -25,7 +27,8 @@ def flat(tree: dict) -> list[tuple]:
 
 def last_bounds(journal: str) -> dict[str, list[tuple[int, int]]]:
     """The bounds of each bidder's nodes at the last settlement, by the lines of the journal."""
-    bounds, name = {}, ""
+    bounds: dict[str, list[tuple[int, int]]] = {}
+    name = ""
     lines = [line.split() for line in journal.splitlines()]
     for line, behind in zip(lines, [*lines[1:], [""]]):
         if line[0] == "bidder":
@@ -42,7 +45,7 @@ def last_bounds(journal: str) -> dict[str, list[tuple[int, int]]]:
 class Markets(unittest.TestCase):
     """The market that is made."""
 
-    def test_of_the_hall(self):
+    def test_of_the_hall(self) -> None:
         """The hall's market, in which the opera told that it pays 60 at most."""
         made = market_of(read_journal(HALL), None, 0)
         wanted = json.loads((EXAMPLES / "hall.json").read_text())
@@ -54,7 +57,7 @@ class Markets(unittest.TestCase):
         del wanted["bidders"][1]
         self.assertEqual(made, wanted)
 
-    def test_of_every_session(self):
+    def test_of_every_session(self) -> None:
         for file in SESSIONS:
             text, journal = file.read_text(), read_journal(file)
             made = market_of(journal, None, 7)
@@ -80,22 +83,23 @@ class Markets(unittest.TestCase):
                 )
 
     @staticmethod
-    def goods(made: dict) -> list[str]:
+    def goods(made: dict[str, Any]) -> list[str]:
         """The names of the goods of a market."""
         return [good["exact"] if isinstance(good, dict) else good for good in made["goods"]]
 
-    def test_rounds_that_are_left(self):
+    def test_rounds_that_are_left(self) -> None:
         self.assertEqual(rounds_left(read_journal(HALL)), 0)
         samples = TOP / "page" / "tests" / "samples"
         text = (samples / "open.session").read_text()
-        rounds = int(re.search(r"(?m)^settings (.*)$", text)[1].split()[4])
+        (settings,) = re.findall(r"(?m)^settings (.*)$", text)
+        rounds = int(settings.split()[4])
         self.assertEqual(rounds_left(read_journal(samples / "open.session")), rounds)
 
 
 class Command(Desk):
     """The command, and what it says."""
 
-    def test_by_hand(self):
+    def test_by_hand(self) -> None:
         # The trade is worth 60 - 20 = 40, and without the hall 0. Without the choir it is 35 by the
         # opera, and where that is left out 30 by the dance. So the choir's Vickrey discount is 5,
         # and then 10; the hall's is 40; the cut is 5/2, and then 5; the choir pays 60 - 5/2, and
@@ -115,13 +119,13 @@ class Command(Desk):
         )
         self.assertNotIn("warning", output)
 
-    def test_a_warning(self):
+    def test_a_warning(self) -> None:
         # 2.5 of 57.5 is 4.3 in a hundred
         _, output, _ = self.without(HALL, "opera", "--much=4")
         self.assertIn("warning: payments differ by more than 4 %: hall by 4.3 % and choir", output)
         self.assertNotIn("warning", self.without(HALL, "opera", "--much=5")[1])
 
-    def test_the_market_goes_into_a_file_that_is_new(self):
+    def test_the_market_goes_into_a_file_that_is_new(self) -> None:
         status, output, _ = self.without(HALL, "opera", "-o", "without.json")
         self.assertEqual(status, 0)
         self.assertIn("the market without opera: without.json, with rounds 0", output)
@@ -131,8 +135,8 @@ class Command(Desk):
         self.assertEqual(status, 1)
         self.assertIn("is there already", errors)
 
-    def test_it_stops(self):
-        for status, words, settings in (
+    def test_it_stops(self) -> None:
+        stops: tuple[tuple[int, tuple[object, ...], dict[str, str]], ...] = (
             (2, (HALL, "nobody"), {}),
             (2, (EXAMPLES / "hall-regret.journal", "opera"), {}),
             (6, ("none.journal", "opera"), {}),
@@ -141,14 +145,15 @@ class Command(Desk):
             (1, (HALL,), {}),
             (1, (HALL, "opera", "--rounds=21"), {}),
             (7, (HALL, "opera", "-o", "no/folder.json"), {}),
-        ):
+        )
+        for status, words, settings in stops:
             with self.subTest(words):
                 found, output, _ = self.without(*words, **settings)
                 self.assertEqual((found, output), (status, ""))
 
-    def test_changes(self):
+    def test_changes(self) -> None:
         for before, now, change in ((100, 90, 0.1), (-50, -100, 0.5), (10, -10, 2), (0, 0, 0)):
-            pair = Pair("a", Share("", before), Share("", now))
+            pair = Pair("a", Share("", Fraction(before)), Share("", Fraction(now)))
             self.assertAlmostEqual(float(pair.change), change)
 
 

@@ -36,7 +36,7 @@ def hear_signals() -> None:
 class Build(unittest.TestCase):
     """Each test has a checkout of its own."""
 
-    def setUp(self):
+    def setUp(self) -> None:
         self.room = pathlib.Path(tempfile.mkdtemp(prefix="launch-"))
         self.addCleanup(shutil.rmtree, self.room)
         self.top = self.room / "with a space" / "checkout"
@@ -91,7 +91,7 @@ class Build(unittest.TestCase):
         left = [*self.top.glob(".git/ice-*"), *self.top.glob("crates/ice_cli/out/ice-*")]
         self.assertEqual(left, [])
 
-    def test_builds_side_by_side(self):
+    def test_builds_side_by_side(self) -> None:
         status, out, err = self.launch(RT_SECONDS="0.3")
         self.assertEqual((status, out), (0, "answer one two words\n"))
         runs = self.runs()
@@ -106,13 +106,13 @@ class Build(unittest.TestCase):
         self.assertEqual(self.launch()[2], "")
         self.assertEqual(self.runs(), [])
 
-    def test_one_lane_leaves_the_jobs_to_rt(self):
+    def test_one_lane_leaves_the_jobs_to_rt(self) -> None:
         self.assertEqual(self.launch(ICE_LANES="1")[0], 0)
         runs = self.runs()
         self.assertEqual({run[1] for run in runs}, {"checkout"})
         self.assertNotIn("--jobs", " ".join(run[2] for run in runs))
 
-    def test_nothing_changed(self):
+    def test_nothing_changed(self) -> None:
         self.launch()
         self.runs()
         program = self.top / "crates/ice_cli/out/ice_cli"
@@ -124,7 +124,7 @@ class Build(unittest.TestCase):
         self.assertEqual(program.stat().st_ino, was)
         self.assertEqual(self.launch()[2], "")
 
-    def test_a_proof_fails_and_the_next_build_goes_on(self):
+    def test_a_proof_fails_and_the_next_build_goes_on(self) -> None:
         status, out, err = self.launch(RT_FAIL="ice_d", RT_SECONDS="0.2")
         self.assertEqual((status, out), (70, ""))
         self.assertIn("\nthis proof fails\nice: ice_d could not be built: rt ended with status 1, after the lines above; ", err)
@@ -137,7 +137,7 @@ class Build(unittest.TestCase):
         for name, it in before.items():
             self.assertEqual((self.top / f"crates/{name}/out/rlib/stamp").stat().st_ino, it, name)
 
-    def test_signals_end_it_and_keep_what_was_done(self):
+    def test_signals_end_it_and_keep_what_was_done(self) -> None:
         for number in (signal.SIGTERM, signal.SIGINT, signal.SIGHUP):
             shutil.rmtree(self.top / "crates/ice_a/out", ignore_errors=True)
             self.runs()
@@ -157,7 +157,7 @@ class Build(unittest.TestCase):
                 shutil.rmtree(self.top / f"crates/{name}/out", ignore_errors=True)
         self.assertEqual(self.launch()[0], 0)
 
-    def test_of_two_launchers_one_builds(self):
+    def test_of_two_launchers_one_builds(self) -> None:
         both = [self.start(RT_SECONDS="0.3") for _ in range(2)]
         ends = [(*it.communicate(timeout=120), it.returncode) for it in both]
         self.assertEqual([(out, status) for out, _, status in ends], [("answer one two words\n", 0)] * 2)
@@ -166,7 +166,7 @@ class Build(unittest.TestCase):
         self.assertEqual(said[0], "ice: another run builds the program; waiting for it\n")
         self.assertIn("ice: built in", said[1])
 
-    def test_what_a_killed_launcher_left_is_removed(self):
+    def test_what_a_killed_launcher_left_is_removed(self) -> None:
         started = self.start(RT_SECONDS="1")
         self.await_crate("ice_e", started)
         started.kill()
@@ -176,12 +176,12 @@ class Build(unittest.TestCase):
         self.assertEqual(self.launch()[0], 0)
         self.is_clean()
 
-    def test_without_a_git_folder(self):
+    def test_without_a_git_folder(self) -> None:
         shutil.rmtree(self.top / ".git")
         self.assertEqual(self.launch()[0], 0)
         self.is_clean()
 
-    def test_what_changes_during_a_build_is_built_the_next_time(self):
+    def test_what_changes_during_a_build_is_built_the_next_time(self) -> None:
         started = self.start(RT_SECONDS="0.3")
         self.await_crate("ice_e", started)
         (self.top / "crates/ice_a/src/lib.rt").write_text("changed")
@@ -191,7 +191,7 @@ class Build(unittest.TestCase):
         self.assertEqual(len(self.runs()), 7)
         self.assertEqual(self.launch()[2], "")
 
-    def test_no_toolchain(self):
+    def test_no_toolchain(self) -> None:
         folder = self.room / "bin"
         folder.mkdir()
         for name in ("bash", "readlink", "dirname", "find", "flock"):

@@ -25,7 +25,7 @@ def heeded() -> None:
 class Ending(unittest.TestCase):
     """Each test has a checkout with a program that counts as built, and a stand-in for rt."""
 
-    def setUp(self):
+    def setUp(self) -> None:
         self.top = pathlib.Path(tempfile.mkdtemp(prefix="launch-"))
         self.addCleanup(shutil.rmtree, self.top)
         for name in ("ice", "ice-unproved"):
@@ -76,7 +76,7 @@ class Ending(unittest.TestCase):
         how = {"stderr": subprocess.DEVNULL, "stdin": subprocess.DEVNULL, **how}
         return subprocess.Popen(words, cwd=self.top, env=self.where, preexec_fn=heeded, **how)
 
-    def test_a_signal_ends_both_with_the_status_of_a_shell(self):
+    def test_a_signal_ends_both_with_the_status_of_a_shell(self) -> None:
         for name, number in [*(("ice", each) for each in STATUSES), ("ice-unproved", signal.SIGTERM)]:
             with open(self.top / "out", "w", encoding="ascii") as out:
                 for to in (subprocess.PIPE, out)[: 1 if number == signal.SIGHUP else 2]:
@@ -87,7 +87,7 @@ class Ending(unittest.TestCase):
                     self.assertFalse(self.is_there(program))
         self.assertEqual(list((self.top / "temporary").iterdir()), [])
 
-    def test_the_time_out_of_a_caller_leaves_nothing_behind(self):
+    def test_the_time_out_of_a_caller_leaves_nothing_behind(self) -> None:
         for name in ("ice", "ice-unproved"):
             with self.launched(name, stdout=subprocess.PIPE) as launcher:
                 program = self.started()
@@ -96,7 +96,7 @@ class Ending(unittest.TestCase):
             self.wait_for(lambda program=program: not self.is_there(program))
             self.wait_for(lambda: not list((self.top / "temporary").iterdir()))
 
-    def test_an_interrupt_at_a_terminal(self):
+    def test_an_interrupt_at_a_terminal(self) -> None:
         child, terminal = pty.fork()
         if child == 0:
             heeded()
@@ -109,7 +109,7 @@ class Ending(unittest.TestCase):
         self.assertEqual(os.waitstatus_to_exitcode(ended), 130)
         self.assertFalse(self.is_there(program))
 
-    def test_what_is_not_proved_gives_its_answer_and_its_status(self):
+    def test_what_is_not_proved_gives_its_answer_and_its_status(self) -> None:
         (self.top / "rt").write_text('#!/bin/sh\necho "no 7 $6"\necho "run=ended status=3 proved=no" >&2\n')
         ran = subprocess.run(["./ice-unproved", "check", "j"], cwd=self.top, env=self.where, capture_output=True, text=True, check=False)
         self.assertEqual((ran.returncode, ran.stdout), (3, f"no 7 {self.top}/j\n"), ran.stderr)
@@ -118,7 +118,7 @@ class Ending(unittest.TestCase):
         self.assertEqual((ran.returncode, "run=none proved=no" in ran.stderr), (70, True), ran.stderr)
         self.assertEqual(list((self.top / "temporary").iterdir()), [])
 
-    def test_the_program_reads_standard_input(self):
+    def test_the_program_reads_standard_input(self) -> None:
         file = self.top / "crates/ice_cli/out/ice_cli"
         file.write_text("#!/bin/sh\ncat\n")
         for redirect, wanted in (("<in", "said\n"), ("</dev/null", ""), ("<&-", "")):

@@ -24,7 +24,7 @@ CLOSED = "ice 2 session\nsettle 1\nfinal 8\nregret 0\nthreshold 5/2 1/3\npayment
 class Words(unittest.TestCase):
     """Each test has a checkout with a program that counts as built."""
 
-    def setUp(self):
+    def setUp(self) -> None:
         self.top = pathlib.Path(tempfile.mkdtemp(prefix="launch-"))
         self.addCleanup(shutil.rmtree, self.top)
         shutil.copy(TOP / "ice", self.top)
@@ -60,7 +60,7 @@ class Words(unittest.TestCase):
         """The line of words for a refusal."""
         return self.told(f"refused {file} {number} {place}\n", 2, *(words or ("run", "market.json")))
 
-    def test_sessions(self):
+    def test_sessions(self) -> None:
         self.assertEqual(self.told(OPEN, 9, "run", "m", "r1"), "open after round 1, regret 3915: wants round 2")
         self.assertEqual(self.told(CLOSED, 0, "run", "m", "r1"), "closed after round 1: regret 0, surplus 1/3")
         self.assertEqual(self.told(CLOSED, 0, "run", "m", "r1", "r 2", "r3"), "closed after round 1: regret 0, surplus 1/3; not read: r\\ 2 r3")
@@ -71,7 +71,7 @@ class Words(unittest.TestCase):
         self.assertEqual(self.told("limit accuracy rows 0 1\nend limit\n", 5, "run", "m"), "the pricing came to a limit: no prices are offered")
         self.assertEqual(self.told("limit fairness den 0 1\nend limit\n", 5, "fair", "m"), "the search for fair prices came to a limit: none are told")
 
-    def test_which_search_was_spent(self):
+    def test_which_search_was_spent(self) -> None:
         begun = "ice 2 session\nsettings 50 40 100 1 2 200\n"
         best = "settle 0\nfinal 700\nset 1\nnear 0\n"
         spent = "spent 50 65\nset 1\nnear 0\nend spent\n"
@@ -94,7 +94,7 @@ class Words(unittest.TestCase):
         told = self.told(f"ice 2 regret\nsettings 50 40 100 1 2 200\n{spent}", 4, "regret", "m")
         self.assertIn(f"used up: what was found {found}, a gap of 30.0 %;", told)
 
-    def test_a_gap_that_is_tested(self):
+    def test_a_gap_that_is_tested(self) -> None:
         (self.top / "spent.journal").write_text("settle 0\nspent 50 65\nset 1\nend spent\n")
         for said, end in (
             ("gap final 50 65", "; what was found there passes every test: `gap final 50 65`"),
@@ -106,12 +106,12 @@ class Words(unittest.TestCase):
             self.assertIn("it closes nothing, and ends with `end spent`", told)
             self.assertTrue(told.endswith(end), told)
 
-    def test_gaps(self):
+    def test_gaps(self) -> None:
         self.assertEqual(self.told("gap final 50 65\n", 0, "gap", "m"), "")
         self.assertIn("m, line 9: no gap is stated", self.told("no 9 spent\n", 3, "gap", "m"))
         self.assertIn("takes one file, and 2 words", self.told("words refused\n", 1, "gap", "m", "n"))
 
-    def test_simulations(self):
+    def test_simulations(self) -> None:
         self.assertEqual(self.told(CLOSED, 0, "simulate", "m", "t"), "closed after round 1: regret 0, surplus 1/3")
         spent = "settle 0\nspent 50 65\nset 1\nend spent\n"
         self.assertIn("the branches of the settings are used up", self.told(spent, 4, "simulate", "m", "t"))
@@ -121,11 +121,11 @@ class Words(unittest.TestCase):
         told = self.refused(93, "-", "simulate", "market.json", "truths.json", file=2)
         self.assertRegex(told, r"^truths.json is refused: a bidder of the exchange has no bid.* \(number 93\)$")
 
-    def test_what_says_all_itself_has_no_line(self):
+    def test_what_says_all_itself_has_no_line(self) -> None:
         self.assertEqual(self.told("yes 0 0/1\n", 0, "check", "j"), "")
         self.assertEqual(self.told("best a 1\nset 1\nend best\n", 0, "best", "e", "p"), "")
 
-    def test_faults_have_their_element(self):
+    def test_faults_have_their_element(self) -> None:
         self.assertEqual(self.refused(13, "bidders.0"), 'market.json is refused: bidders.0 "B\u00e4cker": not a lawful name: 1 to 32 of A-Z a-z 0-9 _ - . (number 13)')
         self.assertEqual(self.refused(2, "settings"), "market.json is refused: settings has `round`, lacks `rounds`: not of the form that belongs here (number 2)")
         self.assertIn(': bidders.0.tree.units 1.5: no whole number', self.refused(3, "bidders.0.tree.units"))
@@ -133,7 +133,7 @@ class Words(unittest.TestCase):
         self.assertIn(": bidders.0 \"B\u00e4cker\": its bids may sell more", self.refused(14, "bidders.0", "xor", "market.json"))
         self.assertEqual(self.refused(16, "-"), "market.json is refused: an exchange has at least one good and one bidder (number 16)")
 
-    def test_flat_bids_want_xor_first(self):
+    def test_flat_bids_want_xor_first(self) -> None:
         packages = TOP / "examples/packages.json"
         shutil.copy(packages, self.top / "flat.json")
         told = 'flat.json is refused: bidders.0 "regulator" has flat bids: `ice xor` makes an exchange of them first (number 2)'
@@ -152,7 +152,7 @@ class Words(unittest.TestCase):
             told = self.refused(2, place, command, "flat.json")
             self.assertTrue(told.endswith(other), told)
 
-    def test_what_a_file_says_reaches_no_terminal_as_it_is(self):
+    def test_what_a_file_says_reaches_no_terminal_as_it_is(self) -> None:
         (self.top / "r").write_text('{"bids":[{"bidder":"a","lo":[],"hi":[],"\\u001b]0;x\\u0007\\u001b[2J yes 0 0/1":1}]}')
         told = self.refused(2, "bids.0", "run", "market.json", "r", file=2)
         self.assertEqual(told, r"r (round 1) is refused: bids.0 has `\x1b]0;x\x07\x1b[2J yes 0 0/1`: not of the form that belongs here (number 2)")
@@ -163,7 +163,7 @@ class Words(unittest.TestCase):
         for line in (self.refused(2, "-", "run", "market.json", "a\x1b[2J\u202e.json", file=2), self.told("unread 1\n", 6, "check", "a\u2066")):
             self.assertTrue(line.isprintable(), ascii(line))
 
-    def test_a_fault_of_a_round_names_its_file(self):
+    def test_a_fault_of_a_round_names_its_file(self) -> None:
         (self.top / "bom.json").write_bytes(b"\xef\xbb\xbf{}")
         (self.top / "cut.json").write_text('{"bids": [\n')
         told = self.refused(1, "-", "run", "market.json", "bom.json", file=2)
@@ -171,19 +171,19 @@ class Words(unittest.TestCase):
         told = self.refused(1, "-", "run", "market.json", "bom.json", "cut.json", file=3)
         self.assertEqual(told, "cut.json (round 2) is refused: no JSON (Expecting value at line 2, column 1) (number 1)")
 
-    def test_lines_at_fault(self):
+    def test_lines_at_fault(self) -> None:
         (self.top / "j").write_text("ice 1 assign\nsettings 1\ngood a\x07 \n")
         self.assertEqual(self.refused(50, "3", "check", "j"), "j is refused: line 3 `good a^G `: no record, or one that may not stand here, or one is missing (number 50)")
         self.assertEqual(self.refused(51, "9", "check", "/dev/stdin"), "standard input is refused: line 9: the last line has no newline: the file may have been cut off (number 51)")
         self.assertEqual(self.refused(53, "-", "migrate", "j"), "j is refused: not a journal of a kind that `migrate` takes (number 53)")
 
-    def test_each_number_has_words(self):
+    def test_each_number_has_words(self) -> None:
         for number in [*range(1, 6), *range(10, 15), 16, 17, *range(20, 27), 50, 51, 52, 53, 61, 90, 91, 92, 93, 94]:
             told = self.refused(number, "-")
             self.assertRegex(told, rf"^market.json is refused: [^:]{{6,}}.*\(number {number}\)$")
             self.assertNotIn("refused: refused", told)
 
-    def test_each_test_of_a_journal_has_words(self):
+    def test_each_test_of_a_journal_has_words(self) -> None:
         rules = "order short exchange count parent few many excess value near sign fixed above alive regret fixing prices violation accuracy balance verdict threshold payment"
         for name in rules.split():
             told = self.told(f"no 7 {name}\n", 3, "check", "j")
@@ -191,11 +191,11 @@ class Words(unittest.TestCase):
             self.assertNotIn("failed", told)
         self.assertEqual(self.told("no 7 short\n", 3, "audit", "s"), "s, line 7: the statement ends too early")
 
-    def test_a_journal_that_is_right_as_far_as_it_goes(self):
+    def test_a_journal_that_is_right_as_far_as_it_goes(self) -> None:
         (self.top / "j").write_text(OPEN)
         self.assertEqual(self.told("no 8 closed\n", 3, "check", "j"), "j is right as far as it goes, to line 8: it closes nothing, and ends with `end open`")
 
-    def test_the_command_for_another_file_is_named(self):
+    def test_the_command_for_another_file_is_named(self) -> None:
         (self.top / "s").write_text("statement a\nsettings 50 0 9 0 5 9\n")
         for words in (("check", "s"), ("replay", "s", "0")):
             self.assertEqual(self.told("refused 1 50 1\n", 2, *words), "s is refused: line 1 `statement a`: it is a statement: `ice audit` tests it (number 50)")
@@ -203,17 +203,17 @@ class Words(unittest.TestCase):
         self.assertEqual(self.told("no 1 order\n", 3, "audit", "j"), "j is no statement but a journal: `ice check` tests it")
         self.assertEqual(self.told("no 2 order\n", 3, "audit", "s"), "s, line 2: another record belongs here")
 
-    def test_help_behind_a_command(self):
+    def test_help_behind_a_command(self) -> None:
         for words in (("check", "--help"), ("run", "-h"), ("--help",)):
             for launcher in ("./ice", TOP / "ice-unproved"):
                 ran = subprocess.run([launcher, *words], cwd=self.top, env=self.settings("", 6), capture_output=True, text=True, check=False)
                 self.assertEqual((ran.returncode, ran.stdout[:11], ran.stderr), (0, "usage: ice ", ""))
 
-    def test_files_that_are_not_read(self):
+    def test_files_that_are_not_read(self) -> None:
         self.assertEqual(self.told("unread 1\n", 6, "check", "absent"), "absent could not be read: there is no such file")
         self.assertEqual(self.told("settle 0\nunread 2\n", 6, "run", "m", "launch"), "launch (round 1) could not be read: it is a folder")
 
-    def test_wrong_words(self):
+    def test_wrong_words(self) -> None:
         for words, told in {
             (): "there is no command",
             ("chek", "j"): "there is no command chek",
@@ -232,25 +232,25 @@ class Words(unittest.TestCase):
         }.items():
             self.assertEqual(self.told("words refused\n", 1, *words), told)
 
-    def test_what_stood_in_the_file_is_left(self):
+    def test_what_stood_in_the_file_is_left(self) -> None:
         self.out.write_text("refused 9 9 before\n")
         self.assertEqual(self.told(OPEN, 9, "run", "m", mode="a"), "open after round 0, regret 3915: wants round 1")
         self.assertEqual(self.told("end open\n", 9, "run", "m", mode="a"), "open after round 0: wants round 1")
 
-    def test_a_pipe_gets_the_same_bytes_and_its_words(self):
+    def test_a_pipe_gets_the_same_bytes_and_its_words(self) -> None:
         answer = OPEN * 5000
         ran = subprocess.run([self.top / "ice", "run", "m", "r1"], env=self.settings(answer, 9), capture_output=True, text=True, check=False)
         self.assertEqual((ran.returncode, ran.stdout, ran.stderr), (9, answer, "ice: open after round 1: wants round 2\n"))
         ran = subprocess.run([self.top / "ice", "check", "m"], env=self.settings("refused 1 50 3\n", 2), capture_output=True, text=True, check=False)
         self.assertEqual(ran.stderr, "ice: a file is refused: the last line of the output says which, its fault, and where\n")
 
-    def test_standard_output_that_fails_ends_with_7(self):
+    def test_standard_output_that_fails_ends_with_7(self) -> None:
         for target in (">/dev/full", ">&-", "| true"):
             script = f'set -o pipefail; {{ sleep 0.3; ./ice run m; echo "status $?" >&2; }} {target}'
             ran = subprocess.run(["bash", "-c", script], cwd=self.top, env=self.settings(OPEN * 5000, 9), stderr=subprocess.PIPE, text=True, check=False)
             self.assertEqual(ran.stderr.splitlines()[-2:], ["ice: standard output failed: what was written is a front of the answer, or nothing", "status 7"], target)
 
-    def test_on_a_terminal_the_words_stand_behind_the_answer(self):
+    def test_on_a_terminal_the_words_stand_behind_the_answer(self) -> None:
         answer = OPEN * 2000
         where = self.settings(answer, 9)
         child, terminal = pty.fork()

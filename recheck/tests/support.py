@@ -33,7 +33,8 @@ CHANGE = re.compile(rf"\(\s*(\d+),\s*{LITERAL.pattern}", re.DOTALL)
 
 def answer(journal: str) -> tuple[str, int]:
     """The answer to a journal: its line and status."""
-    return tuple(check(journal.encode("latin-1")))
+    judged = check(journal.encode("latin-1"))
+    return judged.line, judged.status
 
 
 def find_program() -> str | None:
@@ -108,13 +109,13 @@ def judged_in_tables(command: str = "check") -> list[tuple[str, bytes, tuple[str
 
 def rows() -> list[bytes]:
     """Every journal in other tests: texts, lists of lines and all changes of these, and tables."""
-    found = []
+    found: list[str] = []
     for source in sources():
         texts = [unescaped(text) for text in LITERAL.findall(source)]
         found += [text for text in texts if HEAD.match(text) and "\n" in text.strip()]
         changes = [(int(place), unescaped(text)) for place, text in CHANGE.findall(source)]
         for lines in lists_of_lines(source):
             found += [changed(lines, place, text) for place, text in [(0, ""), *changes]]
-    texts = {text.lstrip("\n").encode() for text in found}
+    journals = {text.lstrip("\n").encode() for text in found}
     judged = [row for command in JUDGES for row in judged_in_tables(command)]
-    return sorted(texts | {journal for _, journal, _, _ in judged})
+    return sorted(journals | {journal for _, journal, _, _ in judged})

@@ -17,8 +17,8 @@ from pathlib import Path
 from typing import Any
 
 NAMES = ("chromium", "chromium-browser")
-CHROMIUM = next(filter(None, map(shutil.which, NAMES)), None)
-FLAGS = ("--headless", "--no-sandbox", "--disable-gpu", "--remote-debugging-pipe")
+CHROMIUM: str | None = next(filter(None, map(shutil.which, NAMES)), None)
+FLAGS: tuple[str, ...] = ("--headless", "--no-sandbox", "--disable-gpu", "--remote-debugging-pipe")
 TRIES, START_PATIENCE, PATIENCE = 2, 30.0, 120.0
 
 
@@ -48,7 +48,7 @@ class Tab:
         self.folder = tempfile.TemporaryDirectory(ignore_cleanup_errors=True)
         theirs, self.output = os.pipe()
         self.input, answers = os.pipe()
-        command = [CHROMIUM, *FLAGS, f"--user-data-dir={self.folder.name}", "about:blank"]
+        command: list[str] = [CHROMIUM, *FLAGS, f"--user-data-dir={self.folder.name}", "about:blank"]
         # Chromium reads from 3 and writes to 4, whatever numbers the pipes have here.
         places = f'exec "$@" 3<&{theirs} 4>&{answers}'
         self.process = subprocess.Popen(

@@ -8,8 +8,10 @@ import unittest
 from pathlib import Path
 
 import mutants
-from support import HERE, JOURNALS, ROOT, check, gap, rows
+from support import HERE, JOURNALS, ROOT, rows
 from tab import CHROMIUM, Tab
+
+from ice_recheck.journals import check, gap
 
 PAGE = HERE.parent / "ice-recheck.html"
 HALL = (ROOT / "examples" / "hall-session.journal").read_bytes()
@@ -53,12 +55,14 @@ def file(content: bytes, name: str) -> str:
 class Browser(unittest.TestCase):
     """The page in a browser."""
 
+    tab: Tab
+
     @classmethod
-    def setUpClass(cls):
+    def setUpClass(cls) -> None:
         cls.tab = Tab()
         cls.addClassCleanup(cls.tab.close)
 
-    def setUp(self):
+    def setUp(self) -> None:
         self.tab.show(PAGE)
 
     def drop(self, *files: str) -> None:
@@ -69,7 +73,7 @@ class Browser(unittest.TestCase):
         """The words of the answer to files that are dropped."""
         self.drop(*files)
         self.tab.wait("document.getElementById('line') !== null")
-        return self.tab.run("document.getElementById('answer').innerText")
+        return str(self.tab.run("document.getElementById('answer').innerText"))
 
     def agree(self, journals: list[bytes]) -> None:
         """Whether each answer and each digest is that of Python."""
@@ -80,17 +84,17 @@ class Browser(unittest.TestCase):
             digest = hashlib.sha256(journal).hexdigest()
             self.assertEqual(answer, [*check(journal), *gap(journal), digest], journal[:2000])
 
-    def test_samples_and_rows(self):
+    def test_samples_and_rows(self) -> None:
         self.agree([file.read_bytes() for file in JOURNALS])
         self.agree(rows())
 
-    def test_mutants(self):
+    def test_mutants(self) -> None:
         self.agree([mutants.mutant(seed) for seed in range(mutants.COUNT)])
 
-    def test_sizes_of_digests(self):
+    def test_sizes_of_digests(self) -> None:
         self.agree([bytes(range(count % 256)) * 2 for count in range(55, 75)])
 
-    def test_grammar(self):
+    def test_grammar(self) -> None:
         lines = ["settle 20", "settle 21", "settle 01", "settle +1", "settle -0", "settle 1_0"]
         lines += ["settle 1.0", "settle 1n", "settle 0x1", "settle \xb2", "near 0 0 0", "near 33"]
         lines += ["near 1 0 1", "near 2 1 0 1 0", "near 2 1 0 0 0", "submit b 0 0", "submit b 0"]
@@ -100,7 +104,7 @@ class Browser(unittest.TestCase):
         lines += [f"spent 0 {-(2**127)}", f"spent 0 {2**127}", f"accuracy {2**100 + 1} 1", "a\tb"]
         self.agree([f"ice 1 session\n{line}\n".encode("latin-1") for line in lines])
 
-    def test_a_file_that_is_dropped(self):
+    def test_a_file_that_is_dropped(self) -> None:
         shown = self.shown(file(HALL, "<b>&.journal"))
         self.assertIn("yes 0 0/1\n", shown)
         self.assertIn("<b>&.journal, 1696 bytes", shown)
@@ -109,13 +113,13 @@ class Browser(unittest.TestCase):
         self.assertIn("The regret is 0, and the surplus 0/1.", shown)
         self.assertIn("choir\t115/2\t60\t5\t5/2\t1\t1\t0\n", shown)
 
-    def test_a_damaged_file_that_is_dropped(self):
+    def test_a_damaged_file_that_is_dropped(self) -> None:
         damaged = HALL.replace(b"payment choir 5 5/2 115/2", b"payment choir 5 5/2 119/2")
         line = 1 + damaged.split(b"payment choir")[0].count(b"\n")
         self.assertIn(f"no {line} payment\n", self.shown(file(damaged, "damaged")))
         self.assertEqual(self.tab.run("document.querySelectorAll('table').length"), 0)
 
-    def test_the_last_file_has_the_answer(self):
+    def test_the_last_file_has_the_answer(self) -> None:
         self.tab.run(STILL)
         self.drop(file(HALL, "large"))
         self.drop(file(HALL[:-1], "small"))
@@ -130,7 +134,7 @@ class Browser(unittest.TestCase):
             self.assertNotIn("the large one", shown)
             self.assertNotIn("7 lines", shown)
 
-    def test_several_files(self):
+    def test_several_files(self) -> None:
         shown = self.shown(file(HALL, "one"), file(HALL, "two"))
         self.assertIn("one alone was judged; 1 more file was left out", shown)
         shown = self.shown(file(HALL, "one"), file(HALL, "two"), file(HALL, "three"))
@@ -139,7 +143,7 @@ class Browser(unittest.TestCase):
         self.drop(file(HALL, "one"))
         self.tab.wait("!document.body.innerText.includes('left out')")
 
-    def test_the_same_file_again(self):
+    def test_the_same_file_again(self) -> None:
         with tempfile.TemporaryDirectory() as folder:
             journal = Path(folder, "a.journal")
             for content, answer in ((HALL, "yes 0 0/1"), (b"x", "refused 1 51 1")):
@@ -148,7 +152,7 @@ class Browser(unittest.TestCase):
                 self.tab.wait(f"document.body.innerText.includes('{answer}\\n')")
                 self.assertEqual(self.tab.run("document.getElementById('file').value"), "")
 
-    def test_a_long_file_is_judged_beside_the_page(self):
+    def test_a_long_file_is_judged_beside_the_page(self) -> None:
         front = json.dumps(HALL[: HALL.index(b"submit")].decode())
         self.drop(LONG % front)
         self.tab.wait("/[1-9][0-9]* lines read/.test(document.body.innerText)")
@@ -160,7 +164,7 @@ class Browser(unittest.TestCase):
         self.assertEqual(self.tab.run("document.getElementById('progress').childNodes.length"), 0)
         self.assertIn("yes 0 0/1\n", self.shown(file(HALL, "short")))
 
-    def test_names_that_turn_what_is_beside(self):
+    def test_names_that_turn_what_is_beside(self) -> None:
         shown = self.shown(file(HALL, "a\u202ex\u2067\u200f\u0007.journal"))
         self.assertIn("a\\u{202e}x\\u{2067}\\u{200f}\\u{7}.journal, 1696 bytes", shown)
         self.assertNotRegex(shown, "[\u202e\u2067\u200f\u0007]")
@@ -168,7 +172,7 @@ class Browser(unittest.TestCase):
         self.tab.wait("document.querySelector('bdi').textContent === '\u05d0.\u05d1'")
 
     @unittest.skipUnless((ROOT / "tests" / "files").is_dir(), "the tables aren't here")
-    def test_a_gap_that_is_dropped(self):
+    def test_a_gap_that_is_dropped(self) -> None:
         files = ROOT / "tests" / "files"
         for name, shows in (
             ("spent-final", ("worth 0, and nothing is worth more than 10, so 10 is missed", "Nothing of")),
@@ -186,7 +190,7 @@ class Browser(unittest.TestCase):
         self.assertIn("fails its tests: no 25 above.", shown)
         self.assertNotIn("is missed at most", shown)
 
-    def test_nothing_is_asked_of_a_network(self):
+    def test_nothing_is_asked_of_a_network(self) -> None:
         source = PAGE.read_text()
         policy = "default-src 'none'; script-src 'unsafe-inline'; worker-src blob:;"
         self.assertIn(policy, source)

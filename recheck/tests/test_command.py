@@ -5,6 +5,7 @@ import sys
 import tempfile
 import unittest
 from pathlib import Path
+from typing import Any
 from unittest import mock
 
 from support import COMMAND, ROOT, answer
@@ -14,7 +15,7 @@ from ice_recheck import command, journals
 SAMPLE = ROOT / "examples" / "sample.journal"
 
 
-def run(*words: str | bytes, **how) -> tuple[int, str, str]:
+def run(*words: str | bytes, **how: Any) -> tuple[int, str, str]:
     """The status, standard output and standard error of a run."""
     how = {"stdout": subprocess.PIPE, **how}
     command = [sys.executable, str(COMMAND), *words]
@@ -25,22 +26,22 @@ def run(*words: str | bytes, **how) -> tuple[int, str, str]:
 class Statuses(unittest.TestCase):
     """One line and one status for each call."""
 
-    def test_yes(self):
+    def test_yes(self) -> None:
         status, line, said = run(str(SAMPLE))
         self.assertEqual((status, line), (0, "yes 10\n"))
         self.assertIn("nothing is proved", said)
         self.assertEqual(run("/dev/stdin", input=SAMPLE.read_bytes())[:2], (0, "yes 10\n"))
 
-    def test_no(self):
+    def test_no(self) -> None:
         damaged = SAMPLE.read_bytes().replace(b"set 1\nset 1", b"set 0\nset 1")
         self.assertEqual(run("/dev/stdin", input=damaged)[:2], (3, "no 10 excess\n"))
 
-    def test_refused(self):
+    def test_refused(self) -> None:
         damaged = SAMPLE.read_bytes() + b"more\n"
         self.assertEqual(run("/dev/stdin", input=damaged)[:2], (2, "refused 1 50 12\n"))
         self.assertEqual(run("/dev/null")[:2], (2, "refused 1 53 -\n"))
 
-    def test_too_large(self):
+    def test_too_large(self) -> None:
         with tempfile.TemporaryDirectory() as folder:
             file = Path(folder, "large")
             with file.open("wb") as sink:
@@ -50,11 +51,11 @@ class Statuses(unittest.TestCase):
                 sink.write(b"\n")
             self.assertEqual(run(str(file))[:2], (2, "refused 1 61 -\n"))
 
-    def test_unread(self):
+    def test_unread(self) -> None:
         for name in ("absent.journal", "", "."):
             self.assertEqual(run(name, cwd=ROOT)[:2], (6, "unread 1\n"), name)
 
-    def test_gap(self):
+    def test_gap(self) -> None:
         journal = ROOT / "tests" / "files" / "spent-final.session"
         if not journal.exists():
             self.skipTest("the tables aren't here")
@@ -66,18 +67,25 @@ class Statuses(unittest.TestCase):
         self.assertEqual(run("--gap", "/dev/null")[:2], (2, "refused 1 53 -\n"))
         self.assertEqual(run("--gap", "absent.journal")[:2], (6, "unread 1\n"))
 
-    def test_words(self):
-        for words in ((), ("a", "b"), (b"\xff",), ("--gap", "a", "b"), ("--gap", b"\xff")):
+    def test_words(self) -> None:
+        wrong: tuple[tuple[str | bytes, ...], ...] = (
+            (),
+            ("a", "b"),
+            (b"\xff",),
+            ("--gap", "a", "b"),
+            ("--gap", b"\xff"),
+        )
+        for words in wrong:
             status, line, said = run(*words)
             self.assertEqual((status, line), (1, "words refused\n"), words)
             self.assertIn("usage: ice-recheck JOURNAL", said)
 
-    def test_help(self):
+    def test_help(self) -> None:
         for word in ("--help", "-h"):
             status, text, _ = run(word)
             self.assertEqual((status, text.split("\n")[0]), (0, "usage: ice-recheck JOURNAL"))
 
-    def test_no_output(self):
+    def test_no_output(self) -> None:
         with open("/dev/full", "wb") as full:
             self.assertEqual(run(str(SAMPLE), stdout=full)[0], 7)
         reading, writing = os.pipe()
@@ -85,12 +93,12 @@ class Statuses(unittest.TestCase):
         self.assertEqual(run(str(SAMPLE), stdout=writing)[0], 7)
         os.close(writing)
 
-    def test_no_memory(self):
+    def test_no_memory(self) -> None:
         limited = f"ulimit -v 120000; exec {sys.executable} {COMMAND} /dev/zero"
         ran = subprocess.run(["bash", "-c", limited], capture_output=True, check=False)
         self.assertEqual((ran.returncode, ran.stdout), (8, b""))
 
-    def test_an_interrupt(self):
+    def test_an_interrupt(self) -> None:
         with mock.patch.object(command, "answer_to", side_effect=KeyboardInterrupt):
             self.assertEqual(command.main([str(SAMPLE)]), 130)
 
@@ -98,7 +106,7 @@ class Statuses(unittest.TestCase):
 class Order(unittest.TestCase):
     """Lines at fault come before every test, wherever they stand."""
 
-    def test_lines_at_fault_come_first(self):
+    def test_lines_at_fault_come_first(self) -> None:
         lines = SAMPLE.read_text().splitlines(keepends=True)
         self.assertEqual(answer("".join(lines[1:])), ("refused 1 53 -", 2))
         self.assertEqual(answer("".join([*lines[1:], "x\n"])), ("refused 1 50 11", 2))
@@ -106,7 +114,7 @@ class Order(unittest.TestCase):
         self.assertEqual(answer("".join([*lines[:4], *lines, "x"])), ("refused 1 51 16", 2))
         self.assertEqual(answer("".join([*lines[:4], *lines])), ("no 5 order", 3))
 
-    def test_limit(self):
+    def test_limit(self) -> None:
         self.assertEqual(journals.LIMIT, 134_217_728)
 
 

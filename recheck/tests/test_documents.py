@@ -6,6 +6,7 @@ import shutil
 import tempfile
 import unittest
 from pathlib import Path
+from types import ModuleType
 
 from support import COMMAND, PROGRAM, ROOT, answer, needs_program
 
@@ -45,13 +46,13 @@ def example(name: str) -> str:
 class Examples(unittest.TestCase):
     """The numbers of examples/README.md, and the damages of the documents."""
 
-    def test_examples(self):
+    def test_examples(self) -> None:
         there = {file.stem for file in (ROOT / "examples").glob("*.journal")}
         self.assertEqual(there, EXAMPLES.keys())
         for name, line in EXAMPLES.items():
             self.assertEqual(answer(example(name)), (line, 0), name)
 
-    def test_damaged(self):
+    def test_damaged(self) -> None:
         for name, old, new, line in DAMAGED:
             lines = example(name).splitlines()
             text = "".join(f"{re.sub(old, new, each)}\n" for each in lines)
@@ -63,9 +64,11 @@ class Examples(unittest.TestCase):
 class Replayed(unittest.TestCase):
     """Every command of the documents that checks a journal, with this checker in its place."""
 
-    def test_commands(self):
+    def test_commands(self) -> None:
         loader = importlib.machinery.SourceFileLoader("replay", str(REPLAY))
-        replay = importlib.util.module_from_spec(importlib.util.spec_from_loader("replay", loader))
+        spec = importlib.util.spec_from_loader("replay", loader)
+        assert spec is not None
+        replay = importlib.util.module_from_spec(spec)
         loader.exec_module(replay)
         count = 0
         for name in replay.DOCUMENTS:
@@ -78,7 +81,7 @@ class Replayed(unittest.TestCase):
                         self.assertTrue(replay.agree(wanted, got), (text, wanted, got))
         self.assertGreater(count, 20)
 
-    def printed(self, replay, commands) -> list[list[str]]:
+    def printed(self, replay: ModuleType, commands: list[tuple[int, list[str], list[str]]]) -> list[list[str]]:
         """What the commands print, where `ice check` is this checker and all else the program."""
         with tempfile.TemporaryDirectory() as made:
             room = Path(made)
@@ -93,7 +96,8 @@ class Replayed(unittest.TestCase):
                 f'shift\nexec {COMMAND} "$@" 2>/dev/null\n'
             )
             launcher.chmod(0o755)
-            return replay.printed_by(commands, folder, room)
+            printed: list[list[str]] = replay.printed_by(commands, folder, room)
+            return printed
 
 
 if __name__ == "__main__":

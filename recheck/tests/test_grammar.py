@@ -2,6 +2,7 @@
 import re
 import unittest
 from fractions import Fraction
+from typing import Any
 
 from support import ROOT
 
@@ -29,8 +30,8 @@ class Spellings(unittest.TestCase):
         for line in bad:
             self.assertFalse(is_record(line), line)
 
-    def test_fields(self):
-        for line, form, fields in (
+    def test_fields(self) -> None:
+        records: tuple[tuple[str, str, list[Any]], ...] = (
             ("ice 2 session", "ice 2", ["session"]),
             ("good a-B_3.c", "good", ["a-B_3.c"]),
             ("bidder b 0 1000000", "bidder", ["b", [0, 1000000]]),
@@ -50,10 +51,11 @@ class Spellings(unittest.TestCase):
             ("threshold -1/2 0/1", "threshold", [Fraction(-1, 2), 0]),
             ("limit balance rows 7 1", "limit", ["balance", "rows", 7, 1]),
             ("refused 2 3 bids.0.lo.1", "refused", [2, 3, "bids.0.lo.1"]),
-        ):
+        )
+        for line, form, fields in records:
             self.assertEqual(read_record(line.encode()), Record(form, fields), line)
 
-    def test_one_spelling(self):
+    def test_one_spelling(self) -> None:
         bad = ["", " ", "assign ", " assign", "assign 1", "ASSIGN", "assign\r", "assign\t", "sets"]
         bad += ["settle", "settle ", "settle 01", "settle +1", "settle -0", "settle 1.0"]
         bad += ["settle 1 ", "settle  1", "settle 1 1", "settle 1_0", "settle 0x1", "settle 1e0"]
@@ -61,18 +63,18 @@ class Spellings(unittest.TestCase):
         bad += ["settle " + "9" * 9000, "set 012", "set " + "1" * 201, "set ", "good \xe9"]
         self.check(["settle 1", "set " + "1" * 200], bad)
 
-    def test_names(self):
+    def test_names(self) -> None:
         good = ["good " + "x" * 32, "good -", "good .", "good _"]
         self.check(good, ["good " + "x" * 33, "good a/b", "good a~", "good"])
 
-    def test_fractions(self):
+    def test_fractions(self) -> None:
         good = ["0/1", "1/1000", "-1/3", f"{10**18}/1", f"-{10**18}/7"]
         bad = ["0/2", "2/4", "1/1001", "1/0", "1/-2", "-0/1", "1", "1/", "/1", "1/2/3"]
         bad += [f"{10**18 + 1}/1"]
         form = "threshold {} 0/1"
         self.check([form.format(word) for word in good], [form.format(word) for word in bad])
 
-    def test_lists(self):
+    def test_lists(self) -> None:
         value, multiplier = " -1000000000", " 72057594037927936"
         good = [f"leaf{' 0' * 32}", f"prices 1{' 1' * 32}", f"bidder b{' 1' * 32}"]
         good += [f"submit b 200{value * 200} 200{value * 200}", f"near 1 31{multiplier}"]
@@ -84,7 +86,7 @@ class Spellings(unittest.TestCase):
         bad += ["near 1 32 0", "near 0 0 0", f"near 1 0{multiplier[:-1]}7", "near 33" + " 0 1" * 33]
         self.check(good, bad)
 
-    def test_ends_of_ranges(self):
+    def test_ends_of_ranges(self) -> None:
         value, total, multiplier = (-(10**9), 10**9), (-4 * 10**14, 4 * 10**14), (-(2**56), 2**56)
         denominator, violation, node, bidder = (1, 2**32), (0, 2**100), (0, 199), (0, 39)
         for form, low, high in (
@@ -138,10 +140,11 @@ class Spellings(unittest.TestCase):
             inside = [form.format(number) for number in (low, low + 1, high)]
             self.check(inside, [form.format(number) for number in (low - 1, high + 1)])
 
-    def test_every_record_of_the_document_is_a_form(self):
+    def test_every_record_of_the_document_is_a_form(self) -> None:
         table = (ROOT / "docs" / "formats.md").read_text().split("| Record | Fields |")[1]
         rows = table.split("\n\n")[0].splitlines()[2:]
-        cells = [TABLE_ROW.match(row)[1] for row in rows]
+        cells = [match[1] for match in map(TABLE_ROW.match, rows) if match]
+        self.assertEqual(len(cells), len(rows))
         spellings = [text for cell in cells for text in re.findall(r"`([^`]*)`", cell)]
         words = [" ".join(re.findall(r"\b[a-z0-9]+\b", text)) for text in spellings]
         self.assertEqual(set(words) | {f"verdict {number}" for number in (43, 44, 45)}, set(FORMS))

@@ -15,12 +15,12 @@ class Program(unittest.TestCase):
             with self.subTest(name, command=command):
                 self.assertEqual(judge(journal), answer_of_program(journal, command))
 
-    def test_samples(self):
+    def test_samples(self) -> None:
         self.assertTrue(JOURNALS)
         for file in JOURNALS:
             self.agree(file.name, file.read_bytes())
 
-    def test_a_long_journal(self):
+    def test_a_long_journal(self) -> None:
         file = ROOT / "crates" / "ice_cli" / "data" / "long.journal"
         if not file.exists():
             self.skipTest("the crates aren't here")
@@ -28,11 +28,11 @@ class Program(unittest.TestCase):
         self.agree("as it is", journal)
         self.agree("without its last byte but one", journal[:-2] + b"\n")
 
-    def test_rows_of_other_tests(self):
+    def test_rows_of_other_tests(self) -> None:
         for journal in rows():
             self.agree(str(journal), journal)
 
-    def test_mutants(self):
+    def test_mutants(self) -> None:
         self.assertEqual(mutants.differences(mutants.COUNT), [])
 
 

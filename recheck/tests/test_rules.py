@@ -37,7 +37,7 @@ class Rules(unittest.TestCase):
 class Section(Rules):
     """What the makers of trees and exchanges refuse, at the line that was read last."""
 
-    def test_order(self):
+    def test_order(self) -> None:
         goods = [*ASSIGN, "good A"]
         for lines in (
             [ASSIGN[0], "good A"],
@@ -56,11 +56,11 @@ class Section(Rules):
         ):
             self.fails_last(lines, "order")
 
-    def test_goods(self):
+    def test_goods(self) -> None:
         self.fails_last([*ASSIGN, "good A", "exact A"])
         self.fails_last([*ASSIGN, *[f"good G{number}" for number in range(33)]])
 
-    def test_trees(self):
+    def test_trees(self) -> None:
         front = [*ASSIGN, "good A", "bidder b 0"]
         for node in (
             "node buy 1 1 0 0",
@@ -78,7 +78,7 @@ class Section(Rules):
         leaves = ["node buy 0 1 0 0"] * 198
         self.fails_last([*front, *two_levels, *leaves, "node buy 0 1 0 0"])
 
-    def test_bidders(self):
+    def test_bidders(self) -> None:
         goods = [*ASSIGN, "good A"]
         self.fails_last([*goods, "bidder b 0 0"])
         self.fails_last([*goods, *SELLER, *["bidder s 0", BUYER[1]]])
@@ -88,7 +88,7 @@ class Section(Rules):
         self.found([*goods, *full], f"no {len(goods) + len(full) + 1} short")
         self.fails_last([*goods, *full, *BUYER])
 
-    def test_sales(self):
+    def test_sales(self) -> None:
         goods = [*ASSIGN, "good A", "good B"]
         either = ["node choose 0 1 2 0 0", "node sell 0 2 0 0", "node sell 0 3 0 0"]
         swap = ["node choose 2 2 2 0 0", "node sell 0 3 0 0", "node buy 0 1 0 0"]
@@ -117,7 +117,7 @@ class Sets(Rules):
         "set 1",
     ]
 
-    def test_satisfied(self):
+    def test_satisfied(self) -> None:
         for bits, rule in (
             ("00000", "count"),
             ("0000000", "count"),
@@ -136,12 +136,12 @@ class Sets(Rules):
         for bits, worth in (("000000", -10), ("111100", 7), ("111101", 8), ("101101", 0)):
             self.found([*self.FRONT, f"set {bits}", "end assign"], f"yes {worth}")
 
-    def test_exact(self):
+    def test_exact(self) -> None:
         front = [line.replace("good A", "exact A") for line in self.FRONT]
         self.fails_last([*front, "set 111100"], "excess")
         self.found([*front, "set 111101", "end assign"], "yes 8")
 
-    def test_end(self):
+    def test_end(self) -> None:
         front = [*self.FRONT, "set 000000"]
         for line in ("set 1", "end regret", "assign"):
             self.fails_last([*front, line], "order")
@@ -176,14 +176,14 @@ class Lists(Rules):
         "prices 1 11",
     ]
 
-    def test_a_list_that_may_go_on_is_short(self):
+    def test_a_list_that_may_go_on_is_short(self) -> None:
         self.found([*self.FRONT, "accuracy 0 1"], "no 24 short")
         self.found([*self.FRONT, "accuracy 0 1", "row 1 9 1"], "no 25 short")
         self.found([*self.FRONT, "accuracy 0 1", "row 1 9 1", "assign"], "no 24 accuracy")
         self.found([*self.FRONT, "accuracy 0 1", "balance 1"], "no 25 short")
         self.found([*self.FRONT, "accuracy 0 1", "balance 1", "assign"], "no 24 balance")
 
-    def test_the_200th_row_ends_a_list(self):
+    def test_the_200th_row_ends_a_list(self) -> None:
         front = [*self.FRONT, "accuracy 0 1"]
         self.found([*front, *["row 1 1 0"] * 199], "no 223 short")
         self.found([*front, *["row 1 1 0"] * 200], "no 223 accuracy")
@@ -195,7 +195,7 @@ class Lists(Rules):
         self.found([*balance, "row 1 1 1"], "no 425 order")
         self.found([*balance, "end open"], "no 425 closed")
 
-    def test_rows(self):
+    def test_rows(self) -> None:
         front = [*self.FRONT, "accuracy 0 9", "row 1 1 0"]
         for line, rule in (
             ("row 2 1 1", "count"),
@@ -204,7 +204,7 @@ class Lists(Rules):
         ):
             self.fails_last([*front, line], rule)
 
-    def test_stops(self):
+    def test_stops(self) -> None:
         front = [*self.FRONT, "accuracy 0 1", "balance 1", "row 1 1 1"]
         for line, rule in (
             ("end open", "closed"),
@@ -222,7 +222,7 @@ class Lists(Rules):
         self.fails_last([*front, "submit z 0 0", "submit z 0 0"], "order")
         self.fails_last([*front, "submit z 0 0", "verdict 44"], "verdict")
 
-    def test_limits(self):
+    def test_limits(self) -> None:
         for line in ("limit accuracy den 0 1", "limit balance rows 9 9"):
             self.fails_last([*self.FRONT[:-1], line], "closed")
         self.fails_last([*self.FRONT, "limit accuracy den 0 1"], "order")

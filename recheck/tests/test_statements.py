@@ -2,6 +2,7 @@
 from __future__ import annotations
 
 import subprocess
+import sys
 import unittest
 from collections.abc import Iterator
 
@@ -10,10 +11,9 @@ from support import HERE, ROOT
 from ice_recheck.journals import check
 from ice_recheck.statements import audit
 
-try:
+HAS_TOML = sys.version_info >= (3, 11)
+if sys.version_info >= (3, 11):
     import tomllib
-except ImportError:  # before Python 3.11
-    tomllib = None
 
 TABLE = ROOT / "tests/rows/audit.toml"
 FILES = ROOT / "tests/files"
@@ -48,8 +48,8 @@ def rows() -> Iterator[tuple[str, str, str]]:
 class Statements(unittest.TestCase):
     """What is said of a statement."""
 
-    @unittest.skipUnless(tomllib, "Python is older than 3.11")
-    def test_rows(self):
+    @unittest.skipUnless(HAS_TOML, "Python is older than 3.11")
+    def test_rows(self) -> None:
         found = list(rows())
         self.assertGreater(len(found), 70)
         for name, text, output in found:
@@ -57,14 +57,14 @@ class Statements(unittest.TestCase):
                 line, status = audit(text.encode())
                 self.assertEqual((line, status), (output, STATUSES[output.split()[0]]))
 
-    def test_cut_statements_are_short(self):
+    def test_cut_statements_are_short(self) -> None:
         for file in STATEMENTS:
             lines = file.read_text().splitlines(keepends=True)
             for count in range(len(lines)):
                 answer = audit("".join(lines[:count]).encode())
                 self.assertEqual(tuple(answer), (f"no {count + 1} short", 3), (file.name, count))
 
-    def test_lines_left_out_or_doubled(self):
+    def test_lines_left_out_or_doubled(self) -> None:
         for file in STATEMENTS:
             lines = file.read_text().splitlines(keepends=True)
             for place, line in enumerate(lines):
@@ -73,13 +73,13 @@ class Statements(unittest.TestCase):
                     answer = audit("".join(other).encode())
                     self.assertEqual(answer.status, 3, (file.name, place + 1))
 
-    def test_each_opinion_on_its_own_kind(self):
+    def test_each_opinion_on_its_own_kind(self) -> None:
         statement = STATEMENTS[0].read_bytes()
         self.assertEqual(tuple(check(statement)), ("refused 1 50 1", 2))
         journal = (FILES / "rounds.session").read_bytes()
         self.assertEqual(tuple(audit(journal)), ("no 1 order", 3))
 
-    def test_the_command(self):
+    def test_the_command(self) -> None:
         command = [str(HERE.parent / "ice-reaudit"), str(FILES / "seller.statement")]
         ran = subprocess.run(command, capture_output=True, text=True, check=False)
         said = "ice-reaudit: a second opinion, of which nothing is proved\n"

@@ -49,7 +49,7 @@ def called(output, *words):
 class Collect(unittest.TestCase):
     """What goes into the round file."""
 
-    def test_the_order_is_that_of_the_words(self):
+    def test_the_order_is_that_of_the_words(self) -> None:
         other = BID | {"lo": HI}
         status, made, errors = collect(*files(BID, {"bids": [other, BID]}, other))
         self.assertEqual((status, made), (0, {"bids": [BID, other, BID, other]}))
@@ -57,11 +57,11 @@ class Collect(unittest.TestCase):
         told = [f"{again}: the first accepted one counts", "4 bids taken, 0 put aside"]
         self.assertEqual(errors, told)
 
-    def test_a_market_of_flat_bids(self):
+    def test_a_market_of_flat_bids(self) -> None:
         status, made, _ = collect({"m.json": FLAT, "b.json": BID}, "m.json", "b.json")
         self.assertEqual((status, made), (0, {"bids": [BID]}))
 
-    def test_what_is_put_aside(self):
+    def test_what_is_put_aside(self) -> None:
         for bid, words in [
             (7, "[2] at -: a number where a bid is due"),
             ({**BID, "more": 1}, "[2] at -: a bid has just the members bidder, lo and hi: `more`"),
@@ -103,17 +103,17 @@ class Collect(unittest.TestCase):
             self.assertIn(words, errors[0])
             self.assertEqual(errors[1:], ["1 bid taken, 1 put aside"])
 
-    def test_one_of_a_round_file(self):
+    def test_one_of_a_round_file(self) -> None:
         status, made, errors = collect(*files({"bids": [BID, 7]}))
         self.assertEqual((status, made), (3, {"bids": [BID]}))
         self.assertIn("0.json: bids.1: put aside: [2] at -", errors[0])
 
-    def test_the_401st_bid(self):
+    def test_the_401st_bid(self) -> None:
         status, made, errors = collect(*files({"bids": [BID] * 399}, BID, BID))
         self.assertEqual((status, len(made["bids"])), (3, 400))
         self.assertEqual(errors[0], "2.json: put aside: [4] at bids: a round has at most 400 bids")
 
-    def test_a_file_of_more_than_400_bids_is_put_aside_as_a_whole(self):
+    def test_a_file_of_more_than_400_bids_is_put_aside_as_a_whole(self) -> None:
         status, made, errors = collect(*files({"bids": [BID] * 401}, BID))
         self.assertEqual((status, made), (3, {"bids": [BID]}))
         why = "0.json: put aside: [4] at bids: 401 bids: a round has at most 400 bids"
@@ -122,7 +122,7 @@ class Collect(unittest.TestCase):
         status, made, errors = collect(*files('{"bids":[' + "7," * 300_000 + "7]}", BID))
         self.assertEqual((status, made, len(errors)), (3, {"bids": [BID]}, 2))
 
-    def test_of_one_file_the_first_20_bids_put_aside_have_a_line(self):
+    def test_of_one_file_the_first_20_bids_put_aside_have_a_line(self) -> None:
         status, made, errors = collect(*files({"bids": [7] * 100 + [BID]}, 7))
         self.assertEqual((status, made), (3, {"bids": [BID]}))
         self.assertTrue(errors[19].startswith("0.json: bids.19: put aside"), errors[19])
@@ -130,7 +130,7 @@ class Collect(unittest.TestCase):
         self.assertTrue(errors[21].startswith("1.json: put aside"), errors[21])
         self.assertEqual(errors[22:], ["1 bid taken, 101 put aside"])
 
-    def test_no_more_of_a_file_is_read_than_shows_that_it_is_too_long(self):
+    def test_no_more_of_a_file_is_read_than_shows_that_it_is_too_long(self) -> None:
         with tempfile.TemporaryDirectory() as folder:
             for name, value in (("m.json", EXCHANGE), ("1.json", BID)):
                 (Path(folder) / name).write_text(json.dumps(value))
@@ -140,7 +140,7 @@ class Collect(unittest.TestCase):
         self.assertEqual((ran.returncode, ran.stdout), (3, json.dumps({"bids": [BID]}) + "\n"))
         self.assertIn("0.json: put aside: the file is longer than 16,777,216 bytes", ran.stderr)
 
-    def test_a_member_that_stands_twice(self):
+    def test_a_member_that_stands_twice(self) -> None:
         bid = '{"bidder": "b", "lo": %s, "hi": %s, "lo": %s}' % (LO, HI, LO)
         why = "put aside: the member `lo` stands twice, and only one can be meant"
         for text, place in ((bid, "0.json"), (f'{{"bids": [{bid}]}}', "0.json: bids.0")):
@@ -152,7 +152,7 @@ class Collect(unittest.TestCase):
         self.assertEqual((status, made), (3, {"bids": [BID]}))
         self.assertEqual(errors[0], f"0.json: {why.replace('`lo`', '`bids`')}")
 
-    def test_a_folder_has_its_files_in_the_order_of_their_names(self):
+    def test_a_folder_has_its_files_in_the_order_of_their_names(self) -> None:
         other = BID | {"lo": HI}
         with tempfile.TemporaryDirectory() as folder:
             words = ["m.json", folder, "0.json"]
@@ -164,7 +164,7 @@ class Collect(unittest.TestCase):
         self.assertEqual((status, made), (0, {"bids": [other, BID, BID]}))
         self.assertEqual(errors[0], f"{folder}/3.txt: not read: its name doesn't end in .json")
 
-    def test_the_bids_put_aside_do_not_overwrite_what_is_read(self):
+    def test_the_bids_put_aside_do_not_overwrite_what_is_read(self) -> None:
         for words in (["0.json", "--aside", "m.json"], ["0.json", "--aside", "./0.json"]):
             status, made, errors = collect(files(BID)[0], "m.json", *words)
             self.assertEqual((status, made), (1, None))
@@ -175,7 +175,7 @@ class Collect(unittest.TestCase):
             self.assertEqual(collect(files(BID)[0], *words)[0], 1)
             self.assertEqual(json.loads((Path(folder) / "1.json").read_text()), BID)
 
-    def test_bids_put_aside_are_written(self):
+    def test_bids_put_aside_are_written(self) -> None:
         bad = {**BID, "lo": [0, 0.5]}
         with tempfile.NamedTemporaryFile() as file:
             status, _, _ = collect(*files(BID, bad, "{"), "--aside", file.name)
@@ -185,7 +185,7 @@ class Collect(unittest.TestCase):
         self.assertEqual([each["bid"] for each in aside], [{**BID, "lo": [0, "0.5"]}, None])
         self.assertIn("[3] at lo.1", aside[0]["reason"])
 
-    def test_what_can_not_be_read(self):
+    def test_what_can_not_be_read(self) -> None:
         for words, wanted in [
             (["m.json", "absent.json"], 6),
             (["absent.json", "0.json"], 6),
@@ -196,7 +196,7 @@ class Collect(unittest.TestCase):
             status, made, errors = collect(files(BID)[0], *words)
             self.assertEqual((status, made), (wanted, None), errors)
 
-    def test_what_can_not_be_written_is_named(self):
+    def test_what_can_not_be_written_is_named(self) -> None:
         status, made, errors = collect(files(BID)[0], "m.json", "0.json", "--aside", "/dev/full")
         self.assertEqual((status, made), (7, None))
         self.assertEqual(errors[-1], "/dev/full: No space left on device")
@@ -205,7 +205,7 @@ class Collect(unittest.TestCase):
         told = "collect: standard output: No space left on device"
         self.assertEqual((ran.returncode, ran.stderr.splitlines()[-1]), (7, told))
 
-    def test_bids_may_stand_behind_an_option(self):
+    def test_bids_may_stand_behind_an_option(self) -> None:
         words = ["m.json", "--named", "1-b.json", "--named", "2-b.json"]
         made = collect({"m.json": EXCHANGE, "1-b.json": BID, "2-b.json": BID}, *words)[1]
         self.assertEqual(made, {"bids": [BID, BID]})
@@ -223,7 +223,7 @@ class Senders(unittest.TestCase):
         status, made, errors = collect({"m.json": market, **bids}, "m.json", *bids, *words)
         return status, [bid["bidder"] for bid in made["bids"]], errors
 
-    def test_a_file_has_no_bid_of_another_bidder(self):
+    def test_a_file_has_no_bid_of_another_bidder(self) -> None:
         bids = {"1405-choir.json": self.OPERA, "1410-opera.json": self.OPERA}
         status, taken, errors = self.collected(bids, "--named")
         self.assertEqual((status, taken), (3, ["opera"]))
@@ -234,19 +234,19 @@ class Senders(unittest.TestCase):
         self.assertEqual((status, taken), (3, ["choir"]))
         self.assertEqual(errors[0], f"1405-choir.json: bids.1: put aside: {why}")
 
-    def test_a_name_may_have_the_sign_that_cuts_it(self):
+    def test_a_name_may_have_the_sign_that_cuts_it(self) -> None:
         bid = {"bidder": "Alpine-Connect", "lo": [1], "hi": [1]}
         for name, aside in (("14:05_1-Alpine-Connect.json", False), ("1405-Alpine.json", True)):
             _, _, errors = self.collected({name: bid}, "--named")
             self.assertEqual("the file is of" in errors[0], aside, errors)
 
-    def test_a_file_with_another_name_is_nobodys(self):
+    def test_a_file_with_another_name_is_nobodys(self) -> None:
         for name in ("choir.json", "late-choir.json", "1405-choir.txt", "1405choir.json", "1405-.json"):
             status, taken, errors = self.collected({name: self.CHOIR}, "--named")
             self.assertEqual((status, taken), (3, []))
             self.assertIn("the file's name is not of the form TIME-NAME.json", errors[0])
 
-    def test_without_a_test_of_senders_what_looks_odd_is_named(self):
+    def test_without_a_test_of_senders_what_looks_odd_is_named(self) -> None:
         bids = {"1405-choir.json": {"bids": [self.OPERA, self.CHOIR]}, "1410-opera.json": self.OPERA}
         status, taken, errors = self.collected(bids)
         self.assertEqual((status, taken), (0, ["opera", "choir", "opera"]))
@@ -271,7 +271,7 @@ class Edited(unittest.TestCase):
         return json.loads(ran.stdout)["bids"]
 
     @unittest.skipUnless(shutil.which("jq"), "jq is missing")
-    def test_both_forms(self):
+    def test_both_forms(self) -> None:
         for market in (EXCHANGE, FLAT):
             bids = self.bids(market)
             self.assertEqual([bid["bidder"] for bid in bids], ["s", "b"])

@@ -20,7 +20,7 @@ def damaged(data: bytes, draw: random.Random) -> bytes:
 class Damage(unittest.TestCase):
     """Every damaged file is taken or refused with words."""
 
-    def test_tables(self):
+    def test_tables(self) -> None:
         draw, seen = random.Random(1), set()
         table = b"".join((ROOT / "examples/packages.csv").read_bytes().splitlines(True)[:15])
         for text in [damaged(table, draw) for _ in range(TABLES)]:
@@ -30,7 +30,7 @@ class Damage(unittest.TestCase):
             self.assertEqual(made is None, status == 2, text)
         self.assertEqual(seen, {0, 2})
 
-    def test_rounds(self):
+    def test_rounds(self) -> None:
         draw, seen = random.Random(2), set()
         for text in [damaged(TABLE.encode(), draw) for _ in range(BIDS)]:
             status, made, _ = sheet(text, "--market", "m.json", m=EXCHANGE)
@@ -38,7 +38,7 @@ class Damage(unittest.TestCase):
             self.assertEqual(made is None, status == 2, text)
         self.assertEqual(seen, {0, 2})
 
-    def test_bids(self):
+    def test_bids(self) -> None:
         draw, seen = random.Random(3), set()
         bid = b'{"bidder": "b", "lo": [0, 30, 0, 0, 20, 0], "hi": [0, 40, 0, 0, 25, 0]}'
         for text in [damaged(bid, draw) for _ in range(BIDS)]:

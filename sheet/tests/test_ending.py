@@ -16,7 +16,7 @@ COMMANDS = (["examples/collect.py", "{}", "{}"], ["examples/sheet.py", "{}"])
 class Ending(unittest.TestCase):
     """Both commands."""
 
-    def test_an_interrupt(self):
+    def test_an_interrupt(self) -> None:
         for command in COMMANDS:
             with tempfile.TemporaryDirectory() as folder:
                 pipe = Path(folder, "pipe")
@@ -38,7 +38,7 @@ class Ending(unittest.TestCase):
             self.assertEqual((ran.returncode, output), (130, b""))
             self.assertEqual(errors.decode(), f"{name}: interrupted\n")
 
-    def test_want_of_memory(self):
+    def test_want_of_memory(self) -> None:
         for command in COMMANDS:
             with tempfile.TemporaryDirectory() as folder:
                 file = Path(folder, "file")

@@ -12,7 +12,7 @@ EACH = PORT + "Port,each,-100,-90,-40,\nLine,each,110,130,,5\n"
 class Lots(unittest.TestCase):
     """Lines `each`."""
 
-    def test_each_number_of_units_can_be_taken(self):
+    def test_each_number_of_units_can_be_taken(self) -> None:
         for units in range(1, 130):
             for sign in (1, -1):
                 lots = lots_of(sign * units)
@@ -24,7 +24,7 @@ class Lots(unittest.TestCase):
         self.assertEqual(lots_of(5), [1, 2, 2])
         self.assertEqual(len(lots_of(1000)), 10)
 
-    def test_a_seller_and_a_buyer(self):
+    def test_a_seller_and_a_buyer(self) -> None:
         status, made, errors = market(EACH)
         self.assertEqual(status, 0, errors)
         port, line = made["bidders"]
@@ -37,11 +37,11 @@ class Lots(unittest.TestCase):
         self.assertEqual(line, {"name": "Line", "own": {}, "or": bought})
         self.assertEqual(errors, ["2 bidders, 2 goods, 9 packages"])
 
-    def test_beside_other_lines(self):
+    def test_beside_other_lines(self) -> None:
         status, made, errors = market(EACH + "Port,or,-50,-40,,-1\nPort,each,-70,-60,,-2\n")
         self.assertEqual((status, len(made["bidders"][0]["or"])), (0, 9), errors)
 
-    def test_a_round(self):
+    def test_a_round(self) -> None:
         made = market(EACH)[1]
         tighter = EACH.replace("-100,-90", "-95,-95").replace("110,130", "120,125")
         status, bids, errors = sheet(tighter, "--market", "m.json", m=made)
@@ -54,7 +54,7 @@ class Lots(unittest.TestCase):
         errors = sheet(looser, "--market", "m.json", m=made)[2]
         self.assertEqual((len(errors), errors[1][:7]), (2, "line 3:"))
 
-    def test_what_is_refused(self):
+    def test_what_is_refused(self) -> None:
         for row, words in [
             ("Port,each,-100,-90,-40,-40", "line 3, column B (bid): a line `each` has units of one"),
             ("Port,each,-100,-90,,", "line 3: a package with no units"),
@@ -78,14 +78,14 @@ class AllOrNone(unittest.TestCase):
         self.assertEqual(status, 0, errors)
         return errors[:-1]
 
-    def test_a_word_for_it(self):
+    def test_a_word_for_it(self) -> None:
         word = "Port sells 40 of KW49 in one lot, all or none"
         behind = ": a line `each` sells any number"
         self.assertEqual(self.told("Port,or,-4000,-4000,-40,\n"), [word + behind])
         both = "Port,or,-4000,-4000,-40,\nPort,or,-4000,-4000,,-40\n"
         self.assertEqual(self.told(both), [f"{word} (likewise KW50){behind}"])
 
-    def test_where_none_is_due(self):
+    def test_where_none_is_due(self) -> None:
         for rows in (
             "Port,each,-100,-90,-40,\n",
             "Port,or,-9,-9,-1,\nPort,or,-80,-80,-9,\n",
@@ -95,7 +95,7 @@ class AllOrNone(unittest.TestCase):
         ):
             self.assertEqual(self.told(rows), [], rows)
 
-    def test_many_of_them(self):
+    def test_many_of_them(self) -> None:
         rows = "".join(f"P{n}0,own,,,9,\nP{n}0,or,-9,-9,-9,\n" for n in range(10, 17))
         errors = self.told(rows + "Port,each,-9,-9,-1,\n")
         self.assertEqual((len(errors), errors[5]), (6, "lots of all or none: and 2 more"))

@@ -51,27 +51,27 @@ BIDS = [
 class Rounds(unittest.TestCase):
     """Tables that fit their market."""
 
-    def check(self, table, bids):
+    def check(self, table, bids) -> None:
         for file in (FLAT, EXCHANGE):
             status, made, errors = sheet(table, "--market", "m.json", m=file)
             self.assertEqual((status, made), (0, {"bids": bids}), errors)
 
-    def test_the_order_of_lines_does_not_matter(self):
+    def test_the_order_of_lines_does_not_matter(self) -> None:
         head, *rows = TABLE.splitlines(keepends=True)
         self.check(TABLE, BIDS)
         self.check(head + "".join(reversed(rows)), BIDS[::-1])
 
-    def test_the_order_of_goods_does_not_matter(self):
+    def test_the_order_of_goods_does_not_matter(self) -> None:
         self.check("bidder,bid,lo,hi,B,A\nb,xor,20,25,,1\nb,xor,30,40,1,1\n", BIDS[1:])
 
-    def test_changed_bidders_alone(self):
+    def test_changed_bidders_alone(self) -> None:
         bid = {"bidder": "b", "lo": [0, 31, 0, 0, 21, 0], "hi": [0, 39, 0, 0, 24, 0]}
         self.check(HEAD + "b,xor,21,24,1,\nb,xor,31,39,1,1\n", [bid])
 
-    def test_what_is_owned_may_be_left_out(self):
+    def test_what_is_owned_may_be_left_out(self) -> None:
         self.check(TABLE.replace("s,own,,,2,1\n", ""), BIDS)
 
-    def test_without_a_market(self):
+    def test_without_a_market(self) -> None:
         status, made, errors = sheet(TABLE)
         self.assertEqual((status, made), (0, {"bids": BIDS}))
         self.assertIn("--market FILE matches them", errors[-1])
@@ -80,13 +80,13 @@ class Rounds(unittest.TestCase):
 class Unfit(unittest.TestCase):
     """Tables that don't fit their market."""
 
-    def check(self, rows, *wanted, file=EXCHANGE):
+    def check(self, rows, *wanted, file=EXCHANGE) -> None:
         status, made, errors = sheet(HEAD + rows, "--market", "m.json", m=file)
         self.assertEqual((status, made, len(errors)), (2, None, len(wanted)), errors)
         for line, words in zip(errors, wanted):
             self.assertIn(words, line)
 
-    def test_packages(self):
+    def test_packages(self) -> None:
         self.check(
             "b,xor,30,40,1,1\nb,xor,20,25,2,\n",
             "line 2: the package +1 A of b has no line",
@@ -100,17 +100,17 @@ class Unfit(unittest.TestCase):
             "b,or,30,40,1,1\nb,or,20,25,1,\n", "line 2: the packages of b are `xor` in the market"
         )
 
-    def test_bidders_and_goods(self):
+    def test_bidders_and_goods(self) -> None:
         self.check("bb,xor,1,2,1,\n", "line 2: the market has no bidder `bb`")
         status, _, errors = sheet("bidder,bid,lo,hi,C\nb,xor,1,2,1\n", "--market", "m.json", m=FLAT)
         self.assertEqual((status, errors[0]), (2, "t.csv: line 1: the market has no good `C`"))
         self.check("s,own,,,1,1\n", "line 2: s owns something else in the market")
 
-    def test_a_name_that_is_almost_there(self):
+    def test_a_name_that_is_almost_there(self) -> None:
         named = json.loads(json.dumps(FLAT).replace('"b"', '"baker"'))
         self.check("bakre,xor,1,2,1,\n", "no bidder `bakre`: is it `baker`?", file=named)
 
-    def test_a_tree(self):
+    def test_a_tree(self) -> None:
         trees = copy.deepcopy(EXCHANGE)
         valued = tree(-20, -10, leaf("sell", "A") | {"lo": -1})
         for change in (
@@ -122,7 +122,7 @@ class Unfit(unittest.TestCase):
             trees["bidders"][0]["tree"] = EXCHANGE["bidders"][0]["tree"] | change
             self.check("s,or,-20,-10,-1,\n", "line 2: s has a tree in the market", file=trees)
 
-    def test_files_that_are_no_market(self):
+    def test_files_that_are_no_market(self) -> None:
         for place, value, words in [
             (("bidders",), 7, "`bidders` is a number where an array is due"),
             (("goods",), [7], "goods.0: a number where a name is due"),
@@ -147,14 +147,14 @@ class Unfit(unittest.TestCase):
 class Notes(unittest.TestCase):
     """What is said beside a round that is written."""
 
-    def test_values_that_are_looser(self):
+    def test_values_that_are_looser(self) -> None:
         rows = "b,xor,30,40,1,1\nb,xor,19,25,1,\n"
         status, _, errors = sheet(HEAD + rows, "--market", "m.json", m=FLAT)
         self.assertEqual(status, 0)
         self.assertTrue(errors[-1].startswith("line 3: 19 to 25 isn't within the 20 to 25"), errors)
         self.assertIn("verdict 40", errors[-1])
 
-    def test_alike_packages(self):
+    def test_alike_packages(self) -> None:
         table = TABLE + "s,or,-30,-20,-1,\n"
         flat = market(table)[1]
         status, made, errors = sheet(table, "--market", "m.json", m=flat)
@@ -170,18 +170,18 @@ class Trees(unittest.TestCase):
         words = ("--settings", "s.json", "--trees", "o.json")
         return sheet(TABLE, *words, s=SETTINGS, o=value)
 
-    def test_an_exchange_with_both(self):
+    def test_an_exchange_with_both(self) -> None:
         wanted = EXCHANGE | {"bidders": [*EXCHANGE["bidders"], OTHER]}
         for value in ([OTHER], wanted | {"bidders": [OTHER]}):
             status, made, errors = self.trees(value)
             self.assertEqual((status, made), (0, wanted))
             self.assertEqual(errors, ["2 bidders, 2 goods, 4 packages, and 1 bidder with trees"])
 
-    def test_names_that_look_like_slips(self):
+    def test_names_that_look_like_slips(self) -> None:
         errors = self.trees([OTHER | {"name": "S"}])[2]
         self.assertEqual(errors[0], "bidders `s` and `S` have almost the same name: are they two?")
 
-    def test_what_is_refused(self):
+    def test_what_is_refused(self) -> None:
         for value, words in [
             (7, "an array of bidders with trees is due"),
             ([7], "bidder 0: a number where an object is due"),
@@ -199,7 +199,7 @@ class Trees(unittest.TestCase):
 class Examples(unittest.TestCase):
     """The table of the examples, and its files."""
 
-    def test_flat_bids_and_round(self):
+    def test_flat_bids_and_round(self) -> None:
         table = (ROOT / "examples/packages.csv").read_bytes()
         flat = json.loads((ROOT / "examples/packages.json").read_text())
         status, made, _ = sheet(table, "--settings", "s.json", s=flat["settings"])

@@ -21,18 +21,18 @@ HEADS = "bidder,bid,lo,hi,berth\n"
 class Spelling(unittest.TestCase):
     """No character that a terminal obeys is written."""
 
-    def assert_prints(self, lines):
+    def assert_prints(self, lines) -> None:
         """Every line is made of characters that print."""
         self.assertTrue(lines)
         for line in lines:
             self.assertTrue(line.isprintable(), ascii(line))
 
-    def test_how_characters_are_spelled(self):
+    def test_how_characters_are_spelled(self) -> None:
         self.assertEqual(spelled("\x1b[2J\u202e\u009b\x7f"), r"\x1b[2J\u202e\x9b\x7f")
         self.assertEqual(spelled("Bäcker, 東京 −5"), "Bäcker, 東京 −5")
         self.assertEqual(spelled("\ud800\U000e0001\n"), r"\ud800\U000e0001\n")
 
-    def test_collected_bids(self):
+    def test_collected_bids(self) -> None:
         bid = {"bidder": "b", "lo": [], "hi": []}
         for name in NAMES:
             for value in ({**bid, name: 1}, {**bid, "bidder": name}, {"bids": [{**bid, name: 1}]}):
@@ -42,7 +42,7 @@ class Spelling(unittest.TestCase):
             text = '{"bidder": "b", %s: 1, %s: 2}' % (json.dumps(name), json.dumps(name))
             self.assert_prints(collect({"m.json": EXCHANGE, "b.json": text}, "m.json", "b.json")[2])
 
-    def test_names_of_files(self):
+    def test_names_of_files(self) -> None:
         name = "1405-\x1b[2J\u202e.json"
         for words in ((name,), (name, "--named"), ("absent\x1b[2J",), ("--absent\x1b[2J",)):
             files = {"m.json": EXCHANGE, name: 7}
@@ -50,7 +50,7 @@ class Spelling(unittest.TestCase):
             self.assertIn(status, (1, 3, 6))
             self.assert_prints(errors.splitlines())
 
-    def test_tables(self):
+    def test_tables(self) -> None:
         for name in NAMES:
             cell = '"' + name + '"'
             for table in (
@@ -67,7 +67,7 @@ class Spelling(unittest.TestCase):
                 self.assertEqual(status, 2, table)
                 self.assert_prints(errors)
 
-    def test_settings_and_markets(self):
+    def test_settings_and_markets(self) -> None:
         for name in NAMES:
             table = f"{HEADS}p,own,,,1\np,or,-1,-1,-1\n"
             status, _, errors = sheet(table, json.dumps({**SETTINGS, name: 1}))
@@ -82,7 +82,7 @@ class Spelling(unittest.TestCase):
                 self.assertEqual((status, errors[0][:6]), (2, "m.json"))
                 self.assert_prints(errors)
 
-    def test_the_program_s_own_line_of_words(self):
+    def test_the_program_s_own_line_of_words(self) -> None:
         """The place of a fault, as the launcher `ice` shows it."""
         for name in NAMES:
             for value, words in (
@@ -94,7 +94,7 @@ class Spelling(unittest.TestCase):
                 told = self.value_at(value, *words)
                 self.assertTrue(told and told.isprintable(), ascii(told))
 
-    def test_the_program_s_own_line_of_words_stays_short(self):
+    def test_the_program_s_own_line_of_words_stays_short(self) -> None:
         names = {f"{n} {'x' * 1000}": 1 for n in range(1000)}
         told = self.value_at({"bids": [names]}, "2", "bids.0", "run")
         self.assertLess(len(told), 500)

@@ -20,22 +20,22 @@ def with_row(row: str) -> str:
 class Taken(unittest.TestCase):
     """Tables that say the same as the small one."""
 
-    def check(self, table, goods=("A", "B")):
+    def check(self, table, goods=("A", "B")) -> None:
         status, made, errors = market(table)
         self.assertEqual((status, made["goods"]), (0, list(goods)), errors)
         self.assertEqual(made["bidders"], BIDDERS)
 
-    def test_marks_between_cells(self):
+    def test_marks_between_cells(self) -> None:
         for mark in ",;\t":
             self.check(SMALL.replace(",", mark))
 
-    def test_bytes(self):
+    def test_bytes(self) -> None:
         self.check(SMALL.encode("utf-8-sig"))
         self.check(SMALL.replace("\n", "\r\n"))
         self.check(SMALL.replace("\n", "\r"))
         self.check(SMALL.replace(",", "\t").encode("utf-16"))
 
-    def test_layout(self):
+    def test_layout(self) -> None:
         self.check(SMALL.replace(",", " , "))
         self.check("\n,,,,,\n" + SMALL + "\n,,,,,\n")
         self.check(SMALL.replace("\n", ",,\n"))
@@ -43,7 +43,7 @@ class Taken(unittest.TestCase):
         self.check(SMALL.replace("s,own", '"s","own"'))
         self.check(SMALL.replace("bidder,bid", "Bidder,BID").replace("own", "Own"))
 
-    def test_lines_above_the_heads(self):
+    def test_lines_above_the_heads(self) -> None:
         for mark in ",;\t":
             for line in ("sep=,\n", "SEP=;\r\n", '"sep=\t"\n', "\nsep=;\n"):
                 self.check(line + SMALL.replace(",", mark))
@@ -56,25 +56,25 @@ class Taken(unittest.TestCase):
         status, _, errors = market(title + SMALL.replace("30,40", "30,x"))
         self.assertIn("t.csv: line 7, column D (hi)", errors[1])
 
-    def test_spellings_of_numbers(self):
+    def test_spellings_of_numbers(self) -> None:
         self.check(SMALL.replace("-20,-10", "-20.0,-10.00"))
         self.check(SMALL.replace("-20,-10", "−20,–10"))
         self.check(SMALL.replace("-20,-10", '"-20,0"," -10 "'))
         self.check(SMALL.replace("30,40", "+30,040"))
         self.check(SMALL.replace("or,-20,-10,-1,", "or,-20,-10,-1,0"))
 
-    def test_exact_goods(self):
+    def test_exact_goods(self) -> None:
         self.check(SMALL.replace("hi,A,B", "hi,A =,B"), [{"exact": "A"}, "B"])
         self.check(SMALL.replace("hi,A,B", "hi,A,B="), ["A", {"exact": "B"}])
 
-    def test_a_sign_that_is_meant(self):
+    def test_a_sign_that_is_meant(self) -> None:
         table = HEAD + "s,own,,,1,\ns,or!,10,20,-1,\nb,xor!,-30,-20,1,\n"
         status, made, errors = market(table)
         self.assertEqual(status, 0, errors)
         self.assertEqual(made["bidders"][0]["or"], [{"units": {"A": -1}, "lo": 10, "hi": 20}])
         self.assertEqual(made["bidders"][1]["xor"], [{"units": {"A": 1}, "lo": -30, "hi": -20}])
 
-    def test_a_swap_has_any_sign(self):
+    def test_a_swap_has_any_sign(self) -> None:
         for values in ("-5,-1", "1,5"):
             self.assertEqual(market(with_row(f"s,or,{values},-1,1"))[0], 0)
 
@@ -82,7 +82,7 @@ class Taken(unittest.TestCase):
 class Refused(unittest.TestCase):
     """Tables that are refused, with the line, the column and what to do."""
 
-    def check(self, table, *wanted):
+    def check(self, table, *wanted) -> None:
         status, made, errors = market(table)
         self.assertEqual((status, made, len(errors)), (2, None, len(wanted)), errors)
         for line, (place, *words) in zip(errors, wanted):
@@ -90,7 +90,7 @@ class Refused(unittest.TestCase):
             for part in words:
                 self.assertIn(part, line)
 
-    def test_numbers(self):
+    def test_numbers(self) -> None:
         for cell, words in [
             ('"4,200"', "a thousands separator, as it seems: write 4200"),
             ("4.000", "a thousands separator, as it seems: write 4000"),
@@ -110,7 +110,7 @@ class Refused(unittest.TestCase):
         ]:
             self.check(with_row(f"c,xor,{cell},1000000000,1,"), ("line 5, column C (lo)", words))
 
-    def test_units_and_owned_amounts(self):
+    def test_units_and_owned_amounts(self) -> None:
         self.check(with_row("c,xor,1,2,1001,"), ("line 5, column E (A)", "-1,000 to 1,000"))
         for cell in ("0.5", '"1,5"'):
             words = "is a part of a unit: units are whole; make a smaller unit of the good"
@@ -119,7 +119,7 @@ class Refused(unittest.TestCase):
         self.check(with_row("c,own,,,-1," + package), ("line 5, column E (A)", "0 to 1,000,000"))
         self.check(with_row("c,own,5,,1," + package), ("line 5, column C (lo)", "no values"))
 
-    def test_signs(self):
+    def test_signs(self) -> None:
         self.check(
             with_row("s,or,500,600,,-1"),
             ("line 5, column D (hi)", "pay up to 600", "writes lo -600, hi -500", "`or!`"),
@@ -129,7 +129,7 @@ class Refused(unittest.TestCase):
             with_row("c,xor,-600,-500,1,"), ("line 5, column C (lo)", "want 600", "`xor!`")
         )
 
-    def test_packages(self):
+    def test_packages(self) -> None:
         self.check(with_row("c,xor,1,2,,"), ("line 5", "no units"))
         self.check(with_row("c,xor,2,1,1,"), ("line 5, column C (lo)", "lo 2 is above hi 1"))
         self.check(with_row("c,xor,,1,1,"), ("line 5, column C (lo)", "has no number"))
@@ -137,7 +137,7 @@ class Refused(unittest.TestCase):
         self.check(with_row("c,and,1,2,1,"), ("line 5, column B (bid)", "`own`, `xor`, `or` or `each`"))
         self.check(with_row("c,,1,2,1,"), ("line 5, column B (bid)",))
 
-    def test_bidders(self):
+    def test_bidders(self) -> None:
         self.check(with_row("c,own,,,1,"), ("line 5", "c has no package"))
         self.check(with_row("s,own,,,1,"), ("line 5", "s has a line `own` already"))
         self.check(with_row("Bäcker,xor,1,2,1,"), ("line 5, column A (bidder)", "Baecker"))
@@ -149,7 +149,7 @@ class Refused(unittest.TestCase):
         crowd = "".join(f"c-{n},xor,1,2,1,\n" for n in range(39))
         self.check(SMALL + crowd, ("41 bidders",))
 
-    def test_heads(self):
+    def test_heads(self) -> None:
         self.check(SMALL.replace("lo,hi", "hi,lo"), ("line 1", "the heads are bidder, bid, lo, hi"))
         self.check(SMALL.replace("A,B\n", "A,A\n"), ("line 1, column F (A)", "column E"))
         self.check(SMALL.replace("A,B\n", "A,B C\n"), ("line 1, column F (B C)", "no lawful name"))
@@ -158,12 +158,12 @@ class Refused(unittest.TestCase):
         table = f"bidder,bid,lo,hi,{goods}\nb,xor,1,2,1\n"
         self.check(table, ("line 1", "33 goods"))
 
-    def test_too_many_cells(self):
+    def test_too_many_cells(self) -> None:
         self.check(with_row("c,xor,1,2,1,1,7"), ("line 5, column G", "`7` stands below no head"))
         named = SMALL.replace("A,B\n", "A,B,\n") + "c,xor,1,2,1,1,7\n"
         self.check(named, ("line 5, column G", "`7` stands below no head"))
 
-    def test_bytes(self):
+    def test_bytes(self) -> None:
         table = with_row("Bäcker,xor,1,2,1,").encode("cp1252")
         self.check(table, ("line 5", "byte e4 is no UTF-8", "it is `ä`", "CSV UTF-8"))
         self.check(b"PK\x03\x04rest", ("this is a workbook", "CSV UTF-8"))
@@ -173,24 +173,24 @@ class Refused(unittest.TestCase):
         self.check("", ("the table is empty", ""))
         self.check("\n,,\n", ("the table is empty", ""))
 
-    def test_all_faults_are_told(self):
+    def test_all_faults_are_told(self) -> None:
         rows = "c,xor,x,2,1,\nc,xor,1,y,1,\n"
         wanted = [("line 5, column C (lo)",), ("line 6, column D (hi)",)]
         self.check(SMALL + rows, *wanted)
         status, _, errors = market(SMALL + "c,xor,x,2,1,\n" * 30)
         self.assertEqual((status, len(errors), errors[-1]), (2, 21, "t.csv: and 10 more"))
 
-    def test_only_what_is_at_fault_is_told(self):
+    def test_only_what_is_at_fault_is_told(self) -> None:
         self.check(HEAD + "Bäcker,xor,1,2,1,\n", ("line 2, column A (bidder)", "no lawful name"))
 
-    def test_a_table_of_faults_alone_is_not_read_to_its_end(self):
+    def test_a_table_of_faults_alone_is_not_read_to_its_end(self) -> None:
         for table in (SMALL + "c,xor,x,2,1,\n" * 5000, SMALL + "c,xor,1,2,1," + ",7" * 100_000):
             status, made, errors = market(table)
             self.assertEqual((status, made, len(errors)), (2, None, 21))
             self.assertEqual(errors[-1], "t.csv: and many more")
         self.check(SMALL + "c,xor,1,2,1,\n" * 20_000, ("line 10001: more than 10,000 lines",))
 
-    def test_a_line_of_several_lines(self):
+    def test_a_line_of_several_lines(self) -> None:
         table = SMALL.replace("b,xor", '"b\n",xor') + "c,xor,x,2,1,\n"
         self.check(table, ("line 6, column C (lo)",))
 
@@ -198,10 +198,10 @@ class Refused(unittest.TestCase):
 class Told(unittest.TestCase):
     """What stands on standard error beside a file that is written."""
 
-    def test_counts(self):
+    def test_counts(self) -> None:
         self.assertEqual(market(SMALL)[2], ["2 bidders, 2 goods, 2 packages"])
 
-    def test_names_that_look_like_slips(self):
+    def test_names_that_look_like_slips(self) -> None:
         for one, other, is_told in [
             ("alpha", "alpah", True),
             ("alpha", "Alpha", True),
@@ -222,12 +222,12 @@ class Told(unittest.TestCase):
             told = f"bidders `{one}` and `{other}` have almost the same name: are they two?"
             self.assertEqual((status, told in errors), (0, is_told), (one, other))
 
-    def test_many_of_them(self):
+    def test_many_of_them(self) -> None:
         rows = "".join(f"alph{letter},xor,1,2,1,\n" for letter in "abcd")
         errors = market(SMALL + rows)[2]
         self.assertEqual((len(errors), errors[5]), (7, "bidders: and 1 more"))
 
-    def test_goods_too(self):
+    def test_goods_too(self) -> None:
         errors = market(SMALL.replace("A,B\n", "North,north\n"))[2]
         self.assertIn("goods `North` and `north` have almost the same name: are they two?", errors)
 
@@ -235,7 +235,7 @@ class Told(unittest.TestCase):
 class Words(unittest.TestCase):
     """The words, and what can't be read."""
 
-    def test_settings(self):
+    def test_settings(self) -> None:
         text = json.dumps(SETTINGS)
         self.assertEqual(sheet(SMALL, text)[1]["settings"], SETTINGS)
         for text, words in [
@@ -254,13 +254,13 @@ class Words(unittest.TestCase):
             self.assertEqual((status, made, len(errors)), (2, None, 1), errors)
             self.assertIn(words, errors[0])
 
-    def test_files(self):
+    def test_files(self) -> None:
         for words in (["absent.csv"], ["t.csv", "--settings", "absent"], ["."]):
             status, output, errors = run(command.main, {"t.csv": SMALL}, *words)
             self.assertEqual((status, output), (6, ""))
             self.assertRegex(errors, r"^sheet: \S+: [A-Z][a-z ]+\n$")
 
-    def test_words(self):
+    def test_words(self) -> None:
         for words in (
             [],
             ["t.csv", "{}", "--settings", "s"],
@@ -271,7 +271,7 @@ class Words(unittest.TestCase):
             status, output, errors = run(command.main, {"t.csv": SMALL}, *words)
             self.assertEqual((status, output), (1, ""), errors)
 
-    def test_settings_may_stand_behind_an_option(self):
+    def test_settings_may_stand_behind_an_option(self) -> None:
         text, trees = json.dumps(SETTINGS), "[]"
         for words in (["--trees", "f", text], [text, "--trees", "f"]):
             files = {"t.csv": SMALL, "f": trees}
