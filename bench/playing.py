@@ -214,7 +214,7 @@ def receipts(journal: Journal) -> Receipts | None:
     as_bid = list(map(Fraction, worths(journal)))
     vcg = [worth - paid.vickrey for worth, paid in zip(as_bid, journal.payments)]
     threshold = [paid.payment for paid in journal.payments]
-    lacks = max(-sum(vcg), Fraction(0))
+    lacks = max(-sum(vcg, Fraction(0)), Fraction(0))
     return Receipts(received(threshold), received(vcg), lacks, received(as_bid))
 
 

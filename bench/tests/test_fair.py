@@ -4,15 +4,18 @@ import importlib.util
 import sys
 import unittest
 from pathlib import Path
+from typing import Any
 
 TOP = Path(__file__).resolve().parents[2]
 sys.dont_write_bytecode = True
 
 
-def loaded(name):
+def loaded(name: str) -> Any:
     """A script as a module."""
     loader = importlib.machinery.SourceFileLoader(f"bench_{name}", str(TOP / "bench" / name))
-    module = importlib.util.module_from_spec(importlib.util.spec_from_loader(loader.name, loader))
+    spec = importlib.util.spec_from_loader(loader.name, loader)
+    assert spec is not None
+    module = importlib.util.module_from_spec(spec)
     loader.exec_module(module)
     return module
 
@@ -35,11 +38,12 @@ end fair
 """
 
 
-def faults(journal, text):
+def faults(journal: str, text: str) -> list[str]:
     """The tests that an answer fails."""
     with open(TOP / "page/tests/samples" / journal, "rb", buffering=0) as stream:
         trade = FAIR.Trade(FAIR.read_journal(FAIR.Lines(stream)))
-    return FAIR.Answer(trade, text).faults(trade)
+    found: list[str] = FAIR.Answer(trade, text).faults(trade)
+    return found
 
 
 class Answers(unittest.TestCase):

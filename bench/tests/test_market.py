@@ -11,7 +11,7 @@ TOP = Path(__file__).resolve().parents[2]
 class Words(unittest.TestCase):
     """Wrong words end with status 1, as those of every command here."""
 
-    def call(self, folder, *words):
+    def call(self, folder: str, *words: str) -> tuple[int, str]:
         """The status and standard error."""
         program = [sys.executable, str(TOP / "bench/market")]
         ran = subprocess.run(
@@ -21,12 +21,13 @@ class Words(unittest.TestCase):
 
     def test_wrong_words(self) -> None:
         with tempfile.TemporaryDirectory() as folder:
-            for words in (
+            wrong: tuple[list[str], ...] = (
                 [],
                 ["slots", "9", "1", "m", "t"],
                 ["slots", "1", "1", "m", "t", "--units", "0"],
                 ["units", "1", "1", "m", "t", "--sellers", "20"],
-            ):
+            )
+            for words in wrong:
                 status, errors = self.call(folder, *words)
                 self.assertEqual((status, errors[:5]), (1, "usage"), errors)
                 self.assertEqual(list(Path(folder).iterdir()), [])

@@ -8,6 +8,7 @@ import tempfile
 import unittest
 from fractions import Fraction
 from pathlib import Path
+from typing import Any
 
 HERE = Path(__file__).resolve().parent
 ROOT = HERE.parents[1]
@@ -34,7 +35,8 @@ class Program:
     """Answers as a program that refuses the first `stubborn` bids of the opera in a round."""
 
     def __init__(self, stubborn: int, closed: bool = True) -> None:
-        self.stubborn, self.closed, self.bids = stubborn, closed, []
+        self.stubborn, self.closed = stubborn, closed
+        self.bids: list[dict[str, Any]] = []
 
     def __call__(self, market: Path, rounds: list[Path]) -> tuple[int, bytes]:
         lines, refusals = LINES[:SUBMIT], self.stubborn
@@ -134,7 +136,7 @@ class Numbers(unittest.TestCase):
 class Command(unittest.TestCase):
     """The words, and what is refused."""
 
-    def call(self, *words, run=Program(0), truths=ROUND, market=HALL):
+    def call(self, *words: str, run: playing.Runner | None = Program(0), truths: Any = ROUND, market: Any = HALL) -> tuple[int, list[str], str]:
         output, errors = io.StringIO(), io.StringIO()
         with tempfile.TemporaryDirectory() as folder:
             files = {"m.json": market, "t.json": truths}
@@ -145,7 +147,7 @@ class Command(unittest.TestCase):
                 try:
                     status = playing.main([*names, *words], run)
                 except SystemExit as end:
-                    status = end.code
+                    status = int(end.code or 0)
         return status, output.getvalue().splitlines(), errors.getvalue()
 
     def test_a_table(self) -> None:
@@ -170,7 +172,7 @@ class Command(unittest.TestCase):
             self.assertIn(told, self.call(*words)[2])
 
     def test_truths(self) -> None:
-        def with_bid(**change):
+        def with_bid(**change: Any) -> dict[str, Any]:
             return {"bids": [{**ROUND["bids"][0], **change}, *ROUND["bids"][1:]]}
 
         for truths, words in [
@@ -200,7 +202,7 @@ class Command(unittest.TestCase):
 
     def test_what_the_program_says(self) -> None:
         for said in (b"refused 1 4 settings.cap\n", b"unread 1\n", b"", b"ice 9\n"):
-            status, _, errors = self.call(run=lambda *files, said=said: (2, said))
+            status, _, errors = self.call(run=lambda market, rounds: (2, said))
             self.assertEqual((status, len(errors.splitlines())), (2, 1), errors)
 
     def test_a_program_that_is_not_there(self) -> None:

@@ -54,10 +54,17 @@ class Build(unittest.TestCase):
         self.log = self.room / "log"
         self.where = {**os.environ, "PATH": f"{TESTS}:{os.environ['PATH']}", "RT_LOG": str(self.log), "ICE_LANES": "3"}
 
-    def start(self, **settings: str) -> subprocess.Popen:
+    def start(self, **settings: str) -> subprocess.Popen[str]:
         """Starts the launcher with these settings."""
-        how = {"stdout": subprocess.PIPE, "stderr": subprocess.PIPE, "stdin": subprocess.DEVNULL, "text": True, "preexec_fn": hear_signals}
-        return subprocess.Popen([self.top / "ice", "one", "two words"], env={**self.where, **settings}, **how)
+        return subprocess.Popen(
+            [str(self.top / "ice"), "one", "two words"],
+            env={**self.where, **settings},
+            stdout=subprocess.PIPE,
+            stderr=subprocess.PIPE,
+            stdin=subprocess.DEVNULL,
+            text=True,
+            preexec_fn=hear_signals,
+        )
 
     def launch(self, **settings: str) -> tuple[int, str, str]:
         """The status of the launcher, and what it wrote."""
@@ -65,7 +72,7 @@ class Build(unittest.TestCase):
         out, err = started.communicate(timeout=120)
         return started.returncode, out, err
 
-    def await_crate(self, name: str, started: subprocess.Popen) -> None:
+    def await_crate(self, name: str, started: subprocess.Popen[str]) -> None:
         """Waits until rt works in a crate."""
         for _ in range(400):
             if self.log.exists() and name in self.log.read_text():
@@ -195,7 +202,7 @@ class Build(unittest.TestCase):
         folder = self.room / "bin"
         folder.mkdir()
         for name in ("bash", "readlink", "dirname", "find", "flock"):
-            (folder / name).symlink_to(shutil.which(name))
+            (folder / name).symlink_to(str(shutil.which(name)))
         status, out, err = self.launch(PATH=str(folder))
         self.assertEqual((status, out), (70, ""))
         self.assertIn("the toolchain's command rt isn't on the PATH", err)

@@ -10,6 +10,8 @@ import subprocess
 import tempfile
 import time
 import unittest
+from functools import partial
+from typing import Any, Callable
 
 TOP = pathlib.Path(__file__).resolve().parent.parent.parent
 PROGRAM = '#!/bin/sh\necho $$ >"$RUNS.new"\nmv "$RUNS.new" "$RUNS"\nexec sleep 60\n'
@@ -54,7 +56,7 @@ class Ending(unittest.TestCase):
         self.runs.unlink()
         return number
 
-    def wait_for(self, test) -> None:
+    def wait_for(self, test: Callable[[], bool]) -> None:
         """Waits until a test holds, for up to half a minute."""
         for _ in range(600):
             if test():
@@ -70,7 +72,11 @@ class Ending(unittest.TestCase):
             return False
         return state not in "ZX"
 
-    def launched(self, name: str, **how) -> subprocess.Popen:
+    def is_gone(self, number: int) -> bool:
+        """Whether a process has ended."""
+        return not self.is_there(number)
+
+    def launched(self, name: str, **how: Any) -> subprocess.Popen[str]:
         """A launcher that runs the program."""
         words = [f"./{name}", "run", "market.json"]
         how = {"stderr": subprocess.DEVNULL, "stdin": subprocess.DEVNULL, **how}
@@ -93,7 +99,7 @@ class Ending(unittest.TestCase):
                 program = self.started()
                 launcher.kill()
                 launcher.communicate(timeout=30)
-            self.wait_for(lambda program=program: not self.is_there(program))
+            self.wait_for(partial(self.is_gone, program))
             self.wait_for(lambda: not list((self.top / "temporary").iterdir()))
 
     def test_an_interrupt_at_a_terminal(self) -> None:

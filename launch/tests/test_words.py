@@ -9,6 +9,7 @@ import shutil
 import subprocess
 import tempfile
 import unittest
+from typing import Any
 import unittest.mock
 
 TESTS = pathlib.Path(__file__).resolve().parent
@@ -47,14 +48,14 @@ class Words(unittest.TestCase):
         """The line of words where standard output is a file, which has the answer and nothing else."""
         before = self.out.read_text() if mode == "a" else ""
         with open(self.out, mode, encoding="utf-8") as out:
-            how = {"stdout": out, "stderr": subprocess.PIPE, "stdin": subprocess.DEVNULL, "text": True, "cwd": self.top}
-            ran = subprocess.run(["./ice", *words], env=self.settings(answer, status), check=False, **how)
+            how: dict[str, Any] = {"stderr": subprocess.PIPE, "stdin": subprocess.DEVNULL, "text": True, "cwd": self.top}
+            ran = subprocess.run(["./ice", *words], stdout=out, env=self.settings(answer, status), check=False, **how)
         self.assertEqual((ran.returncode, self.out.read_text()), (status, before + answer))
         lines = [line for line in ran.stderr.splitlines() if line.startswith("ice: ")]
         self.assertLessEqual(len(lines), 1)
         if status != 1:
             self.assertEqual(ran.stderr.splitlines(), lines)
-        return lines[0][5:] if lines else ""
+        return str(lines[0][5:]) if lines else ""
 
     def refused(self, number: int, place: str, *words: str, file: int = 1) -> str:
         """The line of words for a refusal."""
@@ -206,7 +207,7 @@ class Words(unittest.TestCase):
     def test_help_behind_a_command(self) -> None:
         for words in (("check", "--help"), ("run", "-h"), ("--help",)):
             for launcher in ("./ice", TOP / "ice-unproved"):
-                ran = subprocess.run([launcher, *words], cwd=self.top, env=self.settings("", 6), capture_output=True, text=True, check=False)
+                ran = subprocess.run([str(launcher), *words], cwd=self.top, env=self.settings("", 6), capture_output=True, text=True, check=False)
                 self.assertEqual((ran.returncode, ran.stdout[:11], ran.stderr), (0, "usage: ice ", ""))
 
     def test_files_that_are_not_read(self) -> None:

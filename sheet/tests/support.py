@@ -56,7 +56,7 @@ def run(main: Command, files: dict[str, Any], *words: str) -> tuple[int, str, st
             try:
                 status = main(list(words))
             except SystemExit as end:
-                status = end.code
+                status = int(end.code or 0)
     return status, output.getvalue(), errors.getvalue()
 
 

@@ -7,22 +7,23 @@ import sys
 import tempfile
 import unittest
 from pathlib import Path
+from typing import IO, Any
 
 from support import ROOT, collect
 from test_market import EXCHANGE, FLAT
 
 LO, HI = [0, 30, 0, 0, 20, 0], [0, 40, 0, 0, 25, 0]
-BID = {"bidder": "b", "lo": LO, "hi": HI}
+BID: dict[str, Any] = {"bidder": "b", "lo": LO, "hi": HI}
 DEEP = "[" * 128 + "]" * 128
 
 
-def files(*bids):
+def files(*bids: Any) -> tuple[Any, ...]:
     """The files of a market and bids, and their names as words."""
     named = {f"{n}.json": bid for n, bid in enumerate(bids)}
     return {"m.json": EXCHANGE, **named}, "m.json", *named
 
 
-def limited(folder, memory, *words):
+def limited(folder: str, memory: int, *words: str) -> subprocess.CompletedProcess[str]:
     """The command in a process that may take so many bytes of memory."""
     return subprocess.run(
         [sys.executable, str(ROOT / "examples/collect.py"), *words],
@@ -34,7 +35,7 @@ def limited(folder, memory, *words):
     )
 
 
-def called(output, *words):
+def called(output: IO[Any] | int, *words: str) -> subprocess.CompletedProcess[str]:
     """The command in a process with this standard output, on files of the checkout."""
     return subprocess.run(
         [sys.executable, "examples/collect.py", *words],
@@ -217,7 +218,7 @@ class Senders(unittest.TestCase):
     CHOIR = {"bidder": "choir", "lo": [0, 60, 0, 0, 20], "hi": [0, 70, 0, 0, 30]}
     OPERA = {"bidder": "opera", "lo": [55, 0, 0], "hi": [60, 0, 0]}
 
-    def collected(self, bids, *words):
+    def collected(self, bids: dict[str, Any], *words: str) -> tuple[int, list[str], list[str]]:
         """The bids that are taken on the market of the examples, and the lines."""
         market = (ROOT / "examples/hall.json").read_bytes()
         status, made, errors = collect({"m.json": market, **bids}, "m.json", *bids, *words)
@@ -264,7 +265,7 @@ class Senders(unittest.TestCase):
 class Edited(unittest.TestCase):
     """The round file of an edited copy of a market."""
 
-    def bids(self, value, *words):
+    def bids(self, value: Any, *words: str) -> Any:
         program = ["jq", "-c", *words, "-f", str(ROOT / "examples/bids.jq")]
         ran = subprocess.run(program, input=json.dumps(value), capture_output=True, text=True)
         self.assertEqual(ran.returncode, 0, ran.stderr)

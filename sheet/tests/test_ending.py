@@ -6,6 +6,7 @@ import subprocess
 import sys
 import tempfile
 import unittest
+from functools import partial
 from pathlib import Path
 
 from support import ROOT
@@ -50,7 +51,7 @@ class Ending(unittest.TestCase):
                     cwd=ROOT,
                     capture_output=True,
                     check=False,
-                    preexec_fn=lambda limit=limit: resource.setrlimit(resource.RLIMIT_AS, limit),
+                    preexec_fn=partial(resource.setrlimit, resource.RLIMIT_AS, limit),
                 )
             name = Path(command[0]).stem
             told = f"{name}: want of memory: free some, and run it again\n"

@@ -72,7 +72,7 @@ class Lots(unittest.TestCase):
 class AllOrNone(unittest.TestCase):
     """A seller's line sells all of its units or none."""
 
-    def told(self, rows):
+    def told(self, rows: str) -> list[str]:
         """The lines above the summary."""
         status, _, errors = market(PORT + rows)
         self.assertEqual(status, 0, errors)

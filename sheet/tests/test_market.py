@@ -2,6 +2,7 @@
 import copy
 import json
 import unittest
+from typing import Any
 
 from support import ROOT, SETTINGS, market, sheet
 
@@ -16,12 +17,12 @@ b,xor,20,25,1,
 HEAD = "bidder,bid,lo,hi,A,B\n"
 
 
-def tree(lo, hi, *leaves):
+def tree(lo: int, hi: int, *leaves: dict[str, Any]) -> dict[str, Any]:
     """A choice of all of its leaves."""
     return {"choose": [len(leaves)] * 2, "lo": lo, "hi": hi, "of": list(leaves)}
 
 
-def leaf(word, good, units=1):
+def leaf(word: str, good: Any, units: int = 1) -> dict[str, Any]:
     """A leaf with no value of its own."""
     return {word: good, "units": units, "lo": 0, "hi": 0}
 
@@ -29,7 +30,7 @@ def leaf(word, good, units=1):
 FLAT = market(TABLE)[1]
 SOLD = [tree(-20, -10, leaf("sell", "A")), tree(-8, -5, leaf("sell", "B"))]
 BOUGHT = [tree(30, 40, leaf("buy", "A"), leaf("buy", "B")), tree(20, 25, leaf("buy", "A"))]
-EXCHANGE = {
+EXCHANGE: dict[str, Any] = {
     "settings": SETTINGS,
     "goods": ["A", "B"],
     "bidders": [
@@ -51,7 +52,7 @@ BIDS = [
 class Rounds(unittest.TestCase):
     """Tables that fit their market."""
 
-    def check(self, table, bids) -> None:
+    def check(self, table: str, bids: list[dict[str, Any]]) -> None:
         for file in (FLAT, EXCHANGE):
             status, made, errors = sheet(table, "--market", "m.json", m=file)
             self.assertEqual((status, made), (0, {"bids": bids}), errors)
@@ -80,7 +81,7 @@ class Rounds(unittest.TestCase):
 class Unfit(unittest.TestCase):
     """Tables that don't fit their market."""
 
-    def check(self, rows, *wanted, file=EXCHANGE) -> None:
+    def check(self, rows: str, *wanted: str, file: Any = EXCHANGE) -> None:
         status, made, errors = sheet(HEAD + rows, "--market", "m.json", m=file)
         self.assertEqual((status, made, len(errors)), (2, None, len(wanted)), errors)
         for line, words in zip(errors, wanted):
@@ -137,7 +138,7 @@ class Unfit(unittest.TestCase):
             (("bidders", 0, "tree", "of"), {}, "`of` is an object where an array is due"),
         ]:
             file = copy.deepcopy(EXCHANGE)
-            inner = file
+            inner: Any = file
             for step in place[:-1]:
                 inner = inner[step]
             inner[place[-1]] = value
@@ -166,7 +167,7 @@ class Notes(unittest.TestCase):
 class Trees(unittest.TestCase):
     """Bidders with trees beside those of the table."""
 
-    def trees(self, value):
+    def trees(self, value: Any) -> tuple[int, Any, list[str]]:
         words = ("--settings", "s.json", "--trees", "o.json")
         return sheet(TABLE, *words, s=SETTINGS, o=value)
 

@@ -6,6 +6,7 @@ import sys
 import tempfile
 import unittest
 from pathlib import Path
+from typing import Any
 
 from support import ROOT, SETTINGS, collect, run, sheet
 from test_market import EXCHANGE
@@ -21,7 +22,7 @@ HEADS = "bidder,bid,lo,hi,berth\n"
 class Spelling(unittest.TestCase):
     """No character that a terminal obeys is written."""
 
-    def assert_prints(self, lines) -> None:
+    def assert_prints(self, lines: list[str]) -> None:
         """Every line is made of characters that print."""
         self.assertTrue(lines)
         for line in lines:
@@ -33,7 +34,7 @@ class Spelling(unittest.TestCase):
         self.assertEqual(spelled("\ud800\U000e0001\n"), r"\ud800\U000e0001\n")
 
     def test_collected_bids(self) -> None:
-        bid = {"bidder": "b", "lo": [], "hi": []}
+        bid: dict[str, Any] = {"bidder": "b", "lo": [], "hi": []}
         for name in NAMES:
             for value in ({**bid, name: 1}, {**bid, "bidder": name}, {"bids": [{**bid, name: 1}]}):
                 status, _, errors = collect({"m.json": EXCHANGE, "b.json": value}, "m.json", "b.json")
@@ -99,7 +100,7 @@ class Spelling(unittest.TestCase):
         told = self.value_at({"bids": [names]}, "2", "bids.0", "run")
         self.assertLess(len(told), 500)
 
-    def value_at(self, value, number, place, command):
+    def value_at(self, value: Any, number: str, place: str, command: str) -> str:
         """What the launcher's part prints of a place."""
         with tempfile.TemporaryDirectory() as folder:
             file = Path(folder) / "f.json"

@@ -1,8 +1,11 @@
 """Tables as spreadsheets write them: what is taken, and what is refused with which words."""
 import json
 import unittest
+from typing import Any, Sequence
 
-from support import SETTINGS, command, market, run, sheet
+from support import SETTINGS, market, run, sheet
+
+from ice_sheet import command
 
 HEAD = "bidder,bid,lo,hi,A,B\n"
 SMALL = HEAD + "s,own,,,2,1\ns,or,-20,-10,-1,\nb,xor,30,40,1,1\n"
@@ -20,7 +23,7 @@ def with_row(row: str) -> str:
 class Taken(unittest.TestCase):
     """Tables that say the same as the small one."""
 
-    def check(self, table, goods=("A", "B")) -> None:
+    def check(self, table: str | bytes, goods: Sequence[Any] = ("A", "B")) -> None:
         status, made, errors = market(table)
         self.assertEqual((status, made["goods"]), (0, list(goods)), errors)
         self.assertEqual(made["bidders"], BIDDERS)
@@ -82,7 +85,7 @@ class Taken(unittest.TestCase):
 class Refused(unittest.TestCase):
     """Tables that are refused, with the line, the column and what to do."""
 
-    def check(self, table, *wanted) -> None:
+    def check(self, table: str | bytes, *wanted: tuple[str, ...]) -> None:
         status, made, errors = market(table)
         self.assertEqual((status, made, len(errors)), (2, None, len(wanted)), errors)
         for line, (place, *words) in zip(errors, wanted):
@@ -261,13 +264,14 @@ class Words(unittest.TestCase):
             self.assertRegex(errors, r"^sheet: \S+: [A-Z][a-z ]+\n$")
 
     def test_words(self) -> None:
-        for words in (
+        wrong: tuple[list[str], ...] = (
             [],
             ["t.csv", "{}", "--settings", "s"],
             ["t.csv", "{}", "--market", "m"],
             ["t.csv", "--trees", "x"],
             ["t.csv", "--odd"],
-        ):
+        )
+        for words in wrong:
             status, output, errors = run(command.main, {"t.csv": SMALL}, *words)
             self.assertEqual((status, output), (1, ""), errors)
 
