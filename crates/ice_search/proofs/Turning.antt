@@ -12,11 +12,11 @@ use Rattle.ice_defs.specs.Trade.{Assignment, MeetsAll}
 use Rattle.ice_defs.specs.Bound.{Multipliers}
 use Rattle.ice_defs.specs.Steps.{Side, with_mark}
 use Rattle.ice_defs.specs.Sweep.{IsLive, IsSweptBound}
-use Rattle.ice_defs.specs.Conditions.{AreFixingsOf, AreMultipliersOf}
+use Rattle.ice_defs.specs.Conditions.{AreMultipliersOf}
 use Rattle.ice_search_log.specs.Parts.{Part, no_part, part_at, side_at, split_at}
 use Rattle.ice_search_log.specs.Searching.{IsPart, AreOpen, IsNext}
 use Rattle.ice_search_log.proofs.Ending.{split_is_earned}
-use Rattle.ice_search_log.proofs.Marked.{sides_are_fixings, bound_is_live, meets_start, meets_less}
+use Rattle.ice_search_log.proofs.Marked.{bound_is_live, meets_start, meets_less}
 use Rattle.ice_search_log.proofs.Opening.{open_rises, open_bounds, open_closes, open_splits}
 use Rattle.ice_search_log.proofs.Stepping.{search_bounds, search_splits}
 use Rattle.ice_search_log.proofs.Swept.{swept_is_part}
@@ -71,9 +71,6 @@ module _ (s : State) (is : IsState s) where
   module _ (k : ℕ) (looks : LooksAt s k) where
     abbrev p : Part
     p = part_at s.parts k
-
-    pub fit : AreFixingsOf x.trees s.side
-    fit = subst (AreFixingsOf x.trees) (sym looks.side) (sides_are_fixings x.trees x.exact x.weights x.start x.first s.parts k is.search is.instance.start looks.there)
 
     pub live : IsLive x.trees s.side
     live = subst (IsLive x.trees) (sym looks.side) (bound_is_live x.trees x.weights p.m (side_at x.start s.parts k) p.key (is.search.each k looks.there).bound)

@@ -1,7 +1,8 @@
 -- The workspace of a search: what is asked, and the side that is looked at.
 use Rattle.std.specs.Prelude.{ℕ, ◌≡◌, Bool, List, length}
 use Rattle.ice_defs.specs.Fixing.{Fixing}
-use Rattle.ice_defs.specs.Steps.{Side}
+use Rattle.ice_defs.specs.declared.Mark.TheVariants.{Must, Never}
+use Rattle.ice_defs.specs.Steps.{Side, with_mark}
 use Rattle.ice_defs.specs.Conditions.{AreFixingsOf, AreMultipliersOf}
 use Rattle.ice_bound.specs.Kept.{Standing}
 use Rattle.ice_subgradient.specs.declared.incumbent.Incumbent.{Incumbent}
@@ -33,3 +34,9 @@ pub record IsPolishedAt (x : Instance) (side : Side) (old new : Incumbent) (at :
   pub multipliers : AreMultipliersOf x.exact at.m
   pub bound : IsBoundAt x at.m side at.key
   pub offered : IsOfferedAt x side old new
+
+-- steps at the two children of a node, one after the other
+pub record ArePolishedAt (x : Instance) (side : Side) (b n : ℕ) (old new : Incumbent) (first second : Bounded) : Type 0 where
+  pub middle : Incumbent
+  pub must : IsPolishedAt x (with_mark side b n Must) old middle first
+  pub never : IsPolishedAt x (with_mark side b n Never) middle new second

@@ -58,19 +58,19 @@ impl<'a> Progress<'a> {
     /// plan.
     pub(crate) fn begin(
         alloc: Global,
-        problem: Problem<'a>,
+        problem: &Problem<'a>,
         from: &Multipliers,
         candidates: &[Assignment],
         plan: Plan,
         guide: Option<Guide>,
     ) -> Result<Progress<'a>, AllocError>
-        requires { AreMultipliersOf problem.exact from.now }
-        ensures instance { IfOk result (λ p. p.instance ≡ problem.entry) }
+        requires { AreMultipliersOf problem.now.exact from.now }
+        ensures instance { IfOk result (λ p. p.instance ≡ problem.now) }
         ensures parts { IfOk result (λ p. length p.parts ≡ 1) }
     {
-        let mut incumbent = first_incumbent(alloc, &problem)?;
+        let mut incumbent = first_incumbent(alloc, problem)?;
         for candidate in candidates {
-            consider(&problem, candidate, &mut incumbent);
+            consider(problem, candidate, &mut incumbent);
         }
         let mut space = Workspace::new(alloc, problem, guide)?;
         let Polished {

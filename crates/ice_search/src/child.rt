@@ -4,7 +4,8 @@ ghost use Rattle.ice_defs.specs.Log.{IsFreeNode};
 ghost use Rattle.ice_defs.specs.Steps.{with_mark};
 ghost use Rattle.ice_defs.specs.Sweep.{IsLive};
 ghost use Rattle.ice_defs.specs.Conditions.{AreFixingsOf, AreMultipliersOf};
-ghost use Rattle.ice_search.specs.Workspace.{IsPolishedAt};
+ghost use Rattle.ice_search.specs.Nodes.{IsSplitNode};
+ghost use Rattle.ice_search.specs.Workspace.{IsPolishedAt, ArePolishedAt};
 
 use crate::sweep::Bounded;
 use crate::workspace::Workspace;
@@ -23,6 +24,13 @@ pub(crate) const CHILD_STEPS: u16 = 60;
 pub(crate) struct Polished {
     pub(crate) bounded: Bounded,
     pub(crate) candidates: Candidates,
+}
+
+/// Both children of a node.
+#[derive(Drop)]
+pub(crate) struct Children {
+    pub(crate) must: Polished,
+    pub(crate) never: Polished,
 }
 
 /// The multipliers of an evaluation, with the bound at them.
@@ -138,7 +146,7 @@ impl<'a> Workspace<'a> {
     }
 
     /// Brings the relaxation of one tree to its marks.
-    fn look_at_tree(&mut self, bidder: u8)
+    pub(crate) fn look_at_tree(&mut self, bidder: u8)
         requires bidder { bidder < length self.old.instance.trees }
         ensures { self.new ≡ self.old }
     {
@@ -159,23 +167,6 @@ impl<'a> Workspace<'a> {
         guided(&mut self.guide, trees, self.kept.marks(), goods, value)
     }
 
-    /// Few steps from multipliers that are near the dual. What comes up is offered.
-    fn polish_near(&mut self, near: Near, incumbent: &mut Incumbent) -> Polished
-        requires live { IsLive self.old.instance.trees self.old.side }
-        requires sets { length incumbent.old.sets ≡ length self.old.instance.trees }
-        ensures instance { self.new.instance ≡ self.old.instance }
-        ensures side { self.new.side ≡ self.old.side }
-        ensures polished { IsPolishedAt self.old.instance self.old.side incumbent.old
-            incumbent.new result.bounded }
-        ensures sets { length incumbent.new.sets ≡ length self.old.instance.trees }
-    {
-        let polished = self.polish(&near.m, incumbent, near.steps);
-        Polished {
-            bounded: polished.bounded,
-            candidates: near.candidates,
-        }
-    }
-
     /// Few steps from multipliers near the dual, where there is a guide, and else as many as are
     /// given from these multipliers. What comes up is offered.
     fn polish_anew(&mut self, from: &Multipliers, incumbent: &mut Incumbent, steps: u16) -> Polished
@@ -188,7 +179,10 @@ impl<'a> Workspace<'a> {
         ensures sets { length incumbent.new.sets ≡ length self.old.instance.trees }
     {
         match self.near(incumbent.value) {
-            Some(near) => self.polish_near(near, incumbent),
+            Some(near) => Polished {
+                bounded: self.polish(&near.m, incumbent, near.steps).bounded,
+                candidates: near.candidates,
+            },
             None => self.polish(from, incumbent, steps),
         }
     }
@@ -218,8 +212,15 @@ impl<'a> Workspace<'a> {
         self.polish_anew(from, incumbent, steps)
     }
 
+    /// The marks of the side that is looked at, one for each node.
+    fn marks(&self) -> &Fixings
+        ensures { AreFixingsOf self.now.instance.trees self.now.side }
+    {
+        self.kept.marks()
+    }
+
     /// Looks at a child for some steps from the multipliers that are given.
-    pub(crate) fn polish_child(
+    fn polish_child(
         &mut self,
         candidate: Candidate,
         mark: Mark,
@@ -227,7 +228,6 @@ impl<'a> Workspace<'a> {
         incumbent: &mut Incumbent,
         steps: u16,
     ) -> Polished
-        requires fit { AreFixingsOf self.old.instance.trees self.old.side }
         requires free { IsFreeNode self.old.instance.trees self.old.side candidate.bidder
             candidate.node }
         requires live { IsLive self.old.instance.trees
@@ -243,10 +243,35 @@ impl<'a> Workspace<'a> {
             incumbent.old incumbent.new result.bounded }
         ensures sets { length incumbent.new.sets ≡ length self.old.instance.trees }
     {
+        // There is one for each node.
+        let _marks = self.marks();
         self.kept.mark(candidate.bidder, candidate.node, mark);
         let polished = self.polish_marked(candidate, mark, from, incumbent, steps);
         self.kept.mark(candidate.bidder, candidate.node, Mark::Free);
         self.look_at_tree(candidate.bidder);
         polished
+    }
+
+    /// Looks at both children of a node for some steps from the multipliers that are given, first
+    /// at the one that has it.
+    pub(crate) fn polish_children(
+        &mut self,
+        node: Candidate,
+        from: &Multipliers,
+        incumbent: &mut Incumbent,
+        steps: u16,
+    ) -> Children
+        requires node { IsSplitNode self.old.instance.trees self.old.side node.bidder node.node }
+        requires from { AreMultipliersOf self.old.instance.exact from.now }
+        requires sets { length incumbent.old.sets ≡ length self.old.instance.trees }
+        ensures instance { self.new.instance ≡ self.old.instance }
+        ensures side { self.new.side ≡ self.old.side }
+        ensures polished { ArePolishedAt self.old.instance self.old.side node.bidder node.node
+            incumbent.old incumbent.new result.must.bounded result.never.bounded }
+        ensures sets { length incumbent.new.sets ≡ length self.old.instance.trees }
+    {
+        let must = self.polish_child(node, Mark::Must, from, incumbent, steps);
+        let never = self.polish_child(node, Mark::Never, from, incumbent, steps);
+        Children { must, never }
     }
 }

@@ -3,14 +3,14 @@
 ghost use Rattle.std.specs.Prelude.{◌≡◌, ◌<◌, ◌⊎◌, length, IfOk, ◌≤ℤ◌};
 ghost use Rattle.ice_defs.specs.Log.{IsFreeNode};
 ghost use Rattle.ice_search_log.specs.Code.{parts_of};
-ghost use Rattle.ice_defs.specs.Conditions.{AreFixingsOf, AreMultipliersOf};
+ghost use Rattle.ice_defs.specs.Conditions.{AreMultipliersOf};
 ghost use Rattle.ice_search.specs.Instance.{IsSearchOf, IsIncumbentOf};
 
 use crate::candidates::consider;
-use crate::child::Polished;
+use crate::child::{Children, Polished};
 use crate::hints::{Hint, candidate_at};
 use crate::workspace::Workspace;
-use ice_best::{Fixings, Mark};
+use ice_best::Mark;
 use ice_bound::Multipliers;
 use ice_relaxation::Candidate;
 use ice_search_log::Part;
@@ -48,13 +48,6 @@ fn mark_of(must: &Polished, never: &Polished) -> Mark {
 }
 
 impl<'a> Workspace<'a> {
-    /// The marks of the side that is looked at, one for each node.
-    fn marks(&self) -> &Fixings
-        ensures { AreFixingsOf self.now.instance.trees self.now.side }
-    {
-        self.kept.marks()
-    }
-
     /// Room for what dives find, with a known assignment.
     pub(crate) fn finds(
         &self,
@@ -114,12 +107,7 @@ impl<'a> Workspace<'a> {
         ensures { self.new.instance ≡ self.old.instance }
     {
         self.kept.mark(candidate.bidder, candidate.node, mark);
-        self.relaxation.look_at_tree(
-            self.problem.trees(),
-            self.problem.weights(),
-            self.kept.marks(),
-            candidate.bidder,
-        );
+        self.look_at_tree(candidate.bidder);
     }
 
     /// Goes down from the side that is looked at, to the child of the greater bound each time, as
@@ -137,10 +125,7 @@ impl<'a> Workspace<'a> {
             if !self.splits(node) {
                 return;
             }
-            // There is one for each node.
-            let _marks = self.marks();
-            let must = self.polish_child(node, Mark::Must, &m, finds, STEPS);
-            let never = self.polish_child(node, Mark::Never, &m, finds, STEPS);
+            let Children { must, never } = self.polish_children(node, &m, finds, STEPS);
             let mark = mark_of(&must, &never);
             let child = higher(must, never);
             let Some(next) = child.candidates.first().copied() else {

@@ -85,18 +85,18 @@ pub struct Known<'a> {
 /// A search by a plan, where one is made, with an assignment that a try has found.
 fn search_planned(
     alloc: Global,
-    problem: Problem,
+    problem: &Problem,
     known: &Known,
     tried: &Option<Assignment>,
     branches: &mut u32,
 ) -> Result<Found, SearchEnd>
-    requires from { AreMultipliersOf problem.exact known.now.from.now }
+    requires from { AreMultipliersOf problem.now.exact known.now.from.now }
     requires branches { branches.old ≤ 50000 }
-    ensures found { IfOk result (IsFoundBy problem.entry) }
+    ensures found { IfOk result (IsFoundBy problem.now) }
     ensures branches { IfOk result (λ f. branches.new + branch_count f.log ≡ branches.old) }
-    ensures end { IfErr result (IsEnd problem.entry branches.old branches.new) }
+    ensures end { IfErr result (IsEnd problem.now branches.old branches.new) }
 {
-    let Outline { plan, guide, finds } = outline_of(alloc, &problem, known, tried, *branches)?;
+    let Outline { plan, guide, finds } = outline_of(alloc, problem, known, tried, *branches)?;
     let candidates = known.candidates;
     let mut progress = Progress::begin(alloc, problem, known.from, candidates, plan, guide)?;
     progress.offer_some(tried);
@@ -104,33 +104,23 @@ fn search_planned(
     go_on(alloc, progress, branches)
 }
 
-/// A search that is tried with few of its branches first, and planned where they don't suffice.
-fn try_first(
+/// A search that is tried with few of its branches first, where that may do, and planned where they
+/// don't suffice.
+fn search_in_turn(
     alloc: Global,
-    exchange: &Exchange,
-    weights: &AllWeights,
-    start: &Fixings,
-    first: &Assignment,
+    problem: &Problem,
     known: &Known,
     branches: &mut u32,
 ) -> Result<Found, SearchEnd>
-    requires weights { AreWeightsOf (trees_of exchange.now) weights.now }
-    requires start { AreFixingsOf (trees_of exchange.now) start.now }
-    requires feasible { IsFeasible (trees_of exchange.now) (exact_of exchange.now) first.now }
-    requires meets { MeetsAll first.now start.now }
-    requires from { AreMultipliersOf (exact_of exchange.now) known.now.from.now }
-    requires more { 600 < branches.old }
+    requires from { AreMultipliersOf problem.now.exact known.now.from.now }
     requires branches { branches.old ≤ 50000 }
-    // On success
-    ensures found { IfOk result
-        (IsFoundBy (instance_of exchange.now weights.now start.now first.now)) }
+    ensures found { IfOk result (IsFoundBy problem.now) }
     ensures branches { IfOk result (λ f. branches.new + branch_count f.log ≡ branches.old) }
-    // On failure
-    ensures end { IfErr result
-        (IsEnd (instance_of exchange.now weights.now start.now first.now) branches.old
-        branches.new) }
+    ensures end { IfErr result (IsEnd problem.now branches.old branches.new) }
 {
-    let problem = Problem::new(exchange, weights, start, first);
+    if !is_tried_first(problem.goods(), known, *branches) {
+        return search_planned(alloc, problem, known, &None, branches);
+    }
     let none = Plan::new(alloc);
     let progress = Progress::begin(alloc, problem, known.from, known.candidates, none, None)?;
     let mut left = TRIED;
@@ -142,42 +132,9 @@ fn try_first(
         Err(SearchEnd::NoMemory) => Err(SearchEnd::NoMemory),
         Err(SearchEnd::Spent(spent)) => {
             let tried = Some(spent.into_found());
-            let problem = Problem::new(exchange, weights, start, first);
             search_planned(alloc, problem, known, &tried, branches)
         }
     }
-}
-
-/// A search that is tried first where that may do, and else planned.
-fn search_in_turn(
-    alloc: Global,
-    exchange: &Exchange,
-    weights: &AllWeights,
-    start: &Fixings,
-    first: &Assignment,
-    known: &Known,
-    branches: &mut u32,
-) -> Result<Found, SearchEnd>
-    requires weights { AreWeightsOf (trees_of exchange.now) weights.now }
-    requires start { AreFixingsOf (trees_of exchange.now) start.now }
-    requires feasible { IsFeasible (trees_of exchange.now) (exact_of exchange.now) first.now }
-    requires meets { MeetsAll first.now start.now }
-    requires from { AreMultipliersOf (exact_of exchange.now) known.now.from.now }
-    requires branches { branches.old ≤ 50000 }
-    // On success
-    ensures found { IfOk result
-        (IsFoundBy (instance_of exchange.now weights.now start.now first.now)) }
-    ensures branches { IfOk result (λ f. branches.new + branch_count f.log ≡ branches.old) }
-    // On failure
-    ensures end { IfErr result
-        (IsEnd (instance_of exchange.now weights.now start.now first.now) branches.old
-        branches.new) }
-{
-    if is_tried_first(exchange.goods(), known, *branches) {
-        return try_first(alloc, exchange, weights, start, first, known, branches);
-    }
-    let problem = Problem::new(exchange, weights, start, first);
-    search_planned(alloc, problem, known, &None, branches)
 }
 
 /// `search` with what searches before left.
@@ -208,7 +165,8 @@ pub fn search_from(
         (IsEnd (instance_of exchange.now weights.now start.now first.now) branches.old
         branches.new) }
 {
-    search_in_turn(alloc, exchange, weights, start, first, known, branches)
+    let problem = Problem::new(exchange, weights, start, first);
+    search_in_turn(alloc, &problem, known, branches)
 }
 
 /// The best feasible assignment that meets the start, with a log that refutes every greater one.

@@ -3,7 +3,7 @@ ghost use Rattle.std.specs.Prelude.{◌≡◌, ◌≤◌, length, IfSome};
 ghost use Rattle.ice_defs.specs.Exchange.{trees_of, exact_of};
 ghost use Rattle.ice_defs.specs.Trade.{IsFeasible, MeetsAll, total_value};
 ghost use Rattle.ice_defs.specs.Conditions.{AreWeightsOf, AreFixingsOf};
-ghost use Rattle.ice_search.specs.Instance.{instance_of};
+ghost use Rattle.ice_search.specs.Instance.{instance_of, IsInstance};
 
 use crate::candidates::is_feasible;
 use ice_best::Fixings;
@@ -56,6 +56,18 @@ impl<'a> Problem<'a> {
         }
     }
 
+    /// The same once more.
+    pub(crate) fn again(&self) -> Problem<'a>
+        ensures { result ≡ self.now }
+    {
+        Problem {
+            exchange: self.exchange,
+            weights: self.weights,
+            start: self.start,
+            first: self.first,
+        }
+    }
+
     /// The trees.
     pub(crate) fn trees(&self) -> &'a [Tree]
         ensures { result.now ≡ self.now.trees }
@@ -77,8 +89,9 @@ impl<'a> Problem<'a> {
         self.exchange.exact()
     }
 
-    /// The number of goods.
+    /// The number of goods. The problem is a lawful one.
     pub(crate) fn goods(&self) -> u8
+        ensures lawful { IsInstance self.now }
         ensures value { result ≡ length self.now.exact }
         ensures fits { result ≤ 32 }
     {

@@ -8,12 +8,11 @@ ghost use Rattle.ice_search.specs.Nodes.{IsSplitNode};
 ghost use Rattle.ice_search.specs.Open.{IsGreatestOpen};
 ghost use Rattle.ice_search.specs.State.{unswept_count, LooksAt};
 
-use crate::child::CHILD_STEPS;
+use crate::child::{CHILD_STEPS, Children};
 use crate::frontier::{greatest, open_children, take_out};
 use crate::hints::{Hint, keep_near, most_promising, near, places_below, push_hints};
 use crate::parts::{fate_of, lower, push_children};
 use crate::workspace::Workspace;
-use ice_best::Mark;
 use ice_plan::Plan;
 use ice_relaxation::Candidate;
 use ice_search_log::Part;
@@ -182,12 +181,9 @@ impl<'a> Progress<'a> {
         self.hints.reserve(2)?;
         self.open_parts.reserve(2)?;
         let from = self.parts[number as usize].m.copy();
-        let must = self
+        let Children { must, never } = self
             .space
-            .polish_child(node, Mark::Must, &from, &mut self.incumbent, CHILD_STEPS);
-        let never = self
-            .space
-            .polish_child(node, Mark::Never, &from, &mut self.incumbent, CHILD_STEPS);
+            .polish_children(node, &from, &mut self.incumbent, CHILD_STEPS);
         let first = self.parts.len() as u32;
         let must_fate = fate_of(&must.bounded, &self.incumbent);
         let never_fate = fate_of(&never.bounded, &self.incumbent);

@@ -86,26 +86,27 @@ impl<'a> Workspace<'a> {
     /// A workspace that looks at the start.
     pub(crate) fn new(
         alloc: Global,
-        problem: Problem<'a>,
+        problem: &Problem<'a>,
         guide: Option<Guide>,
     ) -> Result<Workspace<'a>, AllocError>
-        ensures instance { IfOk result (λ w. w.instance ≡ problem.entry) }
-        ensures side { IfOk result (λ w. w.side ≡ problem.entry.start) }
+        ensures instance { IfOk result (λ w. w.instance ≡ problem.now) }
+        ensures side { IfOk result (λ w. w.side ≡ problem.now.start) }
     {
+        let zeros = Multipliers::zero(problem.goods());
         let trees = problem.trees();
         let exact = problem.exact();
-        let mut kept = Kept::new(alloc, trees, problem.weights(), exact)?;
-        let zeros = Multipliers::zero(problem.goods());
-        kept.put_side(problem.start, &zeros);
         let desk = Box::new(alloc, Desk::new(alloc, trees, exact)?)?;
         let mut relaxation = Box::new(alloc, Relaxation::new(alloc, trees)?)?;
+        let trial = Box::new(alloc, Trial::none())?;
+        let mut kept = Kept::new(alloc, trees, problem.weights(), exact)?;
+        kept.put_side(problem.start, &zeros);
         relaxation.look_at(trees, problem.weights(), problem.start);
         Ok(Workspace {
-            problem,
+            problem: problem.again(),
             kept,
             desk,
             relaxation,
-            trial: Box::new(alloc, Trial::none())?,
+            trial,
             guide,
         })
     }

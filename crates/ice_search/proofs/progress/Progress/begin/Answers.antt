@@ -11,7 +11,7 @@ use Rattle.ice_search.proofs.progress.Progress.begin.Goals as goal
 
 pub polish_from-bounded-requires-clause-live : goal.polish_from-bounded-requires-clause-live
 polish_from-bounded-requires-clause-live c =
-    let x = c.args.problem in
+    let x = c.args.problem.now in
     let i = c.in_ok-incumbent.incumbent in
     let live = start_is_live x i.sets i.value c.in_ok-incumbent.ensures.incumbent in
     subst (λ ts. IsLive ts c.in_ok-space.space.side) (sym (ap (λ y. y.trees) c.in_ok-space.ensures.instance)) (subst (IsLive x.trees) (sym c.in_ok-space.ensures.side) live)
@@ -22,7 +22,7 @@ there P x y xs ys e d p = subst (λ side. P x side) d (subst (λ i. P i ys) e p)
 
 pub invariant_of-result : goal.invariant_of-result
 invariant_of-result c =
-    let x = c.args.problem in
+    let x = c.args.problem.now in
     let space = c.in_ok-space.space in
     let same = c.in_ok-space.ensures.instance in
     let at = c.in_ok-space.ensures.side in

@@ -1,24 +1,19 @@
-use Rattle.std.proofs.Common.{length, sym, subst, ap, ◌∙◌, ◌≤◌}
+use Rattle.std.proofs.Common.{length, sym, subst, ◌≤◌}
 use Rattle.std.specs.Prelude.{sum_by}
-use Rattle.ice_defs.specs.Sweep.{IsSweptBound}
+use Rattle.ice_defs.specs.Sweep.{IsLive, IsSweptBound}
 use Rattle.ice_defs.specs.Conditions.{AreWeightsOf}
 use Rattle.ice_search_log.specs.Nodes.{HasNoNode}
-use Rattle.ice_search.proofs.Splitting.{live_there}
 use Rattle.ice_search.proofs.Offering.{closed_at}
 use Rattle.ice_search.proofs.workspace.Workspace.offer.Goals as goal
 
 pub offer-requires-clause-live : goal.offer-requires-clause-live
-offer-requires-clause-live c =
-    let kept = c.self.inside.kept in
-    let now = c.args.self.now in
-    live_there kept.trees now.instance.trees now.side kept.marks (sym (c.self.invariant.trees ∙ ap (λ l. l.instance.trees) c.self.view_is)) (sym (ap (λ l. l.side) c.self.view_is)) c.requires.live
+offer-requires-clause-live c = subst (λ ts. IsLive ts c.self.inside.kept.marks) (sym c.self.invariant.trees) (subst (λ l. IsLive l.instance.trees l.side) (sym c.self.view_is) c.requires.live)
 
 pub returns-clause-closed : goal.returns-clause-closed
 returns-clause-closed c none v swept =
     let kept = c.self.inside.kept in
     let x = c.self.inside.problem in
-    let now = c.args.self.now in
-    let live = live_there kept.trees now.instance.trees now.side kept.marks (sym (c.self.invariant.trees ∙ ap (λ l. l.instance.trees) c.self.view_is)) (sym (ap (λ l. l.side) c.self.view_is)) c.requires.live in
+    let live = subst (λ ts. IsLive ts kept.marks) (sym c.self.invariant.trees) (subst (λ l. IsLive l.instance.trees l.side) (sym c.self.view_is) c.requires.live) in
     let weights = subst (λ ts. AreWeightsOf ts kept.weights) (sym c.self.invariant.trees) (subst (AreWeightsOf x.trees) (sym c.self.invariant.weights) c.self.invariant.instance.weights) in
     let few = subst (λ ts. sum_by length ts ≤ 2000) (sym c.self.invariant.trees) c.self.invariant.instance.few_nodes in
     let none_here = subst (λ ts. HasNoNode ts kept.marks) (sym c.self.invariant.trees) (subst (λ l. HasNoNode l.instance.trees l.side) (sym c.self.view_is) none) in
