@@ -1,14 +1,12 @@
 -- What the records behind a group make of what is known of a journal: the regret, the offer, the
 -- cut, the payments and the end; and what is answered.
-use Rattle.std.proofs.Common.{◌≡◌, ◌≢◌, ◌<◌, ◌-ℤ◌, ℕ, suc, Bool, true, false, cond, eqb, List, [], length, ℤ, pos, refl, sym, ◌∙◌, ap, subst, arith, ◌⊎◌, inl, inr}
+use Rattle.std.proofs.Common.{◌≡◌, ◌≢◌, ◌<◌, ◌-ℤ◌, ℕ, suc, Bool, true, false, cond, eqb, [], length, ℤ, pos, refl, sym, ◌∙◌, ap, subst, arith}
 use Rattle.std.specs.Prelude.{int_le, Some, None, Result, Ok, Err}
 use Rattle.std.proofs.lemmas.Bool.{eqb-false, or_parts, false≢true}
 use Rattle.arrayvec.specs.ArrayVec.{ArrayVec}
 use Rattle.ice_defs.specs.declared.Group.TheVariants.{Assign, Final, Provisional, Without}
-use Rattle.ice_defs.specs.Bounds.{Bounds}
 use Rattle.ice_defs.specs.Fraction.{whole_number}
 use Rattle.ice_defs.specs.Trade.{Assignment}
-use Rattle.ice_defs.specs.Weighing.{weighted_weights}
 use Rattle.ice_defs.specs.Exchange.{Exchange, trees_of, opening_bounds}
 use Rattle.ice_defs.specs.Lawful.{IsExchange}
 use Rattle.ice_defs.specs.Group.{group_weights}
@@ -20,21 +18,18 @@ use Rattle.ice_journal_laws.specs.declared.answer.Answer.{Answer}
 use Rattle.ice_journal_laws.specs.declared.rule.Rule.{Rule}
 use Rattle.ice_journal_laws.specs.State.{Place, at_group, at_payment, at_end, done, State}
 use Rattle.ice_journal_laws.specs.Fields.{Closing, is_end, same_end}
-use Rattle.ice_journal_laws.specs.Next.{to_line, go_to, next_settlement}
+use Rattle.ice_journal_laws.specs.Next.{to_line, go_to}
 use Rattle.ice_journal_laws.specs.Assigning.{exchange_state}
 use Rattle.ice_journal_laws.specs.Answers.{EndsWith}
 use Rattle.ice_journal_laws.specs.Progress.{passing, TakesOn, is_ready_at}
 use Rattle.ice_journal_laws.proofs.Settling.{amount_right, ends}
 use Rattle.ice_check_charge.specs.declared.due.Due.{Due}
 use Rattle.ice_check_charge.specs.Charging.{PassesCut, AwaitsPayment, TakesPayment}
-use Rattle.ice_check_offer.specs.declared.fault.Fault.{Fault}
-use Rattle.ice_check_offer.specs.declared.fault.Fault.TheVariants.{Here, List as OfList}
 use Rattle.ice_check_offer.specs.declared.offer.Offer.{Offer}
 use Rattle.ice_check_offer.specs.declared.place.Place.{Place as RoundPlace}
 use Rattle.ice_check_offer.specs.declared.place.CertificateList.TheVariants as lists
 use Rattle.ice_check_offer.specs.declared.place.Place.TheVariants as round
 use Rattle.ice_check_offer.specs.Offers as offers
-use Rattle.ice_check_offer.specs.Taking as offering
 use Rattle.ice_check_records.specs.declared.head.Head.{Head}
 use Rattle.ice_check_records.specs.declared.head.Head.TheVariants as head
 use Rattle.ice_check_records.specs.declared.next.Next.{Next}
@@ -43,10 +38,10 @@ use Rattle.ice_check_records.specs.declared.opening.Opening.{Opening}
 use Rattle.ice_check_records.specs.declared.opening.Opening.TheVariants.{Sets, Settlement}
 use Rattle.ice_check_records.specs.declared.groups.Groups.{Groups}
 use Rattle.ice_check_records.specs.declared.log.LogWalk.{LogWalk}
-use Rattle.ice_check_records.specs.Heads.{version_of_head, kind_of_head, end_of, HasRegret, IsSession, IsGroupOf}
+use Rattle.ice_check_records.specs.Heads.{version_of_head, kind_of_head, end_of, HasRegret, IsSession}
 use Rattle.ice_check_records.specs.Openings.{Opens, CanOpen, opened_next, opened_value, opened_place}
-use Rattle.ice_check_records.specs.Groups.{place_at, known_in, IsOffering, StandsFor, AreKept, HasSettled, HasOffered, IsClosing, IsReady}
-use Rattle.ice_check_records.specs.Taking.{Goes, IsTaken, Fails, Begins, behind_regret, behind_payment, Pays, AnswersHere, IsAnswer}
+use Rattle.ice_check_records.specs.Groups.{place_at, known_in, IsOffering, AreKept, HasSettled, IsClosing, IsReady}
+use Rattle.ice_check_records.specs.Taking.{Goes, IsTaken, Begins, behind_regret, behind_payment, Pays, AnswersHere, IsAnswer}
 use Rattle.ice_check_records.proofs.Knowing.{goes_on}
 use Rattle.ice_check_records.proofs.Walks.{few_trees}
 
@@ -95,61 +90,6 @@ module _ (g : Groups) (amount : ℤ) (is : amount ≡ (g.rival -ℤ g.final_valu
     kept = record { lawful = kept.lawful; walk = kept.walk; room = kept.room; offer = kept.offer; number = kept.number };
     ready = ready g.head settled_so.regret (closes g.stated.exchange.settings g.number amount) refl;
   }
-
--- ---- the offer
-
-module _ (g : Groups) (r : Record) (kept : AreKept g) (offered : HasOffered g) where
-  pub offer_taken : (o : Offer) → g.next ≡ coming.Offer → offering.GoesOn g.stated.exchange g.number g.offer r o → IsTaken coming.Offer g r (record g { offer = o })
-  offer_taken o now h = subst (λ (m : Next). IsTaken coming.Offer g r (record g { offer = o; next = m })) (sym now) (record {
-    goes = λ s at. let x = h.goes (known_in g coming.Offer s) at refl in stands s x;
-    kept = record { lawful = kept.lawful; walk = kept.walk; room = kept.room; offer = h.kept; number = kept.number };
-    ready = record {
-      session = offered.session;
-      none = offered.none;
-      withouts = offered.withouts;
-      weights = subst (λ (bounds : List Bounds). g.log.weights ≡ weighted_weights g.stated.exchange.settings.weight bounds) (sym h.bounds) offered.weights;
-      rounds = offered.rounds;
-    };
-  })
-    where
-      After : Groups
-      After = record g { offer = o; next = coming.Offer }
-
-      stands : (s : State) → offering.Goes g.stated.exchange (known_in g coming.Offer s) r o → Goes (known_in g coming.Offer s) r (record g { offer = o; next = coming.Offer })
-      stands s x = record {
-        state = x.state;
-        passes = x.passes;
-        line = x.line;
-        stands = record {
-          known = subst (λ (t : State). t ≡ known_in (record g { offer = o; next = coming.Offer }) coming.Offer t) (sym x.same)
-              (λ i. record (known_in g coming.Offer s) { line = x.state.line; place = x.state.place; prices = x.state.prices; violation = x.state.violation; judged = x.state.judged; bounds = sym h.bounds i });
-          offer = x.stands;
-        };
-      }
-
-  final_follows : (h : Head) → IsSession h → IsGroupOf h Final
-  final_follows head.Assign is = absurd is
-  final_follows (head.Regret v) is = absurd is
-  final_follows (head.Session v) is = tt
-
-  pub offer_settles : (o : Offer) → offering.GoesToSettlement g.stated.exchange g.number g.offer r o → IsTaken coming.Offer g r (record g { offer = o; number = suc g.number; next = coming.Head Final })
-  offer_settles o h = record {
-    goes = λ s at. record {
-      state = to_line (suc s.line) (next_settlement (known_in g coming.Offer s));
-      passes = h.passes (known_in g coming.Offer s) at refl;
-      line = refl;
-      stands = record {
-        known = λ i. record (to_line (suc s.line) (next_settlement (known_in g coming.Offer s))) { bounds = h.bounds (known_in g coming.Offer s) at refl i; withouts = sym offered.withouts i };
-        offer = tt;
-      };
-    };
-    kept = record { lawful = kept.lawful; walk = kept.walk; room = kept.room; offer = h.kept; number = omega (arith, offered.rounds) };
-    ready = (record { of = final_follows g.head offered.session; there = tt; withouts = ap length offered.withouts; round = tt; fresh = h.fresh }, offered.none);
-  }
-
-  pub offer_fails : (o : Offer) (fault : Fault) → offering.FailsBy g.stated.exchange g.number g.offer r fault → Fails coming.Offer g r fault
-  offer_fails o (Here rule) h s at = h (known_in g coming.Offer s) at refl
-  offer_fails o (OfList rule) h s at = h (known_in g coming.Offer s) at refl
 
 -- ---- the cut and the payments
 
@@ -239,49 +179,6 @@ open_at g coming.Threshold s more at e = subst IsOpen (sym e) (refl, refl)
 open_at g (coming.Payment b) s more at e = subst IsOpen (sym e) (refl, refl)
 open_at g coming.End s more at e = subst IsOpen (sym e) (refl, refl)
 open_at g coming.Nothing s more at e = absurd (more refl)
-
-is_nothing : (now : Next) → (now ≡ coming.Nothing) ⊎ (now ≢ coming.Nothing)
-is_nothing coming.Nothing = inl refl
-is_nothing (coming.Head group) = inr apart
-  where
-    apart : coming.Head group ≢ coming.Nothing
-    apart e = cc
-is_nothing (coming.Set group) = inr apart
-  where
-    apart : coming.Set group ≢ coming.Nothing
-    apart e = cc
-is_nothing (coming.Step group) = inr apart
-  where
-    apart : coming.Step group ≢ coming.Nothing
-    apart e = cc
-is_nothing coming.Amount = inr apart
-  where
-    apart : coming.Amount ≢ coming.Nothing
-    apart e = cc
-is_nothing coming.Offer = inr apart
-  where
-    apart : coming.Offer ≢ coming.Nothing
-    apart e = cc
-is_nothing coming.Threshold = inr apart
-  where
-    apart : coming.Threshold ≢ coming.Nothing
-    apart e = cc
-is_nothing (coming.Payment b) = inr apart
-  where
-    apart : coming.Payment b ≢ coming.Nothing
-    apart e = cc
-is_nothing coming.End = inr apart
-  where
-    apart : coming.End ≢ coming.Nothing
-    apart e = cc
-
--- the exchange and the record behind it are read
-pub stands_ready : (g : Groups) (s : State) → StandsFor g s → is_ready_at s.place ≡ true
-stands_ready g s h = by (is_nothing g.next)
-  where
-    by : (g.next ≡ coming.Nothing) ⊎ (g.next ≢ coming.Nothing) → is_ready_at s.place ≡ true
-    by (inl e) = subst (λ (p : Place). is_ready_at p ≡ true) (sym (ap (λ (t : State). t.place) h.known ∙ ap (λ (now : Next). place_at g now s.place) e)) refl
-    by (inr more) = (open_at g g.next s more h.offer (ap (λ (t : State). t.place) h.known)).0
 
 -- ---- the answer
 

@@ -1,8 +1,6 @@
 -- What the records of a log make of what is known of a journal behind its exchange.
-use Rattle.std.proofs.Common.{◌≡◌, ◌<◌, ℕ, suc, Bool, true, false, cond, eqb, List, [], ◌∷◌, ◌++◌, length, ℤ, refl, sym, ◌∙◌, ap, subst, arith, length-append}
-use Rattle.std.proofs.lemmas.Bool.{eqb-true, eqb-false}
+use Rattle.std.proofs.Common.{◌≡◌, ◌<◌, ℕ, suc, Bool, List, [], ◌∷◌, length, ℤ, refl, sym, ap, subst, arith}
 use Rattle.std.proofs.lemmas.List.{nil_from_length}
-use Rattle.arrayvec.specs.ArrayVec.{ArrayVec}
 use Rattle.ice_defs.specs.declared.Group.{Group}
 use Rattle.ice_defs.specs.declared.Group.TheVariants.{Assign, Final, Rival, Provisional, Without}
 use Rattle.ice_defs.specs.Tree.{Tree}
@@ -23,13 +21,13 @@ use Rattle.ice_check_records.specs.declared.next.Next.{Next}
 use Rattle.ice_check_records.specs.declared.next.Next.TheVariants as coming
 use Rattle.ice_check_records.specs.declared.groups.Groups.{Groups}
 use Rattle.ice_check_records.specs.declared.log.LogWalk.{LogWalk}
-use Rattle.ice_journal_laws.specs.State.{at_log, at_group, at_prices, at_threshold, State, exchange_at, weights_at}
+use Rattle.ice_journal_laws.specs.State.{at_log, at_prices, State, exchange_at, weights_at}
 use Rattle.ice_journal_laws.specs.Next.{to_line, go_to, after_log, after_step}
 use Rattle.ice_journal_laws.specs.Stepping.{PassesStep, FailsStep}
 use Rattle.ice_journal_laws.proofs.Walking.{record_fails, record_passes}
 use Rattle.ice_check_records.specs.Heads.{version_of_head, HasRegret, IsSession, IsGroupOf, HasLog}
 use Rattle.ice_check_records.specs.Groups.{at_hand, known_in, IsOffering, StandsFor, weights_for, AreKept, HasOpen, IsReady}
-use Rattle.ice_check_records.specs.Taking.{IsTaken, Fails, HasKeptFinal, behind_without, HasLeft, LeavesGroup}
+use Rattle.ice_check_records.specs.Taking.{IsTaken, Fails, HasKeptFinal, HasLeft, LeavesGroup}
 use Rattle.ice_check_records.proofs.Knowing.{known_again}
 
 -- ---- a group is complete
@@ -48,16 +46,6 @@ offer_follows : (h : Head) → IsGroupOf h Provisional → IsSession h
 offer_follows head.Assign is = absurd is
 offer_follows (head.Regret version) is = absurd is
 offer_follows (head.Session version) is = tt
-
-closing_follows : (h : Head) (b : ℕ) → IsGroupOf h (Without b) → IsSession h
-closing_follows head.Assign b is = absurd is
-closing_follows (head.Regret version) b is = absurd is
-closing_follows (head.Session version) b is = tt
-
-pub without_follows : (h : Head) (b : ℕ) → IsSession h → IsGroupOf h (Without b)
-without_follows head.Assign b is = absurd is
-without_follows (head.Regret version) b is = absurd is
-without_follows (head.Session version) b is = tt
 
 pub final_left : (g after : Groups) → HasOpen g Final → HasKeptFinal (coming.Head Rival) g after → LeavesGroup Final g after
 final_left g after holds h = subst (HasLeft (λ s. after_log s Final (at_hand g)) Final g) (sym h.same) (record {
@@ -91,50 +79,6 @@ provisional_left g offer holds kept offer_kept same stands = record {
     rounds = holds.at.round;
   };
 }
-
-module _ (g : Groups) (b : ℕ) (withouts : ArrayVec ℤ) (holds : HasOpen g (Without b)) (kept : AreKept g) (more : withouts.items ≡ g.withouts.items ++ g.value ∷ []) where
-  abbrev Kept : Next → Groups
-  Kept now = record g { withouts = withouts; stated = record { exchange = g.stated.exchange; sets = [] }; next = now }
-
-  abbrev next_at : Bool → Next
-  next_at last = cond last coming.Threshold (coming.Head (Without (suc b)))
-
-  stands_at : (n : ℕ) (s : State) (last : Bool) → StandsFor (Kept (next_at last)) (to_line n (go_to (cond last at_threshold (at_group (Without (suc b)))) (record (known_in g (coming.Step (Without b)) s) { withouts = g.withouts.items ++ g.value ∷ [] })))
-  stands_at n s true = record {
-    known = λ i. record (to_line n (go_to at_threshold (record (known_in g (coming.Step (Without b)) s) { withouts = g.withouts.items ++ g.value ∷ [] }))) { withouts = sym more i };
-    offer = tt;
-  }
-  stands_at n s false = record {
-    known = λ i. record (to_line n (go_to (at_group (Without (suc b))) (record (known_in g (coming.Step (Without b)) s) { withouts = g.withouts.items ++ g.value ∷ [] }))) { withouts = sym more i };
-    offer = tt;
-  }
-
-  counted : length withouts.items ≡ suc b
-  counted = omega (arith, ap length more, length-append g.withouts.items (g.value ∷ []), holds.at.withouts)
-
-  ready_at : (last : Bool) → eqb (suc b) (length (trees_of g.stated.exchange)) ≡ last → IsReady (Kept (next_at last)) (next_at last)
-  ready_at true e = record {
-    session = closing_follows g.head b holds.at.of;
-    withouts = counted ∙ eqb-true (suc b) (length (trees_of g.stated.exchange)) e;
-    weights = holds.weights;
-  }
-  ready_at false e = (
-    record {
-      of = without_follows g.head (suc b) (closing_follows g.head b holds.at.of);
-      there = omega (arith, holds.at.there, eqb-false (suc b) (length (trees_of g.stated.exchange)) e);
-      withouts = counted;
-      round = tt;
-      fresh = holds.at.fresh;
-    },
-    refl,
-  )
-
-  pub without_left : LeavesGroup (Without b) g (record g { withouts = withouts; stated = record { exchange = g.stated.exchange; sets = [] }; next = behind_without (length (trees_of g.stated.exchange)) b })
-  without_left = record {
-    stands = λ n s. stands_at n s (eqb (suc b) (length (trees_of g.stated.exchange)));
-    kept = record { lawful = kept.lawful; walk = kept.walk; room = kept.room; offer = kept.offer; number = kept.number };
-    ready = ready_at (eqb (suc b) (length (trees_of g.stated.exchange))) refl;
-  }
 
 -- ---- a step that doesn't close the log, or that does
 

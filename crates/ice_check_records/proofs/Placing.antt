@@ -1,8 +1,8 @@
 -- What the stages of the checker make of a record.
-use Rattle.std.proofs.Common.{◌≡◌, ◌<◌, ◌≤◌, ◌+◌, ℕ, false, [], length, map, take, set, replicate, sym, ◌∙◌, ap, subst, arith, ◌⊎◌, inl, inr}
+use Rattle.std.proofs.Common.{◌≡◌, ◌<◌, ◌+◌, ℕ, false, [], length, take, set, sym, ◌∙◌, ap, subst, arith, ◌⊎◌, inl, inr}
 use Rattle.std.specs.Prelude.{◌&&◌, Option, Some, None, IfSome, Err}
 use Rattle.std.proofs.lemmas.Bool.{cases_order}
-use Rattle.std.proofs.lemmas.List.{get_or-set_other, get_or-set_same, get_or-map, length-set, length-map, length-replicate, length-take-le}
+use Rattle.std.proofs.lemmas.List.{get_or-set_other, get_or-set_same, length-set, length-take-le}
 use Rattle.ice_defs.specs.Tree.{Tree}
 use Rattle.ice_defs.specs.Set.{NodeSet, IsSatisfied}
 use Rattle.ice_defs.specs.Trade.{Assignment, tree_of, set_of}
@@ -80,20 +80,6 @@ is_fit s g found x taken room is = record {
 }
 
 -- ---- the sets that are stated
-
-pub no_set_stated : (ex : Exchange) (sets : Assignment) → length (trees_of ex) ≤ 40 → sets ≡ map (λ t. replicate (length t) false) (trees_of ex) → AreStated ex sets 0
-no_set_stated ex sets few is = record {
-  few = few;
-  same_length = count;
-  taken_there = omega arith;
-  sizes = λ b l. ap (λ (a : Assignment). length (set_of a b)) is
-      ∙ ap length (get_or-map (λ (t : Tree). replicate (length t) false) (trees_of ex) b [] [] (omega (arith, count)))
-      ∙ length-replicate (length (tree_of (trees_of ex) b)) false;
-  satisfied = λ b l. absurd (omega arith);
-}
-  where
-    count : length sets ≡ length (trees_of ex)
-    count = ap length is ∙ length-map (trees_of ex) (λ (t : Tree). replicate (length t) false)
 
 pub one_set_stated : (ex : Exchange) (sets : Assignment) (taken : ℕ) (x : NodeSet) → AreStated ex sets taken → taken < length (trees_of ex) → IsSatisfied (tree_of (trees_of ex) taken) x
     → AreStated ex (set sets taken x) (taken + 1)

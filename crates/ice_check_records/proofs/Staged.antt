@@ -8,16 +8,15 @@ use Rattle.ice_journal_laws.specs.declared.rule.Rule.{Rule}
 use Rattle.ice_journal_laws.specs.declared.rule.Rule.TheVariants as rule
 use Rattle.ice_journal_laws.specs.State.{State}
 use Rattle.ice_journal_laws.specs.Answers.{EndsWith}
-use Rattle.ice_journal_laws.specs.Progress.{Progress, passing, failed, other_kind, out_of_memory, is_ready, IsAfter}
+use Rattle.ice_journal_laws.specs.Progress.{Progress, passing, failed, other_kind, out_of_memory, IsAfter}
 use Rattle.ice_check_offer.specs.declared.fault.Fault.{Fault}
 use Rattle.ice_check_records.specs.declared.groups.Groups.{Groups}
 use Rattle.ice_check_records.specs.declared.stage.Stage.{Stage}
 use Rattle.ice_check_records.specs.declared.stage.Stage.TheVariants as stage
 use Rattle.ice_check_records.specs.Groups.{StandsFor}
 use Rattle.ice_check_records.specs.Taking.{failure_at, IsTaken, Fails, IsAnswer}
-use Rattle.ice_check_records.specs.Stages.{IsProgress, is_ready_stage, TakesFurther}
+use Rattle.ice_check_records.specs.Stages.{IsProgress, TakesFurther}
 use Rattle.ice_check_records.proofs.Knowing.{stands_goes, stands_fails}
-use Rattle.ice_check_records.proofs.Ending.{stands_ready}
 
 -- the tests have come to a state of which this is known
 abbrev pub IsBehind : Groups → ℕ → Progress → Type 0
@@ -55,15 +54,6 @@ stays_put n s p r (inr (line, x, e)) is =
 pub answers_behind : (g : Groups) (n : ℕ) (found : Option Answer) (p : Progress) → IsAnswer g found → IsBehind g n p → EndsWith p (Ok (unwrap_or found (No n rule.Short)))
 answers_behind g n None p h (s, is, line, stands) = subst (λ (q : Progress). EndsWith q (Ok (No n rule.Short))) (sym is) (h s stands, sym line, refl)
 answers_behind g n (Some answer) p h (s, is, line, stands) = subst (λ (q : Progress). EndsWith q (Ok answer)) (sym is) (h s stands)
-
--- whether memory may be wanted
-pub ready_progress : (n : ℕ) (s : Stage) (p : Progress) → IsProgress n s p → is_ready_stage s ≡ is_ready p
-ready_progress n stage.Begin p is = ap is_ready (sym is)
-ready_progress n stage.OtherKind p is = ap is_ready (sym is)
-ready_progress n (stage.Describing head section) p is = ap is_ready (sym is)
-ready_progress n (stage.Behind groups) p (s, is, line, stands) = sym (ap is_ready is ∙ stands_ready groups.value s stands)
-ready_progress n (stage.Failed line rule) p is = ap is_ready (sym is)
-ready_progress n stage.OutOfMemory p is = ap is_ready (sym is)
 
 -- no memory was left: nothing else is known
 pub stopped_stays : (n : ℕ) (s : Stage) (p : Progress) → IsProgress n s out_of_memory → IsProgress n s p → p ≡ out_of_memory

@@ -1,5 +1,5 @@
 -- The weights, the sides and the sets that a walk of an exchange's logs begins with.
-use Rattle.std.proofs.Common.{◌≡◌, ◌<◌, ◌≤◌, ℕ, zero, suc, Bool, List, [], ◌∷◌, length, map, replicate, false, refl, sym, ◌∙◌, ap, subst, arith}
+use Rattle.std.proofs.Common.{◌≡◌, ◌<◌, ◌≤◌, ℕ, zero, suc, Bool, List, [], ◌∷◌, length, map, replicate, false, sym, ◌∙◌, ap, subst, arith}
 use Rattle.std.specs.List.{AllByRecursion}
 use Rattle.std.proofs.lemmas.List.{length-map, get_or-map, length-replicate, get_or-replicate}
 use Rattle.ice_defs.specs.declared.Group.{Group}
@@ -12,7 +12,7 @@ use Rattle.ice_defs.specs.Trade.{Assignment, tree_of, fixing_of}
 use Rattle.ice_defs.specs.Bounds.{Bounds}
 use Rattle.ice_defs.specs.Exchange.{Bidder, Exchange, trees_of}
 use Rattle.ice_defs.specs.Lawful.{IsBidder, IsExchange}
-use Rattle.ice_defs.specs.Group.{free_side, start_of, group_weights}
+use Rattle.ice_defs.specs.Group.{free_side, group_weights}
 use Rattle.ice_tree.specs.Alike.{AreAlike, AreChosen, HasSetPerTree}
 use Rattle.ice_defs.specs.Conditions.{AreBoundsOf, AreWeightsOf}
 use Rattle.ice_bound.proofs.Fixings.{free_fixings}
@@ -20,7 +20,7 @@ use Rattle.ice_bound.proofs.Modest.{lower_modest, weighted_modest, perturbed_mod
 use Rattle.ice_trade.proofs.Weighted.{length-trees}
 use Rattle.ice_gap_laws.specs.Gap.{IsThere}
 use Rattle.ice_check_records.specs.declared.log.LogWalk.{LogWalk}
-use Rattle.ice_check_records.specs.Logs.{IsWalkOf, start_side, CanStart}
+use Rattle.ice_check_records.specs.Logs.{IsWalkOf, CanStart}
 
 -- ---- the bidders of an exchange
 
@@ -90,13 +90,6 @@ can_start ex Assign lawful there = tt
 can_start ex Final lawful there = tt
 can_start ex Rival lawful there = tt
 can_start ex Provisional lawful there = tt
-
-pub started_is : (ts : List Tree) (group : Group) → start_side (free_side ts) group ≡ start_of ts group
-started_is ts Assign = refl
-started_is ts Final = refl
-started_is ts Rival = refl
-started_is ts Provisional = refl
-started_is ts (Without b) = refl
 
 -- empty sets have the sizes of their trees
 pub empty_sized : (ts : List Tree) → HasSetPerTree ts (map (λ t. replicate (length t) false) ts)

@@ -17,9 +17,6 @@ later_trans before mid after a b = record {
   overlong = λ name limit. omega (arith, a.overlong name limit, b.overlong name limit);
 }
 
-pub earlier_part : (call : Call) (before mid after : Told) → HasPart call before after → IsLater mid after → HasPart call before mid
-earlier_part call before mid after part later = record { begins = part.begins; ends = later_trans mid after call.after later part.ends }
-
 pub later_part : (call : Call) (before mid after : Told) → HasPart call before after → IsLater before mid → HasPart call mid after
 later_part call before mid after part later = record { begins = later_trans call.before before mid part.begins later; ends = part.ends }
 
