@@ -1,18 +1,24 @@
 """The assignment problems of a journal's searches, put to other solvers as linear programs in whole numbers."""
+from __future__ import annotations
+
+import argparse
 import re
 import shutil
 import subprocess
 import sys
 import time
+from collections.abc import Sequence
+from pathlib import Path
+from typing import IO, Any
 
 HEADS = ("final", "rival", "provisional", "without")
 
 
-def timed(words, out, most):
+def timed(words: Sequence[str | Path], out: IO[bytes] | int, most: float) -> tuple[int | None, float]:
     """The status of a command, None where it was cut off, and its milliseconds."""
     start = time.perf_counter()
     try:
-        status = subprocess.run(words, stdout=out, stderr=subprocess.DEVNULL, timeout=most).returncode
+        status: int | None = subprocess.run(words, stdout=out, stderr=subprocess.DEVNULL, timeout=most).returncode
     except subprocess.TimeoutExpired:
         status = None
     return status, 1000 * (time.perf_counter() - start)
@@ -21,22 +27,28 @@ def timed(words, out, most):
 class Problems:
     """The assignment problems of a journal's groups, each with the value that the journal states."""
 
-    def __init__(self, text) -> None:
-        self.exact, self.trees, self.names = [], [], []
-        self.weight, self.lo, self.hi, self.found = 0, [], [], []
+    def __init__(self, text: str) -> None:
+        self.exact: list[bool] = []
+        self.trees: list[list[Any]] = []
+        self.names: list[str] = []
+        self.weight = 0
+        self.lo: list[list[int]] = []
+        self.hi: list[list[int]] = []
+        self.found: list[tuple[str, int]] = []
         lines = [line.split() for line in text.splitlines()]
         for place, words in enumerate(lines):
             self.take(words, lines[place + 1 :])
 
-    def take(self, words, later) -> None:
+    def take(self, words: list[str], later: list[list[str]]) -> None:
         if words[0] == "settings":
             self.weight = int(words[1])
         elif words[0] in ("good", "exact"):
             self.exact.append(words[0] == "exact")
         elif words[0] == "bidder":
             self.names.append(words[1])
-            for of in (self.trees, self.lo, self.hi):
-                of.append([])
+            self.trees.append([])
+            self.lo.append([])
+            self.hi.append([])
         elif words[0] == "node":
             self.trees[-1].append([words[1], *map(int, words[2:-2])])
             self.lo[-1].append(int(words[-2]))
@@ -51,7 +63,7 @@ class Problems:
                 self.final = sets
             self.found.append((self.program(*self.values(words)), int(words[-1])))
 
-    def values(self, words):
+    def values(self, words: list[str]) -> tuple[list[list[int]], int | None]:
         """The value of each node in the group, and the bidder that is left out."""
         low, high, mixed = self.lo, self.hi, words[0] == "provisional"
         if mixed:
@@ -60,9 +72,10 @@ class Problems:
             low = [[lo if bit == "1" else hi for lo, hi, bit in zip(*all)] for all in zip(low, high, self.final)]
         return low, int(words[1]) if words[0] == "without" else None
 
-    def program(self, values, left_out):
+    def program(self, values: list[list[int]], left_out: int | None) -> str:
         """The problem in the form of CPLEX: a variable of 0 or 1 for each node."""
-        rows, units = [], [[] for _ in self.exact]
+        rows: list[str] = []
+        units: list[list[str]] = [[] for _ in self.exact]
         for bidder, tree in enumerate(self.trees):
             self.tree_rows(bidder, tree, rows, units)
         for good, terms in enumerate(units):
@@ -72,12 +85,12 @@ class Problems:
             rows.append(f"x{left_out}_0 = 0")
         nodes = [(f"x{bidder}_{node}", value) for bidder, of in enumerate(values) for node, value in enumerate(of)]
         aim = "\n".join(f"{value:+d} {name}" for name, value in nodes)
-        rows = "\n".join(f"r{number}: {row}" for number, row in enumerate(rows))
-        return f"Maximize\nvalue: {aim}\nSubject To\n{rows}\nBinary\n" + "\n".join(name for name, _ in nodes) + "\nEnd\n"
+        told = "\n".join(f"r{number}: {row}" for number, row in enumerate(rows))
+        return f"Maximize\nvalue: {aim}\nSubject To\n{told}\nBinary\n" + "\n".join(name for name, _ in nodes) + "\nEnd\n"
 
     @staticmethod
-    def tree_rows(bidder, tree, rows, units) -> None:
-        def walk(node):
+    def tree_rows(bidder: int, tree: list[Any], rows: list[str], units: list[list[str]]) -> None:
+        def walk(node: int) -> int:
             """Adds the rows of a node, and gives the node behind it."""
             form, *numbers = tree[node]
             name, next_one = f"x{bidder}_{node}", node + 1
@@ -99,33 +112,32 @@ class Problems:
         walk(0)
 
 
-def solved(solver, folder, most):
+def solved(solver: str, folder: Path, most: float) -> tuple[int | None, float]:
     """The greatest value that a solver finds, None where it is cut off, and its milliseconds."""
     problem, answer = folder / "problem.lp", folder / "solution"
-    words = {
+    words: dict[str, list[str | Path]] = {
         "glpk": ["glpsol", "--cuts", "--lp", problem, "--write", answer],
         "cbc": ["cbc", problem, "ratioGap", "0", "allowableGap", "0", "solve", "solution", answer, "quit"],
-    }[solver]
+    }
     answer.unlink(missing_ok=True)
-    status, took = timed(words, subprocess.DEVNULL, most)
+    status, took = timed(words[solver], subprocess.DEVNULL, most)
     if status is None:
         return None, took
     text = answer.read_text()
-    if solver == "glpk":
-        return round(float(re.search(r"^s mip \d+ \d+ o (\S+)", text, re.M)[1])), took
-    return round(abs(float(re.search(r"objective value (\S+)", text)[1]))), took
+    (found,) = re.findall(r"(?m)^s mip \d+ \d+ o (\S+)" if solver == "glpk" else r"objective value (\S+)", text)[:1]
+    return round(float(found) if solver == "glpk" else abs(float(found))), took
 
 
-def installed(names):
+def installed(names: str) -> list[str]:
     """Those of the solvers that are installed, of names with commas between."""
     return [name for name in names.split(",") if name and shutil.which({"glpk": "glpsol"}.get(name, name))]
 
 
-def put_to_solvers(told, name, text, folder) -> None:
+def put_to_solvers(told: argparse.Namespace, name: str, text: str, folder: Path) -> None:
     """Puts the problems of a journal to told.solvers, prints the time of each, and ends where one finds another value."""
     problems = Problems(text).found
     for solver in told.solvers:
-        count, all_took = 0, 0
+        count, all_took = 0, 0.0
         for program, value in problems:
             (folder / "problem.lp").write_text(program)
             found, took = solved(solver, folder, told.seconds)

@@ -112,7 +112,7 @@ class Writes(Edge):
     """Writes that fail or come short."""
 
     @for_each_call
-    def test_each_write_fails_after_no_byte_and_after_one(self, program, call, whole) -> None:
+    def test_each_write_fails_after_no_byte_and_after_one(self, program: Program, call: Call, whole: Ran) -> None:
         front = b""
         for number, piece in enumerate(pieces(call.command, whole.output), 1):
             for taken in (0, 1):
@@ -122,7 +122,7 @@ class Writes(Edge):
             front += piece
 
     @for_each_call
-    def test_each_write_takes_a_byte(self, program, call, whole) -> None:
+    def test_each_write_takes_a_byte(self, program: Program, call: Call, whole: Ran) -> None:
         for size in (1, 7):
             self.is_same(program.run(call.words(), environment=edge(short_write=size)), whole)
 
@@ -173,19 +173,19 @@ class Writes(Edge):
         return ran.returncode, ran.stderr
 
     @for_each_call
-    def test_a_full_device(self, program, call, _) -> None:
+    def test_a_full_device(self, program: Program, call: Call, _: Ran) -> None:
         self.assertEqual(self.status_onto(program, call, ">/dev/full"), (WRITE_FAULT, ""))
 
     @for_each_call
-    def test_an_output_that_is_closed(self, program, call, _) -> None:
+    def test_an_output_that_is_closed(self, program: Program, call: Call, _: Ran) -> None:
         self.assertEqual(self.status_onto(program, call, ">&-"), (WRITE_FAULT, ""))
 
     @for_each_call
-    def test_an_output_that_is_read_only(self, program, call, _) -> None:
+    def test_an_output_that_is_read_only(self, program: Program, call: Call, _: Ran) -> None:
         self.assertEqual(self.status_onto(program, call, "1</dev/null"), (WRITE_FAULT, ""))
 
     @for_each_call
-    def test_a_pipe_whose_reader_went(self, program, call, _) -> None:
+    def test_a_pipe_whose_reader_went(self, program: Program, call: Call, _: Ran) -> None:
         reader, writer = os.pipe()
         os.close(reader)
         ran = subprocess.run(
@@ -195,7 +195,7 @@ class Writes(Edge):
         self.assertEqual((ran.returncode, ran.stderr), (WRITE_FAULT, b""))
 
     @for_each_call
-    def test_other_streams_that_are_closed(self, program, call, whole) -> None:
+    def test_other_streams_that_are_closed(self, program: Program, call: Call, whole: Ran) -> None:
         for streams in ("<&-", "2>&-", "<&- 2>&-"):
             words = ["sh", "-c", f'"$@" {streams}', "sh", program.path, *call.words()]
             ran = subprocess.run(words, capture_output=True)
@@ -220,12 +220,12 @@ class Reads(Edge):
     """Reads that fail or come short, and files that change meanwhile."""
 
     @for_each_call
-    def test_each_read_gives_few_bytes(self, program, call, whole) -> None:
+    def test_each_read_gives_few_bytes(self, program: Program, call: Call, whole: Ran) -> None:
         for size in (1, 7):
             self.is_same(program.run(call.words(), environment=edge(short_read=size)), whole)
 
     @for_each_call
-    def test_each_read_fails(self, program, call, whole) -> None:
+    def test_each_read_fails(self, program: Program, call: Call, whole: Ran) -> None:
         file = self.folder / "counts"
         program.run(call.words(), environment=edge(counts=file, short_read=64))
         reads = counts(file).reads
@@ -332,7 +332,7 @@ class Files(Edge):
     """What a word may name instead of a file."""
 
     @for_each_file
-    def test_names_that_cannot_be_read(self, program, call, place, whole) -> None:
+    def test_names_that_cannot_be_read(self, program: Program, call: Call, place: int, whole: Ran) -> None:
         link, circle = self.folder / "link", self.folder / "circle"
         for path, target in ((link, self.folder / "nowhere"), (circle, circle)):
             path.unlink(missing_ok=True)
@@ -369,7 +369,7 @@ class Files(Edge):
             self.assertEqual((ran.returncode, ran.stdout), (UNREAD, b"unread 1\n"))
 
     @for_each_file
-    def test_an_empty_device(self, program, call, place, _) -> None:
+    def test_an_empty_device(self, program: Program, call: Call, place: int, _: Ran) -> None:
         ran = program.run(call.words({place: "/dev/null"}))
         if call.command == "audit":
             # no line of it is at fault: it is a statement that ends too early
@@ -389,7 +389,7 @@ class Files(Edge):
                     self.assertEqual(ran.output.splitlines()[-1], b"refused %d 61 -" % last)
 
     @for_each_file
-    def test_links_and_pipes(self, program, call, place, whole) -> None:
+    def test_links_and_pipes(self, program: Program, call: Call, place: int, whole: Ran) -> None:
         link, pipe = self.folder / "link", self.folder / "pipe"
         for path in (link, pipe):
             path.unlink(missing_ok=True)
@@ -406,7 +406,7 @@ class Files(Edge):
         self.is_same(ended(child), whole)
 
     @for_each_file
-    def test_words_that_are_no_text(self, program, call, place, _) -> None:
+    def test_words_that_are_no_text(self, program: Program, call: Call, place: int, _: Ran) -> None:
         ran = program.run(call.words({place: b"caf\xe9"}))
         self.assertEqual((ran.status, ran.output), (WORDS, b"words refused\n"))
 

@@ -3,22 +3,27 @@ import subprocess
 import sys
 import tempfile
 import unittest
+from collections.abc import Callable, Sequence
 from importlib.machinery import SourceFileLoader
 from importlib.util import module_from_spec, spec_from_loader
 from pathlib import Path
+from typing import Any
 
 from harness.program import TESTS
 
 TURNS = 1500
 PAGE = "<!DOCTYPE html>\n<html><head><title>x</title></head><body>{}</body></html>\n"
+Main = Callable[[Sequence[str]], int]
 
 
-def fuzzer():
+def fuzzer() -> Any:
     """The fuzzer as a module."""
-    spec = spec_from_loader("fuzz_page", SourceFileLoader("fuzz_page", str(TESTS / "fuzz_page")))
+    loader = SourceFileLoader("fuzz_page", str(TESTS / "fuzz_page"))
+    spec = spec_from_loader("fuzz_page", loader)
+    assert spec is not None
     made = module_from_spec(spec)
     sys.modules["fuzz_page"] = made
-    spec.loader.exec_module(made)
+    loader.exec_module(made)
     return made
 
 
@@ -33,19 +38,19 @@ class FuzzPage(unittest.TestCase):
     def test_what_it_notices(self) -> None:
         fuzz = fuzzer()
 
-        def says(text, status=0):
+        def says(text: str, status: int = 0) -> Main:
             """A command that says a text."""
 
-            def main(_):
+            def main(_: Sequence[str]) -> int:
                 print(text)
                 return status
 
             return main
 
-        def writes(text):
+        def writes(text: str) -> Main:
             """A command that writes a page."""
 
-            def main(words):
+            def main(words: Sequence[str]) -> int:
                 Path(words[0], "page").write_text(text, encoding="utf-8")
                 return 0
 

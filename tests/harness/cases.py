@@ -173,14 +173,16 @@ def cases_of(entry: Mapping[str, Any]) -> Iterator[Case]:
     if unknown := entry.keys() - KEYS:
         raise ValueError(f"{entry.get('name')}: there is no key {', '.join(sorted(unknown))}")
     calls = entry["calls"] if "calls" in entry else [entry["words"]]
+    rows: list[tuple[list[Any], tuple[str, ...], str]]
     if "rows" in entry:
         rows = [(row[:-1], (ended(row[-1]),), "") for row in entry["rows"]]
     elif "last_rows" in entry:
         rows = [(row[:-1], (), row[-1]) for row in entry["last_rows"]]
     else:
-        outputs = [entry[key] for key in ("output", "or") if key in entry]
-        whole = outputs if "write" in entry else map(ended, outputs)
+        texts = [entry[key] for key in ("output", "or") if key in entry]
+        whole = texts if "write" in entry else map(ended, texts)
         rows = [(entry.get("change", []), tuple(whole), "")]
+    write = (int(entry["write"][0]), int(entry["write"][1])) if "write" in entry else None
     for row, (places, outputs, last) in enumerate(rows, 1):
         changes = list(zip(places[::2], places[1::2], strict=True))
         due = due_of(entry, outputs, last)
@@ -194,7 +196,7 @@ def cases_of(entry: Mapping[str, Any]) -> Iterator[Case]:
                 words=tuple(words),
                 files=files,
                 pipes=tuple(entry.get("pipes", ())),
-                write=tuple(entry["write"]) if "write" in entry else None,
+                write=write,
                 due=due,
             )
 
