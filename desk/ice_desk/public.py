@@ -99,11 +99,11 @@ def checked(view: Public) -> str:
 def goods_section(view: Public) -> str:
     """The goods, and how much of each is traded in all once the session has closed."""
     journal, closed = view.journal, view.journal.end.word == "closed"
-    heads = [column_head("good")] + [column_head("units traded", "right")] * closed
+    heads = [column_head("good", "name")] + [column_head("units traded", "right")] * closed
     traded = [sum(max(each[n], 0) for each in view.units) for n in range(len(journal.goods))]
     rows = [
         row(
-            row_head(text(good.name) + " =" * good.exact),
+            row_head(text(good.name) + " =" * good.exact, "name"),
             *[cell(numbers.whole(count), "right")] * closed,
         )
         for good, count in zip(journal.goods, traded)

@@ -84,8 +84,8 @@ def regret_table(view: View) -> str:
         tag("h3", caption)
         + table(caption, head, rows, class_="steps drawn")
         + key(
-            "" if view.alone else "■ the best trade was sure of this",
-            '<b class="miss">■</b> another could be worth so much more',
+            "" if view.alone else '<b class="ink">■</b> the best trade was sure of this',
+            '<b class="gap">■</b> another could be worth so much more',
             close,
         )
     )

@@ -123,8 +123,8 @@ class Payments:
         """The list, its sums and its legend."""
         head = row(
             column_head("", "name"),
-            *(column_head(name, "right wider") for name in ("worth", "adds", "− keeps")),
-            column_head("= pays", "right"),
+            *(column_head(name, "right wider") for name in ("worth", "adds", "−\u00a0keeps")),
+            column_head("=\u00a0pays", "right"),
             column_head(f"cut at {exact(self.cut)}", "bars wider"),
         )
         rows = [self.bidder(number) for number in self.listed]

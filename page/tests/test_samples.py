@@ -355,7 +355,7 @@ class ByHand(unittest.TestCase):
         self.assertEqual(
             page.table("What each pays"),
             [
-                ["", "worth", "adds", "− keeps", "= pays", "cut at 0.5 (1/2)"],
+                ["", "worth", "adds", "−\u00a0keeps", "=\u00a0pays", "cut at 0.5 (1/2)"],
                 ["b", "16", "1", "0.5", "15.5", "1"],
                 ["s", "−15", "1", "0.5", "−15.5", "1"],
                 ["all: the surplus", "1", "", "1", "0", ""],
