@@ -12,15 +12,19 @@ import unittest
 from collections.abc import Callable, Sequence
 from pathlib import Path
 from threading import Timer
+from typing import TypeVar
 
 from harness import made
-from harness.calls import CALLS, Call
+from harness.calls import CALLS, Call, Word
 from harness.cases import FILES, shared
 from harness.edge import counts, edge
 from harness.program import DONE, INPUT, NO, SECONDS, UNREAD, WORDS, WRITE_FAULT
 from harness.program import Program, Ran, ended, limit, programs
 
 NOBODY = 65534
+
+# A class of tests: that of the test which is made one of each call.
+Tests = TypeVar("Tests", bound="Edge")
 
 # So many bytes of lines `migrate` gathers at most, before it writes them.
 GATHERED = 65_536
@@ -48,11 +52,11 @@ def pieces(command: str, output: bytes) -> Sequence[bytes]:
     return lines
 
 
-def for_each_call(test: Callable[[Edge, Program, Call, Ran], None]) -> Callable[[Edge], None]:
+def for_each_call(test: Callable[[Tests, Program, Call, Ran], None]) -> Callable[[Tests], None]:
     """A test of each call by each build, with what it gives where nothing fails."""
 
     @functools.wraps(test)
-    def whole_test(self: Edge) -> None:
+    def whole_test(self: Tests) -> None:
         for program in programs():
             for call in CALLS.values():
                 with self.subTest(call.name, program=str(program)):
@@ -62,12 +66,12 @@ def for_each_call(test: Callable[[Edge, Program, Call, Ran], None]) -> Callable[
 
 
 def for_each_file(
-    test: Callable[[Edge, Program, Call, int, Ran], None]
-) -> Callable[[Edge], None]:
+    test: Callable[[Tests, Program, Call, int, Ran], None]
+) -> Callable[[Tests], None]:
     """A test of each word of each call that names a file, by its place."""
 
     @functools.wraps(test)
-    def whole_test(self: Edge, program: Program, call: Call, whole: Ran) -> None:
+    def whole_test(self: Tests, program: Program, call: Call, whole: Ran) -> None:
         for place in call.files:
             with self.subTest(place=place):
                 test(self, program, call, place, whole)
@@ -129,7 +133,7 @@ class Writes(Edge):
     def test_long_writes_fail(self) -> None:
         journal, file = self.folder / "journal", self.folder / "counts"
         journal.write_bytes(made.long_session(1))
-        words = ["migrate", journal]
+        words: list[Word] = ["migrate", journal]
         due = pieces("migrate", made.long_session(2))
         for program in programs():
             self.is_same(
@@ -167,7 +171,7 @@ class Writes(Edge):
 
     def status_onto(self, program: Program, call: Call, output: str) -> tuple[int, str]:
         """The status, and standard error, of a run with this standard output in a shell."""
-        words = ["sh", "-c", f'"$@" {output}', "sh", program.path, *call.words()]
+        words: list[Word] = ["sh", "-c", f'"$@" {output}', "sh", program.path, *call.words()]
         ran = subprocess.run(words, stdin=subprocess.DEVNULL, capture_output=True, text=True)
         self.assertEqual(ran.stdout, "")
         return ran.returncode, ran.stderr
@@ -197,7 +201,7 @@ class Writes(Edge):
     @for_each_call
     def test_other_streams_that_are_closed(self, program: Program, call: Call, whole: Ran) -> None:
         for streams in ("<&-", "2>&-", "<&- 2>&-"):
-            words = ["sh", "-c", f'"$@" {streams}', "sh", program.path, *call.words()]
+            words: list[Word] = ["sh", "-c", f'"$@" {streams}', "sh", program.path, *call.words()]
             ran = subprocess.run(words, capture_output=True)
             self.is_same(Ran(ran.returncode, ran.stdout, ran.stderr), whole)
 
@@ -261,19 +265,20 @@ class Reads(Edge):
             for data, due in ((whole, sets), (whole + b" ", refused)):
                 exchange.write_bytes(data)
                 with self.subTest(length=len(data), program=str(program)):
-                    words = ["best", exchange, FILES / "fifteen.prices"]
+                    words: list[Word] = ["best", exchange, FILES / "fifteen.prices"]
                     self.is_same(program.run(words, environment=edge(short_read=16_384)), due)
 
     def test_a_file_that_changes_while_it_is_read(self) -> None:
         journal = self.folder / "journal"
         whole = shared("sale.assign")
-        for change, due in (
+        changes: tuple[tuple[Callable[[], object], str], ...] = (
             (lambda: journal.unlink(), "yes 10\n"),
             (lambda: journal.write_text(""), "refused 1 51 2\n"),
             (lambda: os.truncate(journal, 20), "refused 1 51 2\n"),
             (lambda: journal.write_text(whole + "end assign\n"), "no 12 order\n"),
             (lambda: journal.rename(self.folder / "other"), "yes 10\n"),
-        ):
+        )
+        for change, due in changes:
             for program in programs():
                 with self.subTest(due, program=str(program)):
                     journal.write_text(whole)
@@ -291,7 +296,7 @@ class Reads(Edge):
             lines = whole.output.splitlines(keepends=True)
             names = [self.folder / name for name in ("exchange", "round")]
             for name, path in zip(names, call.words()[1:]):
-                name.write_bytes(Path(path).read_bytes())
+                name.write_bytes(Path(os.fsdecode(path)).read_bytes())
             child = program.stopped(["run", *names], edge(stop_write=2))
             names[0].unlink()
             child.send_signal(signal.SIGCONT)
@@ -323,7 +328,7 @@ class Reads(Edge):
                 read += more
             timer.cancel()
             self.assertEqual(read, front)
-            pipe.write_bytes(Path(bids).read_bytes())
+            pipe.write_bytes(Path(os.fsdecode(bids)).read_bytes())
             ran = ended(child)
             self.is_same(Ran(ran.status, read + ran.output, ran.errors), whole)
 
@@ -337,7 +342,7 @@ class Files(Edge):
         for path, target in ((link, self.folder / "nowhere"), (circle, circle)):
             path.unlink(missing_ok=True)
             path.symlink_to(target)
-        for name in (
+        names: tuple[Word, ...] = (
             "",
             "-",
             self.folder,
@@ -347,9 +352,10 @@ class Files(Edge):
             "x" * 5000,
             FILES / "sale.assign" / "inside",
             "/dev/stdin",
-        ):
+        )
+        for name in names:
             words = call.words({place: name})
-            closed = ["sh", "-c", '"$@" <&-', "sh", program.path, *words]
+            closed: list[Word] = ["sh", "-c", '"$@" <&-', "sh", program.path, *words]
             ran = subprocess.run(closed, capture_output=True)
             number = self.unread(call, Ran(ran.returncode, ran.stdout, ran.stderr), whole)
             self.assertEqual(number, place, name)
@@ -361,7 +367,7 @@ class Files(Edge):
         closed.chmod(0)
         self.folder.chmod(0o755)
         for program in programs():
-            words = [program.path, "check", closed]
+            words: list[Word] = [program.path, "check", closed]
             try:
                 ran = subprocess.run(words, capture_output=True, user=NOBODY if is_root else None)
             except PermissionError:
@@ -393,7 +399,7 @@ class Files(Edge):
         link, pipe = self.folder / "link", self.folder / "pipe"
         for path in (link, pipe):
             path.unlink(missing_ok=True)
-        file = Path(call.words()[place])
+        file = Path(os.fsdecode(call.words()[place]))
         link.symlink_to(file)
         self.is_same(program.run(call.words({place: link})), whole)
         os.mkfifo(pipe)

@@ -2,6 +2,7 @@
 import subprocess
 import sys
 import unittest
+from typing import Any
 
 from harness.cases import changed, shared
 from harness.forms import misshapen
@@ -15,7 +16,7 @@ class Fuzz(unittest.TestCase):
     """What the fuzzer stands on."""
 
     def test_some_turns(self) -> None:
-        words = [sys.executable, TESTS / "fuzz", "--turns", str(TURNS), "--seed", "gate"]
+        words = [sys.executable, str(TESTS / "fuzz"), "--turns", str(TURNS), "--seed", "gate"]
         ran = subprocess.run(words, capture_output=True, text=True)
         self.assertEqual(ran.returncode, 0, ran.stdout + ran.stderr)
 
@@ -34,7 +35,7 @@ class Fuzz(unittest.TestCase):
                 self.assertEqual(list(faults(shared(name).encode(), answer)), [])
 
     def test_journals_that_are_wrong(self) -> None:
-        for name, answer, *change in (
+        wrong: tuple[tuple[Any, ...], ...] = (
             ("sale.assign", "yes 11"),
             ("sale.assign", "yes 20", 9, "set 0"),
             ("sale.regret", "yes 0", 13, "set 0"),
@@ -47,7 +48,8 @@ class Fuzz(unittest.TestCase):
             ("core.session", "yes 0 0/1", 63, "threshold 0/1 0/1"),
             ("rounds.session", "yes 0 0/1", 22, "prices 1 101"),
             ("rounds.session", "yes 0 0/1", 39, "verdict 43"),
-        ):
+        )
+        for name, answer, *change in wrong:
             with self.subTest(name, change=change):
                 journal = changed(shared(name), list(zip(change[::2], change[1::2])))
                 self.assertNotEqual(list(faults(journal.encode(), answer)), [])
@@ -65,7 +67,7 @@ class Fuzz(unittest.TestCase):
                 self.assertEqual(list(gap_faults(shared(name).encode(), answer)), [])
 
     def test_gaps_that_are_wrong(self) -> None:
-        for name, answer, *change in (
+        wrong: tuple[tuple[Any, ...], ...] = (
             ("spent-final.session", "gap final 0 11"),
             ("spent-final.session", "gap rival 0 10"),
             ("spent-final.session", "gap final 0 9", 9, "spent 0 9"),
@@ -75,7 +77,8 @@ class Fuzz(unittest.TestCase):
             ("spent-without.session", "gap without 0 0 5"),
             ("spent-without.session", "gap without 1 10 11", 22, "spent 10 11", 23, "set 1", 24, "set 1"),
             ("open.session", "gap provisional 0 100"),
-        ):
+        )
+        for name, answer, *change in wrong:
             with self.subTest(name, change=change):
                 journal = changed(shared(name), list(zip(change[::2], change[1::2])))
                 self.assertNotEqual(list(gap_faults(journal.encode(), answer)), [])

@@ -31,7 +31,7 @@ class FuzzPage(unittest.TestCase):
     """What the fuzzer stands on."""
 
     def test_some_turns(self) -> None:
-        words = [sys.executable, TESTS / "fuzz_page", "--turns", str(TURNS), "--seed", "gate"]
+        words = [sys.executable, str(TESTS / "fuzz_page"), "--turns", str(TURNS), "--seed", "gate"]
         ran = subprocess.run(words, capture_output=True, text=True)
         self.assertEqual(ran.returncode, 0, ran.stdout + ran.stderr)
 

@@ -84,9 +84,10 @@ class Limits(unittest.TestCase):
 
     def test_bids_of_a_round(self) -> None:
         full = [0] * 200
+        empty: tuple[str, list[int], list[int]] = ("b", [], [])
         for data, last in (
-            (made.bids(*[("b", [], [])] * 400), "end open"),
-            (made.bids(*[("b", [], [])] * 401), "refused 2 4 bids"),
+            (made.bids(*[empty] * 400), "end open"),
+            (made.bids(*[empty] * 401), "refused 2 4 bids"),
             (made.bids(("b", full, full)), "end open"),
             (made.bids(("b", [*full, 0], [])), "refused 2 4 bids.0.lo"),
             (made.bids(("b", [], [*full, 0])), "refused 2 4 bids.0.hi"),
@@ -171,11 +172,10 @@ class Limits(unittest.TestCase):
             ("verdicts", rows, "no 2 order\n", ("check", "migrate"), 600, 60),
         ):
             self.file.write_bytes(data)
-            limits = {"room": megabytes << 20, "seconds": seconds}
             for program in filter(lambda made: made.keeps_to_room, programs()):
                 for command in commands:
                     with self.subTest(name, command=command, program=str(program)):
-                        ran = program.run([command, self.file], **limits)
+                        ran = program.run([command, self.file], room=megabytes << 20, seconds=seconds)
                         self.assertEqual(ran.output.decode(), output)
                         self.assertEqual((ran.status, ran.errors), (status_of(output), b""))
 

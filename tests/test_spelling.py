@@ -9,7 +9,7 @@ import unittest
 from pathlib import Path
 
 from harness import spelling
-from harness.program import INPUT, NO, programs
+from harness.program import INPUT, NO, Program, programs
 from harness.spelling import Texts
 
 
@@ -21,7 +21,7 @@ class Spellings(unittest.TestCase):
         self.addCleanup(folder.cleanup)
         self.file = Path(folder.name, "journal")
 
-    def answer(self, program, lines: list[str]) -> tuple[str, int]:
+    def answer(self, program: Program, lines: list[str]) -> tuple[str, int]:
         """What `check` says of these lines."""
         self.file.write_bytes("".join(f"{line}\n" for line in lines).encode("latin-1"))
         ran = program.run(["check", self.file])

@@ -163,11 +163,12 @@ def best_value(journal: Journal, group: Group, weights: Sequence[Values]) -> int
         [(worth(bits, values), bidder.units(bits, goods)) for bits in sets]
         for bidder, sets, values in zip(journal.bidders, choices, weights)
     ]
-    return max(
+    best: int = max(
         sum(value for value, _ in taken)
         for taken in product(*offers)
         if is_feasible(journal, [units for _, units in taken])
     )
+    return best
 
 
 def payment_faults(journal: Journal) -> Iterator[str]:
@@ -181,7 +182,7 @@ def payment_faults(journal: Journal) -> Iterator[str]:
         discounts.append(vickrey)
         due_discount = max(Fraction(0), vickrey - journal.cut)
         due_payment = worth(final.sets[number], last.bounds[number][0]) - due_discount
-        stated = (payment.vickrey, payment.discount, payment.payment)
+        stated = (Fraction(payment.vickrey), payment.discount, payment.payment)
         if stated != (vickrey, due_discount, due_payment):
             yield f"the payment of {bidder.name}: due is {vickrey} {due_discount} {due_payment}"
     if journal.surplus != sum(payment.payment for payment in journal.payments):

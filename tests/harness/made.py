@@ -3,27 +3,28 @@ from __future__ import annotations
 
 import json
 import re
+from typing import Any
 
 from harness.cases import shared
 
 SETTINGS = {"weight": 50, "close_regret": 0, "cap": 100, "improve": 1, "rounds": 5, "branches": 200}
-SALE = {"sell": "A", "units": 1, "lo": -10, "hi": -10}
-PURCHASE = {"buy": "A", "units": 1, "lo": 20, "hi": 30}
-SELLER = {"name": "s", "own": {"A": 1}, "tree": SALE}
-BUYER = {"name": "b", "own": {}, "tree": PURCHASE}
+SALE: dict[str, Any] = {"sell": "A", "units": 1, "lo": -10, "hi": -10}
+PURCHASE: dict[str, Any] = {"buy": "A", "units": 1, "lo": 20, "hi": 30}
+SELLER: dict[str, Any] = {"name": "s", "own": {"A": 1}, "tree": SALE}
+BUYER: dict[str, Any] = {"name": "b", "own": {}, "tree": PURCHASE}
 
 # The limits of files, in bytes.
 EXCHANGE_BYTES = 16_777_216
 JOURNAL_BYTES = 134_217_728
 
 
-def exchange(*bidders: dict, **members: object) -> bytes:
+def exchange(*bidders: dict[str, Any], **members: object) -> bytes:
     """An exchange of these bidders in JSON."""
-    whole = {"settings": SETTINGS, "goods": ["A"], "bidders": bidders, **members}
+    whole: dict[str, Any] = {"settings": SETTINGS, "goods": ["A"], "bidders": bidders, **members}
     return json.dumps(whole).encode()
 
 
-def nested(levels: int, tree: dict) -> dict:
+def nested(levels: int, tree: dict[str, Any]) -> dict[str, Any]:
     """A tree in so many choices of one out of one."""
     for _ in range(levels):
         tree = {"choose": [1, 1], "lo": 0, "hi": 0, "of": [tree]}
@@ -40,7 +41,7 @@ def crowd(count: int) -> bytes:
     return exchange(*({**BUYER, "name": f"b{number}"} for number in range(count)))
 
 
-def wide(leaves: int) -> dict:
+def wide(leaves: int) -> dict[str, Any]:
     """A tree with so many leaves that buy."""
     return {"choose": [0, min(leaves, 199)], "lo": 0, "hi": 0, "of": [PURCHASE] * leaves}
 
@@ -51,7 +52,7 @@ def packages(word: str, count: int) -> bytes:
     return exchange({"name": "b", "own": {}, word: rows}, goods=["A", "B"])
 
 
-def bids(*rows: tuple[str, list, list]) -> bytes:
+def bids(*rows: tuple[str, list[int], list[int]]) -> bytes:
     """A round file of these bids: a bidder, lower values and upper ones."""
     values = [{"bidder": bidder, "lo": lo, "hi": hi} for bidder, lo, hi in rows]
     return json.dumps({"bids": values}).encode()
