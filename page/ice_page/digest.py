@@ -136,7 +136,8 @@ def words() -> Words:
         allow_abbrev=False,
         description="Writes the digest to publish of a session's journal; or, where a list of "
         "such digests is named too, says of each whether the journal keeps it, and which rounds "
-        "have no line in the list.",
+        "have no line in the list. With `--statements JOURNAL SALTS` or `--statement FILE SALT "
+        "LIST` as the first words it is about the statements of bidders.",
     )
     parser.add_argument("journal", metavar="JOURNAL", help="the journal of the session so far")
     parser.add_argument("list", metavar="LIST", nargs="?", help="the digests that were published")

@@ -15,7 +15,7 @@ from typing import Callable
 from support import HERE, ROOT, SAMPLES, page_of, run, sample
 from test_statement import BUYER, CLOSED, SELLER, names, statement_of
 
-from ice_page import statement_command, statement_digests
+from ice_page import digest, statement_command, statement_digests
 from ice_page.journal import BadJournal
 from ice_page.statements import Watched, write_statements
 
@@ -65,6 +65,11 @@ def call(main: Callable[[list[str]], int], *words: str) -> tuple[int, str, str]:
 
 class Statements(unittest.TestCase):
     """What is made of a journal."""
+
+    def test_the_help_of_digests_names_both_words(self) -> None:
+        shown = " ".join(digest.words().format_help().split())
+        for words in ("--statements JOURNAL SALTS", "--statement FILE SALT LIST"):
+            self.assertIn(words, shown)
 
     def test_written_by_hand(self) -> None:
         found = statements(sample("two-settlements.session"))
