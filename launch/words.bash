@@ -336,6 +336,8 @@ describe() {
             echo "$(name_of 1 | tr -d '\n') is $(stopped "$line")"
         elif [ "${words[0]}:$line" = audit:1 ] && [ "$(first_word 1)" = ice ]; then
             echo "$(name_of 1 | tr -d '\n') is no statement but a journal: \`ice check\` tests it"
+        elif [ "${words[0]}:$test" = audit:order ] && [ -f "${words[1]}" ] && [ "$(sed -n "${line}{p;q}" "${words[1]}" 2>/dev/null)" = "end open" ]; then
+            echo "$(name_of 1 | tr -d '\n') is right as far as it goes, to line $line: it is a statement of a session that is open"
         else
             echo "$(name_of 1 | tr -d '\n'), line $line: $(rule "$test")"
         fi

@@ -202,6 +202,8 @@ class Words(unittest.TestCase):
             self.assertEqual(self.told("refused 1 50 1\n", 2, *words), "s is refused: line 1 `statement a`: it is a statement: `ice audit` tests it (number 50)")
         (self.top / "j").write_text(OPEN)
         self.assertEqual(self.told("no 1 order\n", 3, "audit", "j"), "j is no statement but a journal: `ice check` tests it")
+        (self.top / "o").write_text("statement a\nend open\n")
+        self.assertEqual(self.told("no 2 order\n", 3, "audit", "o"), "o is right as far as it goes, to line 2: it is a statement of a session that is open")
         self.assertEqual(self.told("no 2 order\n", 3, "audit", "s"), "s, line 2: another record belongs here")
 
     def test_help_behind_a_command(self) -> None:
