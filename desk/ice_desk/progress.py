@@ -1,13 +1,22 @@
 """A line on the terminal that says which step a command is at, while it works."""
 from __future__ import annotations
 
-import shutil
+import os
 import sys
 import time
 
 from .stop import plain
 
 FROM = 1  # seconds from which on a step says how long it takes
+USUAL = 80  # columns of a terminal that doesn't say how many it has
+
+
+def columns() -> int:
+    """How many columns the terminal of standard error has."""
+    try:
+        return os.get_terminal_size(sys.stderr.fileno()).columns or USUAL
+    except OSError:
+        return USUAL
 
 
 class Progress:
@@ -53,7 +62,7 @@ class Progress:
         if not self.is_shown:
             return
         # One that went to the next line could not be written over.
-        line = plain(line)[: shutil.get_terminal_size().columns - 1]
+        line = plain(line)[: columns() - 1]
         blank = " " * (self.width - len(line))
         try:
             sys.stderr.write(f"\r{line}{blank}" if line else f"\r{blank}\r")

@@ -1,4 +1,5 @@
 """A round in one command: what it makes, what it says, and that it leaves all where it stops."""
+import fcntl
 import hashlib
 import json
 import os
@@ -6,8 +7,10 @@ import pty
 import re
 import shutil
 import signal
+import struct
 import subprocess
 import sys
+import termios
 import time
 import unittest
 
@@ -241,9 +244,7 @@ class Stops(Desk):
         (self.folder / "Polar-Cargo-1.html").mkdir()
         self.stops(7, "Polar-Cargo-1.html")
 
-    def test_two_at_once(self) -> None:
-        import fcntl
-
+    def test_two_at_once(self):
         with (self.folder / "market.json").open() as stream:
             fcntl.flock(stream, fcntl.LOCK_EX)
             self.stops(2, "another ice-round works on market.json")
@@ -300,7 +301,8 @@ class OnATerminal(Desk):
     def on_terminal(self, *words: str, columns: int = 80, **settings: str):
         """Holds a round whose standard error is a terminal: the status, output, and what it got."""
         terminal, its_end = pty.openpty()
-        where = {**self.where, "COLUMNS": str(columns), **settings}
+        fcntl.ioctl(its_end, termios.TIOCSWINSZ, struct.pack("HHHH", 24, columns, 0, 0))
+        where = {**self.where, **settings}
         words = (sys.executable, ROUND, "market.json", *(words or (PROGRAM,)))
         how = {"cwd": self.folder, "env": where, "stdin": subprocess.DEVNULL}
         process = subprocess.Popen(words, stdout=subprocess.PIPE, stderr=its_end, **how)
