@@ -260,8 +260,9 @@ def gets(view: View, number: int) -> str:
     """What a bidder gets and pays, in a line."""
     trade = text(words.trade(view.units[number], view.journal.goods))
     if not view.journal.payments:
-        where = "Your final set, if the session closed now, by lower values alone: "
-        return (where if view.alone else "") + trade
+        whose = "Your" if view.alone else "Its"
+        where = f"{whose} final set, if the session closed now, by lower values alone: "
+        return (where if view.alone or words.awaited(view.journal) else "") + trade
     payment = view.journal.payments[number].payment
     verb = "receive" if payment < 0 else "pay"
     verb = f"you {verb}" if view.alone else f"{verb}s"

@@ -113,7 +113,8 @@ class OneBidder(unittest.TestCase):
             self.assertIn(f"{final}: {now}", words)
             self.assertNotIn("provisional set is", page_of(AIRPORT, "--bidder", name).root.text)
         page = page_of(journal)
-        self.assertEqual(page.root.text.count("Its provisional set"), len(NAMES))
+        for words in ("Its provisional set", "Its final set, if the session closed now"):
+            self.assertEqual(page.root.text.count(words), len(NAMES))
         says = "Its provisional set, by which bids are judged: buy dep-0630 + dep-0700 + arr-2215"
         self.assertIn(f"{says} (nodes 0–2, 4).", page.root.seen())
 
