@@ -16,10 +16,10 @@ use Rattle.ice_journal_laws.specs.declared.rule.Rule.TheVariants as rule
 use Rattle.ice_journal_laws.specs.Checks.{Failure}
 use Rattle.ice_statement_laws.specs.Statement.{StatementLine, statement_text}
 use Rattle.ice_statement_laws.specs.Audit.{at_name, at_section, at_regret, at_kept, at_offered, at_prices, at_round, at_verdict, at_threshold, at_payment, at_end, done, AuditState, audit_begun, spot_next, to_line, Audited, passes, is_short, fails, goes_on, IsAudit}
-use Rattle.ice_statement_laws.specs.Texts.{IsLine, line_text, bytes_of_lines, AreLines, LinesComeTo, IsLineFault, payment_or, payment_in_line, paid_in, AuditsBytes}
+use Rattle.ice_statement_laws.specs.Texts.{IsLine, line_text, bytes_of_lines, AreLines, LinesComeTo, IsLineFault, payment_or, payment_in_line, paid_in}
 use Rattle.ice_audit.specs.declared.answer.AuditAnswer.{AuditAnswer}
 use Rattle.ice_audit.specs.declared.answer.AuditAnswer.TheVariants.{Yes, No}
-use Rattle.ice_audit.specs.Answers.{told_of}
+use Rattle.ice_audit.specs.Answers.{AnswersAudit}
 use Rattle.ice_audit.specs.declared.auditor.Auditor.{Auditor}
 use Rattle.ice_audit.specs.declared.auditor.Auditor.TheVariants as so_far
 use Rattle.ice_audit.specs.declared.standing.Standing.{Standing}
@@ -181,12 +181,12 @@ unended_line bytes rest number standing read none some = (rest, comes_to bytes r
 
 -- the answer to all of them
 pub all_read : (bytes rest : List ℕ) (number : ℕ) (standing : Standing) (answer : AuditAnswer) → HasRead bytes rest number standing → rest ≡ [] → ((lines : List StatementLine) → number ≡ suc (length lines) → Follows standing lines → AnswersLines lines answer)
-    → AuditsBytes bytes (told_of (Ok answer))
+    → AnswersAudit bytes (Ok answer)
 all_read bytes rest number standing answer read none answers = by answer (answers read.before read.number_is read.follows)
   where
     are : AreLines bytes read.before
     are = record { lawful = read.lawful; spelled = read.bytes_are ∙ ap (λ (t : List ℕ). bytes_of_lines read.before ++ t) none ∙ append-nil (bytes_of_lines read.before) }
 
-    by : (a : AuditAnswer) → AnswersLines read.before a → AuditsBytes bytes (told_of (Ok a))
+    by : (a : AuditAnswer) → AnswersLines read.before a → AnswersAudit bytes (Ok a)
     by (Yes payment) h = (read.before, are, h.0, h.1)
     by (No place test) h = (read.before, are, h)

@@ -10,15 +10,3 @@ pub enum AuditAnswer {
     /// The first failed test: its line, from 1, and its rule.
     No { line: u64, rule: Rule },
 }
-
-/// Why bytes have no answer.
-#[derive(Clone, Copy, PartialEq, Eq, Debug)]
-pub enum AuditEnd {
-    /// This line is neither a record nor another line of a statement, and none before it is at
-    /// fault.
-    Grammar { line: u64 },
-    /// The last line has no newline, and none before it is at fault.
-    Unended { line: u64 },
-    /// Memory ran out.
-    NoMemory,
-}

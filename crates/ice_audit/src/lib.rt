@@ -11,6 +11,6 @@ mod rounds;
 mod settlements;
 mod standing;
 
-pub use answer::{AuditAnswer, AuditEnd};
+pub use answer::AuditAnswer;
 pub use auditing::audit;
-pub use ice_journal_laws::Rule;
+pub use ice_journal_laws::{CheckEnd, Rule};

@@ -1,7 +1,7 @@
 -- `check` on told bytes, with no fault of the outside: the
 -- checker's answer on the bytes decides what is written.
 use Rattle.std.proofs.Common.{◌≡◌, ◌≢◌, ◌∙◌, refl, ap, sym, subst, inl, inr, ◌⊎◌, ℕ, List, [], length, get_or, Some, Option, Result, Ok, Err, arith}
-use Rattle.ice_defs.specs.FileFault.{FileFault, at_line}
+use Rattle.ice_defs.specs.FileFault.{FileFault}
 use Rattle.ice_edge.specs.declared.status.Status.{Status}
 use Rattle.ice_edge.specs.declared.status.Status.TheVariants.{Done, Words, Input, No, Spent, Limit, ReadFault, WriteFault, NoMemory, StillOpen}
 use Rattle.ice_journal_laws.specs.declared.answer.Answer.{Answer}
@@ -11,9 +11,10 @@ use Rattle.ice_journal_laws.specs.Answers.{AnswersBytes}
 use Rattle.ice_journal_laws.proofs.Answered.{one_answer_of_bytes}
 use Rattle.ice_command_parts.specs.Call.{Call, IsTold, journal_limit, OfTold, too_long, at_fault}
 use Rattle.ice_words.specs.Command.{check, best, regret, xor, run, gen, migrate, simulate, IsCommand, replay, statement, audit, fair, gap}
-use Rattle.ice_commands.specs.CheckServed.{IsEndFault, CheckAnswers, WritesAnswer, answer_line, answer_status}
+use Rattle.ice_commands.specs.Ends.{IsEndFault}
+use Rattle.ice_commands.specs.CheckServed.{CheckAnswers, WritesAnswer, answer_line, answer_status}
 use Rattle.ice_command_parts.specs.Lines.{refused_line}
-use Rattle.ice_command_parts.specs.Refusals.{other_kind}
+use Rattle.ice_command_parts.specs.Refusals.{no_record, not_ended, other_kind}
 use Rattle.ice_cli.specs.Served.{IsServed, no_command, answers, cut_short}
 use Rattle.ice_cli.specs.Completeness.{IsFaultless, ChecksBytes, CheckCompletes, CheckIsDecided}
 
@@ -82,8 +83,8 @@ check_completes call journal bytes checks = ends call journal call.status checks
 -- ---- what the checker answers decides the status and the text
 
 abbrev fault_of_end : CheckEnd → FileFault
-fault_of_end (ending.Grammar line) = at_line 50 line
-fault_of_end (ending.Unended line) = at_line 51 line
+fault_of_end (ending.Grammar line) = no_record line
+fault_of_end (ending.Unended line) = not_ended line
 fault_of_end ending.OtherKind = other_kind
 fault_of_end ending.NoMemory = other_kind
 

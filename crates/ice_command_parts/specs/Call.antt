@@ -45,11 +45,15 @@ OfTold limit P (Some (Some bytes)) = (length bytes ≤ limit) × P bytes
 abbrev pub OfFile : Call → List ℕ → ℕ → (List ℕ → Type 0) → Type 0
 OfFile call name limit P = OfTold limit P (call.before.holds name)
 
+-- a file has more bytes than it may have
+abbrev pub overlong_file : FileFault
+overlong_file = record { number = 61; place = codes "-" }
+
 -- a file is refused: it is too long, and the count of that rose; or
 -- its bytes, which are those that are told, have this fault
 pub data IsRefused (call : Call) (name : List ℕ) (limit : ℕ) (HasFault : List ℕ → FileFault → Type 0) : FileFault → Type 0 where
   too_long : OverlongRose call name limit → ((bytes : List ℕ) → IsTold call name bytes → limit < length bytes)
-      → IsRefused call name limit HasFault (record { number = 61; place = codes "-" })
+      → IsRefused call name limit HasFault overlong_file
   at_fault : {fault : FileFault} (bytes : List ℕ) → HasFault bytes fault → OfFile call name limit (λ told. told ≡ bytes)
       → IsRefused call name limit HasFault fault
 

@@ -7,13 +7,21 @@ use Rattle.ice_defs.specs.Exchange.{Exchange}
 use Rattle.ice_defs.specs.FileFault.{FileFault, at_line}
 use Rattle.ice_read.specs.Places.{place_text}
 use Rattle.ice_command_parts.specs.declared.refusal.FileFault as declared
-use Rattle.ice_command_parts.specs.declared.refusal.FileFault.TheVariants.{AtLine, AtPlace, OtherKind, NoSettlement, NoBidder, TooLong}
+use Rattle.ice_command_parts.specs.declared.refusal.FileFault.TheVariants.{AtLine, AtPlace, NoRecord, NotEnded}
+use Rattle.ice_command_parts.specs.declared.refusal.FileFault.TheVariants.{OtherKind, NoSettlement, NoBidder, TooLong}
 use Rattle.ice_command_parts.specs.declared.refusal.Refusal.{Refusal}
 use Rattle.ice_command_parts.specs.declared.refusal.Refusal.TheVariants.{File, Unread, NoMemory}
-use Rattle.ice_command_parts.specs.Call.{Call, FaultRose, file_limit, OfFile, IsRefused}
+use Rattle.ice_command_parts.specs.Call.{Call, FaultRose, file_limit, OfFile, overlong_file, IsRefused}
 use Rattle.ice_command_parts.specs.Files.{IsExchangeOf}
 use Rattle.ice_command_parts.specs.Lines.{refused_line, unread_line}
 use Rattle.ice_command_parts.specs.Parts.{HasPart}
+
+-- the least line of a journal, or of a statement, that is at fault
+abbrev pub no_record : ℕ → FileFault
+no_record line = at_line 50 line
+
+abbrev pub not_ended : ℕ → FileFault
+not_ended line = at_line 51 line
 
 -- faults of a file as a whole
 abbrev pub other_kind : FileFault
@@ -29,10 +37,12 @@ no_bidder = record { number = 94; place = codes "-" }
 abbrev pub fault_of : declared.FileFault → FileFault
 fault_of (AtLine number line) = at_line number line
 fault_of (AtPlace number place) = record { number = number; place = place_text place }
+fault_of (NoRecord line) = no_record line
+fault_of (NotEnded line) = not_ended line
 fault_of OtherKind = other_kind
 fault_of NoSettlement = no_settlement
 fault_of NoBidder = no_bidder
-fault_of TooLong = record { number = 61; place = codes "-" }
+fault_of TooLong = overlong_file
 
 abbrev pub refusal_text : Refusal → List ℕ
 refusal_text (File file fault) = refused_line file (fault_of fault)

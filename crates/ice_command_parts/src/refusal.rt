@@ -17,6 +17,10 @@ pub enum FileFault {
     AtLine { number: u8, line: u64 },
     /// The fault with this number, at this value of a JSON file.
     AtPlace { number: u8, place: Place },
+    /// This line is no record, or no line of a statement, and none before it is at fault.
+    NoRecord { line: u64 },
+    /// The last line, which is this one, has no newline, and none before it is at fault.
+    NotEnded { line: u64 },
     /// It is of another kind than the command reads.
     OtherKind,
     /// It is a session that states no regret of the settlement.
@@ -34,6 +38,8 @@ impl FileFault {
     {
         match self {
             FileFault::AtLine { number, .. } | FileFault::AtPlace { number, .. } => *number,
+            FileFault::NoRecord { .. } => 50,
+            FileFault::NotEnded { .. } => 51,
             FileFault::OtherKind => 53,
             FileFault::NoSettlement => 52,
             FileFault::NoBidder => 94,
@@ -48,7 +54,9 @@ impl FileFault {
         ensures len { length to.new ≤ length to.old + 257 }
     {
         match self {
-            FileFault::AtLine { line, .. } => to.natural(*line),
+            FileFault::AtLine { line, .. }
+            | FileFault::NoRecord { line }
+            | FileFault::NotEnded { line } => to.natural(*line),
             FileFault::AtPlace { place, .. } => to.word(place.text().as_bytes()),
             FileFault::OtherKind
             | FileFault::NoSettlement

@@ -12,7 +12,7 @@ pub mod RegretJournal
 pub mod Regretting
 -- what `xor` answers
 pub mod Translating
--- why nothing is written of a journal
+-- from why nothing is said of a file to what a command answers
 pub mod Unwriting
 -- what `migrate` answers
 pub mod Migrating

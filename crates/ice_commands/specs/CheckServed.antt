@@ -1,25 +1,16 @@
 -- What `check` writes at each status: what the checker says of the bytes.
-use Rattle.std.specs.Prelude.{ℕ, ◌≡◌, List, [], Ok, Err}
+use Rattle.std.specs.Prelude.{ℕ, ◌≡◌, List, Ok, Err}
 use Rattle.ice_edge.specs.declared.status.Status.{Status}
-use Rattle.ice_edge.specs.declared.status.Status.TheVariants.{Done, Input, No, ReadFault, NoMemory}
-use Rattle.ice_defs.specs.FileFault.{FileFault, at_line}
+use Rattle.ice_edge.specs.declared.status.Status.TheVariants.{Done, No}
+use Rattle.ice_defs.specs.FileFault.{FileFault}
 use Rattle.ice_journal_laws.specs.declared.answer.Answer.{Answer}
 use Rattle.ice_journal_laws.specs.declared.answer.Answer.TheVariants as answer
 use Rattle.ice_journal_laws.specs.declared.answer.CheckEnd.{CheckEnd}
-use Rattle.ice_journal_laws.specs.declared.answer.CheckEnd.TheVariants as ending
 use Rattle.ice_journal_laws.specs.Theorems.{of_assigned, of_regret, of_session}
 use Rattle.ice_journal_laws.specs.Answers.{AnswersBytes}
-use Rattle.ice_command_parts.specs.Call.{Call, FaultRose, journal_limit, OfFile, IsRefused}
-use Rattle.ice_command_parts.specs.Refusals.{other_kind}
-use Rattle.ice_command_parts.specs.Lines.{refused_line, unread_line}
+use Rattle.ice_command_parts.specs.Call.{Call, journal_limit, OfFile}
 use Rattle.ice_commands.specs.Output.{yes_line, no_line}
-
--- the fault of bytes that have no answer; want of memory is no fault of theirs
-abbrev pub IsEndFault : CheckEnd → FileFault → Type 0
-IsEndFault (ending.Grammar line) fault = fault ≡ at_line 50 line
-IsEndFault (ending.Unended line) fault = fault ≡ at_line 51 line
-IsEndFault ending.OtherKind fault = fault ≡ other_kind
-IsEndFault ending.NoMemory fault = ⊥
+use Rattle.ice_commands.specs.Ends.{IsEndFault, RefusesFile}
 
 abbrev pub IsCheckFault : List ℕ → FileFault → Type 0
 IsCheckFault bytes fault = (end : CheckEnd) × AnswersBytes bytes (Err end) × IsEndFault end fault
@@ -48,8 +39,4 @@ WritesAnswer call file status = (answer : Answer) × HasAnswer call file answer 
 abbrev pub CheckAnswers : Call → List ℕ → Status → Type 0
 CheckAnswers call file Done = WritesAnswer call file Done
 CheckAnswers call file No = WritesAnswer call file No
-CheckAnswers call file Input = (fault : FileFault) × IsRefused call file journal_limit IsCheckFault fault
-    × (call.text ≡ refused_line 1 fault)
-CheckAnswers call file ReadFault = FaultRose call file × (call.text ≡ unread_line 1)
-CheckAnswers call file NoMemory = call.text ≡ []
-CheckAnswers call file other = ⊥
+CheckAnswers call file other = RefusesFile call file IsCheckFault other

@@ -1,28 +1,12 @@
 -- What `fair` finds in its file, and what it says of a last settlement.
-use Rattle.std.specs.Prelude.{◌≡◌, ℕ, List, [], Err}
+use Rattle.std.specs.Prelude.{◌≡◌, ℕ, List, []}
 use Rattle.ice_edge.specs.declared.status.Status.{Status}
 use Rattle.ice_edge.specs.declared.status.Status.TheVariants.{Done, Limit, NoMemory}
 use Rattle.ice_edge.specs.Taken.{Taken}
 use Rattle.ice_defs.specs.Exchange.{trees_of}
-use Rattle.ice_journal_laws.specs.Checks.{Failure}
 use Rattle.ice_fair.specs.Lasts.{LastTrade}
-use Rattle.ice_last.specs.declared.ending.LastEnd.{LastEnd}
-use Rattle.ice_last.specs.declared.ending.LastEnd.TheVariants as ending
-use Rattle.ice_last.specs.Lasts.{LastsBytes}
-use Rattle.ice_commands.specs.declared.unwritten.Unwritten.{Unwritten}
-use Rattle.ice_commands.specs.declared.unwritten.Unwritten.TheVariants.{Fails, Refused}
-use Rattle.ice_commands.specs.FairServed.{IsLastEnd, SaysFair, SaysLimit}
+use Rattle.ice_commands.specs.FairServed.{SaysFair, SaysLimit}
 use Rattle.ice_command_parts.specs.Parts.{IsSaid}
-use Rattle.ice_command_parts.specs.Refusals.{IsFaultOf}
-
--- why there is no last settlement, in the words of `Unwritten`
-abbrev pub TellsEnd : LastEnd → Unwritten → Type 0
-TellsEnd end (Fails line rule) = end ≡ ending.No line rule
-TellsEnd end (Refused refusal) = IsFaultOf 1 (IsLastEnd end) refusal
-
--- bytes of a session journal that fails this test first
-abbrev pub AreFailing : Failure → List ℕ → Type 0
-AreFailing failure bytes = LastsBytes bytes (Err (ending.No failure.line failure.rule))
 
 -- the bidders' trees are those of the exchange
 abbrev pub HasItsTrees : LastTrade → Type 0

@@ -1,8 +1,8 @@
 -- What `fair` writes at each status: fair prices of a closed session, or why there are none.
-use Rattle.std.specs.Prelude.{ℕ, ◌≡◌, List, [], Result, Ok, Err}
+use Rattle.std.specs.Prelude.{ℕ, ◌≡◌, List, Result, Ok, Err}
 use Rattle.ice_edge.specs.declared.status.Status.{Status}
-use Rattle.ice_edge.specs.declared.status.Status.TheVariants.{Done, Input, No, Limit, ReadFault, NoMemory}
-use Rattle.ice_defs.specs.FileFault.{FileFault, at_line}
+use Rattle.ice_edge.specs.declared.status.Status.TheVariants.{Done, No, Limit}
+use Rattle.ice_defs.specs.FileFault.{FileFault}
 use Rattle.ice_frac.specs.Lowest.{IsLowest}
 use Rattle.ice_journal.specs.Journal.{bytes_of}
 use Rattle.ice_journal_laws.specs.Checks.{Failure}
@@ -12,30 +12,24 @@ use Rattle.ice_fair.specs.Ends.{IsFairEnd}
 use Rattle.ice_fair.specs.declared.answer.Fair.{Fair}
 use Rattle.ice_fair.specs.declared.ends.FairEnd.{FairEnd}
 use Rattle.ice_fair.specs.declared.ends.FairEnd.TheVariants as fair_end
-use Rattle.ice_last.specs.declared.ending.LastEnd.{LastEnd}
-use Rattle.ice_last.specs.declared.ending.LastEnd.TheVariants as ending
+use Rattle.ice_reading.specs.declared.end.JournalEnd.{JournalEnd}
+use Rattle.ice_reading.specs.declared.end.JournalEnd.TheVariants.{FailsTest}
 use Rattle.ice_last.specs.Lasts.{LastsBytes}
 use Rattle.ice_write_session.specs.Records.{limit_records}
 use Rattle.ice_write_fair.specs.Lines.{fair_lines, fair_limit_lines}
-use Rattle.ice_command_parts.specs.Call.{Call, FaultRose, journal_limit, OfFile, IsRefused}
-use Rattle.ice_command_parts.specs.Refusals.{other_kind}
-use Rattle.ice_command_parts.specs.Lines.{refused_line, unread_line}
+use Rattle.ice_command_parts.specs.Call.{Call, journal_limit, OfFile}
 use Rattle.ice_commands.specs.Output.{no_line}
+use Rattle.ice_commands.specs.Ends.{IsJournalFault, RefusesFile}
 
--- the fault of bytes that have no last settlement; a
--- failed test and want of memory are no fault of theirs
-abbrev pub IsLastEnd : LastEnd → FileFault → Type 0
-IsLastEnd (ending.Grammar line) fault = fault ≡ at_line 50 line
-IsLastEnd (ending.Unended line) fault = fault ≡ at_line 51 line
-IsLastEnd ending.OtherKind fault = fault ≡ other_kind
-IsLastEnd (ending.No line rule) fault = ⊥
-IsLastEnd ending.NoMemory fault = ⊥
+-- why bytes have no last settlement
+abbrev pub HasNoLast : List ℕ → JournalEnd → Type 0
+HasNoLast bytes end = LastsBytes bytes (Err end)
 
 abbrev pub IsFairFault : List ℕ → FileFault → Type 0
-IsFairFault bytes fault = (end : LastEnd) × LastsBytes bytes (Err end) × IsLastEnd end fault
+IsFairFault bytes fault = (end : JournalEnd) × HasNoLast bytes end × IsJournalFault end fault
 
 -- this is the last settlement in the bytes of the file, which are those that are told
-abbrev pub HasLast : Call → List ℕ → Result LastTrade LastEnd → Type 0
+abbrev pub HasLast : Call → List ℕ → Result LastTrade JournalEnd → Type 0
 HasLast call file found = (bytes : List ℕ) × LastsBytes bytes found × OfFile call file journal_limit (λ told. told ≡ bytes)
 
 -- the text says fair prices, and their distance in lowest terms
@@ -53,11 +47,7 @@ SaysLimit last text = (end : FairEnd) × IsFairEnd last end × IsLimitText end t
 
 abbrev pub FairAnswers : Call → List ℕ → Status → Type 0
 FairAnswers call file Done = (last : LastTrade) × HasLast call file (Ok last) × SaysFair last call.text
-FairAnswers call file No = (failure : Failure) × HasLast call file (Err (ending.No failure.line failure.rule))
+FairAnswers call file No = (failure : Failure) × HasLast call file (Err (FailsTest failure.line failure.rule))
     × (call.text ≡ no_line failure)
 FairAnswers call file Limit = (last : LastTrade) × HasLast call file (Ok last) × SaysLimit last call.text
-FairAnswers call file Input = (fault : FileFault) × IsRefused call file journal_limit IsFairFault fault
-    × (call.text ≡ refused_line 1 fault)
-FairAnswers call file ReadFault = FaultRose call file × (call.text ≡ unread_line 1)
-FairAnswers call file NoMemory = call.text ≡ []
-FairAnswers call file other = ⊥
+FairAnswers call file other = RefusesFile call file IsFairFault other

@@ -2,17 +2,17 @@
 use Rattle.std.specs.Prelude.{ℕ, ◌≡◌, List, [], ◌∷◌, ◌++◌, codes, decimal, Ok}
 use Rattle.std.specs.Fmt.{signed_decimal}
 use Rattle.ice_edge.specs.declared.status.Status.{Status}
-use Rattle.ice_edge.specs.declared.status.Status.TheVariants.{Done, Input, No, ReadFault, NoMemory}
-use Rattle.ice_defs.specs.FileFault.{FileFault}
+use Rattle.ice_edge.specs.declared.status.Status.TheVariants.{Done, No}
 use Rattle.ice_defs.specs.declared.Group.{Group}
 use Rattle.ice_defs.specs.declared.Group.TheVariants.{Assign, Final, Rival, Provisional, Without}
 use Rattle.ice_line.specs.Writing.{with_field}
 use Rattle.ice_gap_laws.specs.declared.answer.GapAnswer.{GapAnswer}
 use Rattle.ice_gap_laws.specs.declared.answer.GapAnswer.TheVariants as answer
 use Rattle.ice_gap_laws.specs.Answers.{AnswersGap}
-use Rattle.ice_command_parts.specs.Call.{Call, FaultRose, journal_limit, OfFile, IsRefused}
-use Rattle.ice_command_parts.specs.Lines.{line_text, refused_line, unread_line}
+use Rattle.ice_command_parts.specs.Call.{Call, journal_limit, OfFile}
+use Rattle.ice_command_parts.specs.Lines.{line_text}
 use Rattle.ice_commands.specs.Output.{no_line}
+use Rattle.ice_commands.specs.Ends.{RefusesFile}
 use Rattle.ice_commands.specs.CheckServed.{IsCheckFault}
 
 -- the words of a group behind the fields of a line
@@ -45,8 +45,4 @@ WritesGap call file status = (answer : GapAnswer) × HasGap call file answer × 
 abbrev pub GapAnswers : Call → List ℕ → Status → Type 0
 GapAnswers call file Done = WritesGap call file Done
 GapAnswers call file No = WritesGap call file No
-GapAnswers call file Input = (fault : FileFault) × IsRefused call file journal_limit IsCheckFault fault
-    × (call.text ≡ refused_line 1 fault)
-GapAnswers call file ReadFault = FaultRose call file × (call.text ≡ unread_line 1)
-GapAnswers call file NoMemory = call.text ≡ []
-GapAnswers call file other = ⊥
+GapAnswers call file other = RefusesFile call file IsCheckFault other

@@ -1,4 +1,5 @@
 pub mod Output
+pub mod Ends
 pub mod CheckServed
 pub mod ReplayServed
 pub mod BestServed
@@ -8,12 +9,9 @@ pub mod RegretServed
 pub mod RegretJournal
 pub mod XorServed
 pub mod XorParts
-pub mod Replaying
 pub mod Unwritten
 pub mod MigrateServed
-pub mod MigrateParts
 pub mod StatementServed
-pub mod StatementParts
 pub mod AuditServed
 pub mod AuditParts
 pub mod FairServed

@@ -4,7 +4,8 @@ use Rattle.ice_edge.specs.Told.{Told}
 use Rattle.ice_edge.specs.declared.status.Status.{Status}
 use Rattle.ice_edge.specs.declared.status.Status.TheVariants.{No}
 use Rattle.ice_defs.specs.FileFault.{FileFault}
-use Rattle.ice_journal_laws.specs.Checks.{Failure}
+use Rattle.ice_reading.specs.declared.end.JournalEnd.{JournalEnd}
+use Rattle.ice_reading.specs.declared.end.JournalEnd.TheVariants.{FailsTest}
 use Rattle.ice_commands.specs.declared.unwritten.Unwritten.{Unwritten}
 use Rattle.ice_commands.specs.declared.unwritten.Unwritten.TheVariants.{Fails, Refused}
 use Rattle.ice_command_parts.specs.Call.{journal_limit}
@@ -22,13 +23,14 @@ abbrev pub unwritten_status : Unwritten → Status
 unwritten_status (Fails line rule) = No
 unwritten_status (Refused refusal) = refusal_status refusal
 
--- the bytes of the first file fail a test so, or have such a fault; or there is no memory
-abbrev pub IsUnwrittenOf : (Failure → List ℕ → Type 0) → (List ℕ → FileFault → Type 0) → List ℕ → Unwritten → Type 0
-IsUnwrittenOf AreFailing HasFault bytes (Fails line rule) = AreFailing (record { line = line; rule = rule }) bytes
-IsUnwrittenOf AreFailing HasFault bytes (Refused refusal) = IsFaultOf 1 (HasFault bytes) refusal
+-- the bytes of the first file fail a test, by what is said of such bytes, or have such a fault; or
+-- there is no memory
+abbrev pub IsUnwrittenOf : (List ℕ → JournalEnd → Type 0) → (List ℕ → FileFault → Type 0) → List ℕ → Unwritten → Type 0
+IsUnwrittenOf EndsSo HasFault bytes (Fails line rule) = EndsSo bytes (FailsTest line rule)
+IsUnwrittenOf EndsSo HasFault bytes (Refused refusal) = IsFaultOf 1 (HasFault bytes) refusal
 
 -- the file of this name is such
-abbrev pub IsUnwritten : (Failure → List ℕ → Type 0) → (List ℕ → FileFault → Type 0) → List ℕ → Told → Told → Unwritten → Type 0
-IsUnwritten AreFailing HasFault name before after (Fails line rule) =
-    (bytes : List ℕ) × AreFailing (record { line = line; rule = rule }) bytes × AreFetched before name journal_limit bytes
-IsUnwritten AreFailing HasFault name before after (Refused refusal) = Refuses 1 name journal_limit HasFault before after refusal
+abbrev pub IsUnwritten : (List ℕ → JournalEnd → Type 0) → (List ℕ → FileFault → Type 0) → List ℕ → Told → Told → Unwritten → Type 0
+IsUnwritten EndsSo HasFault name before after (Fails line rule) =
+    (bytes : List ℕ) × EndsSo bytes (FailsTest line rule) × AreFetched before name journal_limit bytes
+IsUnwritten EndsSo HasFault name before after (Refused refusal) = Refuses 1 name journal_limit HasFault before after refusal

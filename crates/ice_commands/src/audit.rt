@@ -1,32 +1,21 @@
 //! `audit`: whether a statement passes its tests, with no journal in sight.
 ghost use Rattle.std.specs.Prelude.{◌≡◌, [], ℕ, List, IfOk, IfErr, OnOk};
 ghost use Rattle.ice_commands.specs.AuditServed.{paid_line, IsAuditFault, AuditAnswers};
-ghost use Rattle.ice_commands.specs.AuditParts.{IsAuditEnd, IsAnswerTo, answer_text, answer_status};
+ghost use Rattle.ice_commands.specs.AuditParts.{IsAnswerTo, answer_text, answer_status};
 ghost use Rattle.ice_command_parts.specs.Keeping.{KeepsTold};
 ghost use Rattle.ice_command_parts.specs.Parts.{AreFetched, IsSaid, Serves};
 ghost use Rattle.ice_command_parts.specs.Refusals.{refusal_status, IsFaultOf, Refuses};
 
 use crate::answer::{say_answer, write_fraction};
 use crate::check::JOURNAL_LIMIT;
-use ice_audit::{AuditAnswer, AuditEnd};
+use crate::ends::refusal_of;
+use ice_audit::AuditAnswer;
 use ice_check::Answer;
-use ice_command_parts::{FileFault, Refusal, ended, fetch};
+use ice_command_parts::{Refusal, ended, fetch};
 use ice_edge::{Shelf, Sink, Status};
 use ice_frac::Frac;
 use ice_line::LineWriter;
 use std::alloc::Global;
-
-/// Why bytes have no answer, as what is wrong with the first file.
-fn refusal_of(end: AuditEnd) -> Refusal
-    ensures { IsFaultOf 1 (IsAuditEnd end) result }
-{
-    let fault = match end {
-        AuditEnd::Grammar { line } => FileFault::AtLine { number: 50, line },
-        AuditEnd::Unended { line } => FileFault::AtLine { number: 51, line },
-        AuditEnd::NoMemory => return Refusal::NoMemory,
-    };
-    Refusal::File { file: 1, fault }
-}
 
 /// The audit's answer on the bytes of the first file, or why there is none.
 fn answer_to(alloc: Global, bytes: &[u8]) -> Result<AuditAnswer, Refusal>

@@ -1,32 +1,20 @@
 //! `check`: the checker's answer on a journal.
 ghost use Rattle.std.specs.Prelude.{◌≡◌, ℕ, List, IfOk, IfErr, OnOk, Ok};
 ghost use Rattle.ice_journal_laws.specs.Answers.{AnswersBytes};
-ghost use Rattle.ice_commands.specs.CheckServed.{IsEndFault, IsCheckFault, CheckAnswers};
+ghost use Rattle.ice_commands.specs.CheckServed.{IsCheckFault, CheckAnswers};
 ghost use Rattle.ice_command_parts.specs.Keeping.{KeepsTold};
 ghost use Rattle.ice_command_parts.specs.Parts.{AreFetched, Serves};
 ghost use Rattle.ice_command_parts.specs.Refusals.{refusal_status, IsFaultOf, Refuses};
 
 use crate::answer::say_answer;
-use ice_check::{Answer, CheckEnd};
-use ice_command_parts::{FileFault, Refusal, fetch};
+use crate::ends::refusal_of;
+use ice_check::Answer;
+use ice_command_parts::{Refusal, fetch};
 use ice_edge::{Shelf, Sink, Status};
 use std::alloc::Global;
 
 /// The most bytes of a journal.
 pub const JOURNAL_LIMIT: usize = 134_217_728;
-
-/// Why bytes have no answer, as what is wrong with the first file.
-pub(crate) fn refusal_of(end: CheckEnd) -> Refusal
-    ensures { IsFaultOf 1 (IsEndFault end) result }
-{
-    let fault = match end {
-        CheckEnd::Grammar { line } => FileFault::AtLine { number: 50, line },
-        CheckEnd::Unended { line } => FileFault::AtLine { number: 51, line },
-        CheckEnd::OtherKind => FileFault::OtherKind,
-        CheckEnd::NoMemory => return Refusal::NoMemory,
-    };
-    Refusal::File { file: 1, fault }
-}
 
 /// The checker's answer on the bytes of the first file, or why there is none.
 fn answer_to(alloc: Global, bytes: &[u8]) -> Result<Answer, Refusal>

@@ -1,43 +1,28 @@
 //! `fair`: fair prices of a closed session.
 ghost use Rattle.std.specs.Prelude.{◌≡◌, ℕ, List, IfOk, IfErr, OnOk, Ok as Found};
 ghost use Rattle.ice_last.specs.Lasts.{LastsBytes};
-ghost use Rattle.ice_commands.specs.FairParts.{TellsEnd, AreFailing};
-ghost use Rattle.ice_commands.specs.FairServed.{IsFairFault, FairAnswers};
+ghost use Rattle.ice_commands.specs.FairServed.{HasNoLast, IsFairFault, FairAnswers};
 ghost use Rattle.ice_command_parts.specs.Keeping.{KeepsTold};
 ghost use Rattle.ice_command_parts.specs.Parts.{AreFetched, Serves};
 ghost use Rattle.ice_commands.specs.Unwritten.{unwritten_status, IsUnwrittenOf, IsUnwritten};
 
 use crate::check::JOURNAL_LIMIT;
+use crate::ends::unwritten_of;
 use crate::fair_prices::say_fair;
 use crate::unwritten::Unwritten;
-use ice_command_parts::{FileFault, Refusal, fetch};
+use ice_command_parts::fetch;
 use ice_edge::{Shelf, Sink, Status};
 use ice_fair::Last;
-use ice_last::LastEnd;
 use std::alloc::Global;
-
-/// Why the bytes of the first file have no last settlement.
-fn without_last(end: LastEnd) -> Unwritten
-    ensures { TellsEnd end result }
-{
-    let fault = match end {
-        LastEnd::Grammar { line } => FileFault::AtLine { number: 50, line },
-        LastEnd::Unended { line } => FileFault::AtLine { number: 51, line },
-        LastEnd::OtherKind => FileFault::OtherKind,
-        LastEnd::No { line, rule } => return Unwritten::Fails { line, rule },
-        LastEnd::NoMemory => return Unwritten::Refused(Refusal::NoMemory),
-    };
-    Unwritten::Refused(Refusal::File { file: 1, fault })
-}
 
 /// The last settlement in the bytes of the first file, or why there is none.
 fn last_in(alloc: Global, bytes: &[u8]) -> Result<Last, Unwritten>
     ensures last { IfOk result (λ last. LastsBytes bytes.now (Found last)) }
-    ensures none { IfErr result (IsUnwrittenOf AreFailing IsFairFault bytes.now) }
+    ensures none { IfErr result (IsUnwrittenOf HasNoLast IsFairFault bytes.now) }
 {
     match ice_last::last(alloc, bytes) {
         Ok(last) => Ok(last),
-        Err(end) => Err(without_last(end)),
+        Err(end) => Err(unwritten_of(end)),
     }
 }
 
@@ -45,7 +30,7 @@ fn last_in(alloc: Global, bytes: &[u8]) -> Result<Last, Unwritten>
 fn last_of<H: Shelf>(alloc: Global, journal: &str, shelf: &mut H) -> Result<Last, Unwritten>
     ensures last { IfOk result (λ last. (bytes : List ℕ) × LastsBytes bytes (Found last)
         × AreFetched (H.told shelf.old) journal.now JOURNAL_LIMIT bytes) }
-    ensures none { IfErr result (IsUnwritten AreFailing IsFairFault journal.now
+    ensures none { IfErr result (IsUnwritten HasNoLast IsFairFault journal.now
         (H.told shelf.old) (H.told shelf.new)) }
     ensures kept { OnOk result (H.told shelf.new ≡ H.told shelf.old) }
     ensures kept_without { IfErr result (λ unwritten.

@@ -8,7 +8,8 @@ ghost use Rattle.ice_command_parts.specs.Parts.{AreFetched, IsSaid, Serves};
 ghost use Rattle.ice_command_parts.specs.Refusals.{refusal_status, IsFaultOf, Refuses};
 
 use crate::answer::rule_word;
-use crate::check::{JOURNAL_LIMIT, refusal_of};
+use crate::check::JOURNAL_LIMIT;
+use crate::ends::refusal_of;
 use ice_command_parts::{Refusal, ended, fetch};
 use ice_defs::Group;
 use ice_edge::{Shelf, Sink, Status};

@@ -7,6 +7,7 @@ pub mod best;
 mod best_lines;
 mod best_set;
 pub mod check;
+mod ends;
 pub mod fair;
 mod fair_prices;
 pub mod gap;

@@ -5,40 +5,29 @@ ghost use Rattle.ice_statement.specs.Judging.{HasStatement};
 ghost use Rattle.ice_command_parts.specs.Keeping.{KeepsTold};
 ghost use Rattle.ice_command_parts.specs.Parts.{AreFetched, Serves};
 ghost use Rattle.ice_commands.specs.Unwritten.{unwritten_status, IsUnwrittenOf, IsUnwritten};
-ghost use Rattle.ice_commands.specs.StatementServed.{IsStatementFault, StatementAnswers};
-ghost use Rattle.ice_commands.specs.StatementParts.{TellsEnd, AreFailing};
+ghost use Rattle.ice_commands.specs.StatementServed.{NotStated, IsStatementFault, StatementAnswers};
 
 use crate::check::JOURNAL_LIMIT;
+use crate::ends::unwritten_of;
 use crate::unwritten::Unwritten;
 use ice_command_parts::{FileFault, Refusal, ended, fetch};
 use ice_edge::{Shelf, Sink, Status};
 use ice_statement::{StatementEnd, judge, put_statement};
 use std::alloc::Global;
 
-/// Why nothing of the bytes of the first file is stated.
-fn unstated_of(end: StatementEnd) -> Unwritten
-    ensures { TellsEnd end result }
-{
-    let fault = match end {
-        StatementEnd::Grammar { line } => FileFault::AtLine { number: 50, line },
-        StatementEnd::Unended { line } => FileFault::AtLine { number: 51, line },
-        StatementEnd::OtherKind => FileFault::OtherKind,
-        StatementEnd::FailsTest { line, rule } => return Unwritten::Fails { line, rule },
-        StatementEnd::NoBidder => FileFault::NoBidder,
-        StatementEnd::NoMemory => return Unwritten::Refused(Refusal::NoMemory),
-    };
-    Unwritten::Refused(Refusal::File { file: 1, fault })
-}
-
 /// Judges the bytes of the first file, of which the bidder of this name is to have its statement.
 fn judge_bytes(alloc: Global, bytes: &[u8], name: &str) -> Result<(), Unwritten>
     ensures journal { IfOk result (λ _. OfJournal bytes.now (HasStatement name.now)) }
     ensures unstated { IfErr result
-        (IsUnwrittenOf AreFailing (IsStatementFault name.now) bytes.now) }
+        (IsUnwrittenOf (NotStated name.now) (IsStatementFault name.now) bytes.now) }
 {
     match judge(alloc, bytes, name.as_bytes()) {
         Ok(()) => Ok(()),
-        Err(end) => Err(unstated_of(end)),
+        Err(StatementEnd::Journal(end)) => Err(unwritten_of(end)),
+        Err(StatementEnd::NoBidder) => Err(Unwritten::Refused(Refusal::File {
+            file: 1,
+            fault: FileFault::NoBidder,
+        })),
     }
 }
 
@@ -52,8 +41,8 @@ fn journal_of<H: Shelf>(
 ) -> Result<Vec<u8>, Unwritten>
     ensures journal { IfOk result (λ bytes. OfJournal bytes.items (HasStatement name.now)
         × AreFetched (H.told shelf.old) journal.now JOURNAL_LIMIT bytes.items) }
-    ensures unstated { IfErr result (IsUnwritten AreFailing (IsStatementFault name.now) journal.now
-        (H.told shelf.old) (H.told shelf.new)) }
+    ensures unstated { IfErr result (IsUnwritten (NotStated name.now) (IsStatementFault name.now)
+        journal.now (H.told shelf.old) (H.told shelf.new)) }
     ensures kept { OnOk result (H.told shelf.new ≡ H.told shelf.old) }
     ensures kept_unstated { IfErr result (λ unwritten.
         KeepsTold (H.told shelf.old) (H.told shelf.new) (unwritten_status unwritten)) }

@@ -1,2 +1,2 @@
--- the records that are read so far, and where the tests of them have come
-pub mod Taken
+-- where the tests have come behind all records
+pub mod Come

@@ -2,6 +2,7 @@
 #![tactic(auto)]
 
 mod reading;
+mod tests;
 
 pub use ice_check_records::{CheckEnd, GapAnswer, Rule};
 pub use reading::gap;

@@ -1,39 +1,10 @@
 //! The gap that the bytes of a journal state.
-ghost use Rattle.std.specs.Prelude.{◌≡◌};
-ghost use Rattle.ice_journal_laws.specs.Progress.{nothing};
-ghost use Rattle.ice_gap_laws.specs.Gap.{checking};
 ghost use Rattle.ice_gap_laws.specs.Answers.{AnswersGap};
-ghost use Rattle.ice_check_records.specs.GapChecking.{HasGapCome};
-ghost use Rattle.ice_gap.specs.Reading.{ReadsAll};
 
+use crate::tests::GapTests;
 use ice_check_records::{CheckEnd, GapAnswer, GapChecker};
-use ice_journal::read_record;
-use ice_line::split_line;
+use ice_reading::read_journal;
 use std::alloc::Global;
-
-/// Feeds the records of the bytes to a checker that has taken none.
-fn read_all(bytes: &[u8], checker: &mut GapChecker) -> Result<(), CheckEnd>
-    requires come { HasGapCome checker.old (checking nothing) }
-    requires first { checker.old.line ≡ 1 }
-    ensures { ReadsAll bytes.now checker.new result }
-{
-    let mut rest = bytes;
-    let mut read = 0u64;
-    while !rest.is_empty() {
-        let Some((text, after)) = split_line(rest) else {
-            return Err(CheckEnd::Unended { line: read + 1 });
-        };
-        let Some(line) = read_record(text) else {
-            return Err(CheckEnd::Grammar { line: read + 1 });
-        };
-        let Ok(()) = checker.feed(&line) else {
-            return Err(CheckEnd::NoMemory);
-        };
-        rest = after;
-        read += 1;
-    }
-    Ok(())
-}
 
 /// The gap that a journal states: the group at whose search it stops, what the sets are worth that
 /// it states there, and a bound that nothing exceeds.
@@ -47,7 +18,11 @@ fn read_all(bytes: &[u8], checker: &mut GapChecker) -> Result<(), CheckEnd>
 pub fn gap(alloc: Global, bytes: &[u8]) -> Result<GapAnswer, CheckEnd>
     ensures { AnswersGap bytes.now result }
 {
-    let mut checker = GapChecker::new(alloc);
-    read_all(bytes, &mut checker)?;
-    checker.answer()
+    let mut tests = GapTests {
+        checker: GapChecker::new(alloc),
+    };
+    match read_journal(bytes, &mut tests) {
+        Ok(()) => tests.checker.answer(),
+        Err(end) => Err(end),
+    }
 }

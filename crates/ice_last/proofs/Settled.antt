@@ -26,8 +26,7 @@ use Rattle.ice_fair_laws.specs.Run.{IsCutDen}
 use Rattle.ice_last_laws.specs.Last.{payments_said, amounts}
 use Rattle.ice_last_laws.proofs.Lasts.{done_is_last, last_is_paid}
 use Rattle.ice_last.specs.Lasts.{IsSession, last_settlement, LastsBytes}
-use Rattle.ice_last.specs.Ending.{end_found}
-use Rattle.ice_last.specs.Reading.{trade_in, paid_in, IsPayable}
+use Rattle.ice_last.specs.Reading.{end_found, trade_in, paid_in, IsPayable}
 use Rattle.ice_last.proofs.Sessions.{kind_at}
 
 -- ---- the session has closed

@@ -1,5 +1,5 @@
 -- What is kept of the records of a journal, one after another.
-use Rattle.std.proofs.Common.{◌≡◌, ℕ, ℤ, List, [], ◌∷◌, ◌++◌, sym, ◌∙◌, ap, subst}
+use Rattle.std.proofs.Common.{◌≡◌, ℕ, ℤ, List, [], ◌∷◌, ◌++◌, refl, sym, ◌∙◌, ap, subst}
 use Rattle.ice_defs.specs.Fraction.{Fraction}
 use Rattle.ice_frac.specs.Lowest.{IsLowest}
 use Rattle.ice_journal.specs.Records.{Record}
@@ -8,9 +8,10 @@ use Rattle.ice_journal.specs.Ranges.{IsRecord}
 use Rattle.ice_journal_laws.proofs.Charged.{stated_lowest}
 use Rattle.ice_last_laws.specs.Last.{payments_said, amounts}
 use Rattle.ice_last_laws.proofs.Lasts.{paid_append}
-use Rattle.ice_last.specs.declared.watch.Watch.TheVariants.{Start, Other}
+use Rattle.ice_last.specs.declared.watch.Watch.{Watch}
+use Rattle.ice_last.specs.declared.watch.Watch.TheVariants.{Start, Other, Session}
 use Rattle.ice_last.specs.Lasts.{IsSession}
-use Rattle.ice_last.specs.Watching.{IsSessionHead, PaysOn, WatchesOn}
+use Rattle.ice_last.specs.Watching.{IsSessionHead, PaysOn, IsWatched, WatchesOn}
 
 -- the first record tells the kind
 more_session : (r : Record) (rest more : List Record) → IsSession (r ∷ rest) → IsSession (r ∷ more)
@@ -45,3 +46,9 @@ session_goes r before after records pays is said = (
 -- the payment of a record is in lowest terms
 pub payment_lowest : (name : List ℕ) (vickrey : ℤ) (discount payment : Fraction) → IsRecord (line.payment name vickrey discount payment) → IsLowest payment
 payment_lowest name vickrey discount payment is = stated_lowest payment is.3
+
+-- none is begun
+pub no_session : (w : Watch) (journal : List Record) → ((payments : _) → w ≡ Session payments → ⊥) → IsWatched w journal → ¬ IsSession journal
+no_session Start journal not none is = subst IsSession none is
+no_session Other journal not (r, rest, parts, other) is = other is
+no_session (Session payments) journal not watched is = not payments refl

@@ -4,14 +4,13 @@ use Rattle.std.specs.Prelude.{ℕ, ◌≡◌, List, Some, Result, Ok, Err}
 use Rattle.ice_defs.specs.Session.{Session}
 use Rattle.ice_headline_laws.specs.Right.{IsRight, final_bounds, payments_of}
 use Rattle.ice_journal.specs.Records.{Record, session_kind}
-use Rattle.ice_journal.specs.Journal.{grammar, unended, IsLinesFault}
-use Rattle.ice_journal_laws.specs.Checks.{Checks, FirstFailure}
+use Rattle.ice_journal_laws.specs.Checks.{Failure, Checks, FirstFailure}
 use Rattle.ice_journal_laws.specs.Answers.{OfJournal}
 use Rattle.ice_journal_laws.specs.Theorems.{Says, HasKind}
 use Rattle.ice_journal_laws.specs.Written.{session_records}
 use Rattle.ice_fair.specs.Lasts.{LastTrade, last_at}
-use Rattle.ice_last.specs.declared.ending.LastEnd.{LastEnd}
-use Rattle.ice_last.specs.declared.ending.LastEnd.TheVariants.{Grammar, Unended, OtherKind, No, NoMemory}
+use Rattle.ice_reading.specs.declared.end.JournalEnd.{JournalEnd}
+use Rattle.ice_reading.specs.Ends.{EndsBytes}
 
 -- the journal is one of a session
 abbrev pub IsSession : List Record → Type 0
@@ -31,13 +30,10 @@ pub record IsLastOf (last : LastTrade) (journal : List Record) : Type 0 where
   pub right : IsRight stated
   pub is : last ≡ last_settlement stated
 
--- the least line at fault comes first, then another kind, then the first failed test; want of
--- memory is free
-abbrev pub LastsBytes : List ℕ → Result LastTrade LastEnd → Type 0
+-- a session fails this test first
+abbrev pub FailsFirst : List Record → Failure → Type 0
+FailsFirst journal failure = IsSession journal × FirstFailure journal (Some failure)
+
+abbrev pub LastsBytes : List ℕ → Result LastTrade JournalEnd → Type 0
 LastsBytes bytes (Ok last) = OfJournal bytes (IsLastOf last)
-LastsBytes bytes (Err (Grammar line)) = IsLinesFault bytes (grammar line)
-LastsBytes bytes (Err (Unended line)) = IsLinesFault bytes (unended line)
-LastsBytes bytes (Err OtherKind) = OfJournal bytes (λ journal. ¬ IsSession journal)
-LastsBytes bytes (Err (No line test)) =
-    OfJournal bytes (λ journal. IsSession journal × FirstFailure journal (Some (record { line = line; rule = test })))
-LastsBytes bytes (Err NoMemory) = Unit {0}
+LastsBytes bytes (Err end) = EndsBytes (λ journal. ¬ IsSession journal) FailsFirst bytes end

@@ -1,36 +1,37 @@
 -- What is known while the records of a journal are read, and at their end.
-use Rattle.std.specs.Prelude.{ℕ, ◌≡◌, ◌≤◌, List, length, Result, Ok, Err}
+use Rattle.std.specs.Prelude.{◌≡◌, ◌≤◌, List, length, Result, Ok, Err}
 use Rattle.std.specs.List.{AllByRecursion}
 use Rattle.ice_defs.specs.Fraction.{Fraction}
 use Rattle.ice_defs.specs.Exchange.{trees_of}
 use Rattle.ice_defs.specs.Conditions.{AreBoundsOf}
 use Rattle.ice_journal.specs.Records.{Record}
 use Rattle.ice_journal.specs.Ranges.{IsFractionField}
-use Rattle.ice_journal.specs.Journal.{IsJournal}
-use Rattle.ice_journal_laws.specs.Progress.{Progress, nothing, Leads}
+use Rattle.ice_journal_laws.specs.declared.answer.Answer.{Answer}
+use Rattle.ice_journal_laws.specs.declared.answer.Answer.TheVariants as answer
+use Rattle.ice_journal_laws.specs.declared.answer.CheckEnd.{CheckEnd}
+use Rattle.ice_journal_laws.specs.declared.answer.CheckEnd.TheVariants.{OtherKind}
+use Rattle.ice_journal_laws.specs.Progress.{Progress}
 use Rattle.ice_check_records.specs.declared.closed.ClosedSession.{ClosedSession}
-use Rattle.ice_check_records.specs.Checking.{Checking, HasCome}
+use Rattle.ice_check_records.specs.Checking.{HasCome, ComesTo}
 use Rattle.ice_fair_laws.specs.Fair.{PaidTrade, paid_of}
 use Rattle.ice_fair_laws.specs.Laws.{IsPaidTrade}
 use Rattle.ice_fair_laws.specs.Run.{IsCutDen}
 use Rattle.ice_fair.specs.Lasts.{LastTrade, last_at}
-use Rattle.ice_last.specs.declared.ending.LastEnd.{LastEnd}
-use Rattle.ice_last.specs.declared.watch.Watch.{Watch}
-use Rattle.ice_last.specs.Lasts.{LastsBytes}
-use Rattle.ice_last.specs.Watching.{IsWatched}
+use Rattle.ice_reading.specs.declared.end.JournalEnd.{JournalEnd}
+use Rattle.ice_reading.specs.declared.end.JournalEnd.TheVariants.{Unjudged, FailsTest}
+use Rattle.ice_last.specs.declared.closing.Closing.{Closing}
+use Rattle.ice_last.specs.Watching.{WatchesOn}
 
--- the records of the bytes are read: the tests have come so far, and this is known of the journal
-pub record IsRead (bytes : List ℕ) (c : Checking) (w : Watch) : Type 0 where
-  pub journal : List Record
-  pub spelled : IsJournal bytes journal
-  pub progress : Progress
-  pub leads : Leads nothing journal progress
-  pub come : HasCome c progress
-  pub watched : IsWatched w journal
+-- a record takes the tests on, and makes more known of the journal
+pub record ClosesOn (s : Closing) (r : Record) (t : Closing) : Type 0 where
+  pub takes : (p : Progress) → HasCome s.checker p → ComesTo p r t.checker
+  pub watches : WatchesOn s.watch r t.watch
 
-abbrev pub ReadsAll : List ℕ → Checking → Result Watch LastEnd → Type 0
-ReadsAll bytes c (Ok w) = IsRead bytes c w
-ReadsAll bytes c (Err end) = LastsBytes bytes (Err end)
+-- why there is no last settlement, by what the tests find of a session that hasn't closed
+abbrev pub end_found : Result Answer CheckEnd → JournalEnd
+end_found (Ok (answer.No line test)) = FailsTest line test
+end_found (Ok other) = Unjudged OtherKind
+end_found (Err end) = Unjudged end
 
 -- the last settlement of a session that has closed, with these payments
 abbrev pub trade_in : ClosedSession → List Fraction → LastTrade

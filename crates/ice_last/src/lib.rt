@@ -2,13 +2,12 @@
 //! the checker.
 #![tactic(auto)]
 
-mod ending;
+mod closing;
 mod laws;
 mod payments;
 mod reading;
 mod watch;
 
-pub use ending::LastEnd;
-pub use ice_check_records::Rule;
+pub use ice_reading::{CheckEnd, JournalEnd, Rule};
 pub use laws::bytes_have_one_last;
 pub use reading::last;

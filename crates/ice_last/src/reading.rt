@@ -1,47 +1,25 @@
 //! The last settlement from the bytes of a journal.
 ghost use Rattle.std.specs.Prelude.{◌≡◌, IfOk};
-ghost use Rattle.ice_journal_laws.specs.Progress.{nothing};
-ghost use Rattle.ice_check_records.specs.Checking.{HasCome};
 ghost use Rattle.ice_last.specs.Lasts.{LastsBytes};
-ghost use Rattle.ice_last.specs.Reading.{ReadsAll, IsPayable, trade_in};
+ghost use Rattle.ice_last.specs.Reading.{end_found, IsPayable, trade_in};
 
-use crate::ending::{LastEnd, end_found};
+use crate::closing::Closing;
 use crate::watch::Watch;
-use ice_check_records::{Checker, ClosedSession};
+use ice_check_records::{Answer, CheckEnd, Checker, ClosedSession};
 use ice_fair::Last;
 use ice_frac::Frac;
-use ice_journal::read_record;
-use ice_line::split_line;
+use ice_reading::{JournalEnd, read_journal};
 use std::alloc::{AllocError, Global};
 
-/// Feeds the records of the bytes to a checker that has taken none, and keeps what the last
-/// settlement needs beside.
-fn read_all(alloc: Global, bytes: &[u8], checker: &mut Checker) -> Result<Watch, LastEnd>
-    requires come { HasCome checker.old nothing }
-    requires first { checker.old.line ≡ 1 }
-    ensures { ReadsAll bytes.now checker.new result }
+/// Why there is none where the tests find this, and no session that has closed.
+fn end_found(found: Result<Answer, CheckEnd>) -> JournalEnd
+    ensures { result ≡ end_found found }
 {
-    let mut watch = Watch::Start;
-    let mut rest = bytes;
-    let mut read = 0u64;
-    while !rest.is_empty() {
-        let Some((text, after)) = split_line(rest) else {
-            return Err(LastEnd::Unended { line: read + 1 });
-        };
-        let Some(line) = read_record(text) else {
-            return Err(LastEnd::Grammar { line: read + 1 });
-        };
-        let Ok(next) = watch.after(alloc, &line) else {
-            return Err(LastEnd::NoMemory);
-        };
-        watch = next;
-        let Ok(()) = checker.feed(&line) else {
-            return Err(LastEnd::NoMemory);
-        };
-        rest = after;
-        read += 1;
+    match found {
+        Ok(Answer::No { line, rule }) => JournalEnd::FailsTest { line, rule },
+        Ok(_) => JournalEnd::Unjudged(CheckEnd::OtherKind),
+        Err(end) => JournalEnd::Unjudged(end),
     }
-    Ok(watch)
 }
 
 /// The last settlement of a session that has closed, with these payments.
@@ -63,15 +41,28 @@ fn settled(alloc: Global, session: ClosedSession, payments: Vec<Frac>) -> Result
 ///
 /// `Grammar` or `Unended` is answered exactly where a line is no record or the last one has no
 /// newline, and names the least such line. Else `OtherKind` is answered exactly where there is no
-/// line, or the first is no head of a session. Else `No` is answered exactly where a test of the
-/// checker fails, and names the first one: a session that isn't closed fails one. `NoMemory` is
+/// line, or the first is no head of a session. Else `FailsTest` is answered exactly where a test of
+/// the checker fails, and names the first one: a session that isn't closed fails one. `NoMemory` is
 /// answered where memory runs out.
-pub fn last(alloc: Global, bytes: &[u8]) -> Result<Last, LastEnd>
+pub fn last(alloc: Global, bytes: &[u8]) -> Result<Last, JournalEnd>
     ensures { LastsBytes bytes.now result }
 {
-    let mut checker = Checker::new(alloc);
-    let Watch::Session(payments) = read_all(alloc, bytes, &mut checker)? else {
-        return Err(LastEnd::OtherKind);
+    let mut closing = Closing {
+        alloc,
+        checker: Checker::new(alloc),
+        watch: Watch::Start,
+    };
+    match read_journal(bytes, &mut closing) {
+        Ok(()) => {}
+        Err(end) => return Err(JournalEnd::Unjudged(end)),
+    }
+    let Closing {
+        alloc: _,
+        checker,
+        watch,
+    } = closing;
+    let Watch::Session(payments) = watch else {
+        return Err(JournalEnd::Unjudged(CheckEnd::OtherKind));
     };
     let found = checker.answer();
     match checker.into_session()? {

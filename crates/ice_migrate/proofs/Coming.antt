@@ -10,7 +10,8 @@ use Rattle.ice_journal.specs.Journal.{IsJournal}
 use Rattle.ice_journal.specs.Lines.{record_of}
 use Rattle.ice_journal.specs.Plain.{goods_in}
 use Rattle.ice_journal_laws.proofs.Plaining.{goods_more}
-use Rattle.ice_migrate.specs.Reading.{Starts, HasLine, bidders_in}
+use Rattle.ice_reading.specs.Records.{Starts, HasLine}
+use Rattle.ice_migrate.specs.Reading.{bidders_in}
 use Rattle.ice_migrate.specs.declared.counts.Counts.{Counts}
 use Rattle.ice_migrate.proofs.Walking.{bidders_more}
 

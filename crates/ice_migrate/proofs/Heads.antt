@@ -9,7 +9,7 @@ use Rattle.ice_journal.specs.declared.line.Kind.TheVariants as kind
 use Rattle.ice_journal.specs.Records.{Record}
 use Rattle.ice_journal.specs.Lines.{record_of}
 use Rattle.ice_migrate.specs.Migrating.{is_old}
-use Rattle.ice_migrate.specs.Reading.{Starts}
+use Rattle.ice_reading.specs.Records.{Starts}
 
 abbrev pub shows_old : Option Line → Bool
 shows_old (Some (shown.Head version.One kind.Regret)) = true

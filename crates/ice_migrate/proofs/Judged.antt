@@ -1,5 +1,5 @@
 -- What is found of a version 1 journal that passes every test, or that stops.
-use Rattle.std.proofs.Common.{◌≡◌, ◌∙◌, inl, inr, ℕ, true, List, ◌∷◌, refl, sym, subst}
+use Rattle.std.proofs.Common.{◌≡◌, ◌∙◌, inl, inr, ℕ, Bool, true, false, List, ◌∷◌, refl, sym, subst}
 use Rattle.std.specs.Prelude.{Option, Some, None, option_map}
 use Rattle.std.proofs.lemmas.Bool.{false≢true}
 use Rattle.ice_journal.specs.Records.{Record, version_1, regret_kind, session_kind, Kind}
@@ -65,3 +65,11 @@ yes_passes journal (Assign value) not_no h = h.0.1
 yes_passes journal (Regret amount) not_no h = h.0.1
 yes_passes journal (Closed regret surplus) not_no h = h.0.1
 yes_passes journal (No number test) not_no h = absurd (not_no number test refl)
+
+-- no journal of version 1 is of a kind that isn't checked
+pub unchecked : (journal : List Record) → ¬ IsChecked journal → is_old journal ≡ false
+unchecked journal none = by (is_old journal) (λ old. none (old_is_checked journal old))
+  where
+    by : (old : Bool) → (old ≡ true → ⊥) → old ≡ false
+    by true not = absurd (not refl)
+    by false not = refl

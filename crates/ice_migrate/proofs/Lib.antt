@@ -4,8 +4,6 @@ pub mod Keeping
 pub mod Growing
 -- what one record of version 1 that may stand in its place makes of the state
 pub mod Following
--- the first line of the bytes of a journal is the text of its first record
-pub mod First
 -- the place behind the first record of a stop, and behind each record after it
 pub mod Stopping
 -- journals of version 1 whose records stand in order, and those that stop

@@ -11,7 +11,7 @@ use Rattle.ice_journal_laws.specs.State as state
 use Rattle.ice_journal_laws.specs.Next.{next, next_at, go_to, to_line}
 use Rattle.ice_journal_laws.specs.Checks.{Failure}
 use Rattle.ice_migrate.specs.Order.{short_unless, order_or, order_from}
-use Rattle.ice_migrate.specs.Reading.{Starts}
+use Rattle.ice_reading.specs.Records.{Starts}
 use Rattle.ice_migrate.specs.Stopped.{place_of, HasCounts, StandsAt}
 use Rattle.ice_migrate.specs.declared.place.Place.{Place}
 use Rattle.ice_migrate.specs.declared.place.Place.TheVariants.{Sets, Log, Pool, End, Done}

@@ -22,7 +22,7 @@ use Rattle.ice_journal.specs.Journal.{IsJournal, bytes_of}
 use Rattle.ice_journal.specs.Lines.{kind_of}
 use Rattle.ice_journal.specs.Plain.{goods_in, all_zero, packed_records, in_version_2}
 use Rattle.ice_write.proofs.Loops.{bytes_cons, fails_as, put_as, first_fails, then_put}
-use Rattle.ice_migrate.specs.Reading.{Starts, HasLine}
+use Rattle.ice_reading.specs.Records.{Starts, HasLine}
 use Rattle.ice_migrate.specs.Packing.{before_of, packed_record, packed_after, PutsPacked}
 use Rattle.ice_migrate.specs.Migrating.{is_old, IsMigrated}
 use Rattle.ice_migrate.specs.declared.packing.Packing.{Packing}

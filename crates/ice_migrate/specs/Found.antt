@@ -1,10 +1,6 @@
 -- What is found of a journal that is to be brought to version 2.
-use Rattle.std.specs.Prelude.{◌≡◌, List, Option, Some, None}
+use Rattle.std.specs.Prelude.{List, Option, Some, None}
 use Rattle.ice_journal.specs.Records.{Record}
-use Rattle.ice_journal_laws.specs.declared.answer.CheckEnd.{CheckEnd}
-use Rattle.ice_journal_laws.specs.declared.answer.CheckEnd.TheVariants as ending
-use Rattle.ice_migrate.specs.declared.judging.Unfit.{Unfit}
-use Rattle.ice_migrate.specs.declared.judging.Unfit.TheVariants.{Grammar, Unended, OtherKind, NoMemory}
 use Rattle.ice_migrate.specs.declared.behind.FailedTest.{FailedTest}
 use Rattle.ice_migrate.specs.Migrating.{IsMigrated, IsFailing}
 use Rattle.ice_migrate.specs.Stopped.{failure_of}
@@ -13,10 +9,3 @@ use Rattle.ice_migrate.specs.Stopped.{failure_of}
 abbrev pub Tells : List Record → Option FailedTest → Type 0
 Tells journal None = IsMigrated journal
 Tells journal (Some failed) = IsFailing journal (failure_of failed)
-
--- why bytes have no answer, in the words of `Unfit`
-abbrev pub IsUnfit : CheckEnd → Unfit → Type 0
-IsUnfit (ending.Grammar line) unfit = unfit ≡ Grammar line
-IsUnfit (ending.Unended line) unfit = unfit ≡ Unended line
-IsUnfit ending.OtherKind unfit = unfit ≡ OtherKind
-IsUnfit ending.NoMemory unfit = unfit ≡ NoMemory

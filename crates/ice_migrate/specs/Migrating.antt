@@ -2,14 +2,13 @@
 use Rattle.std.specs.Prelude.{ℕ, ◌≡◌, ◌≢◌, ◌⊎◌, Bool, true, false, IsTrue, List, ◌∷◌, Some, None, Result, Ok, Err}
 use Rattle.ice_journal.specs.Records.{Record, version_1, regret_kind, session_kind}
 use Rattle.ice_journal.specs.Records as line
-use Rattle.ice_journal.specs.Journal.{grammar, unended, IsLinesFault}
 use Rattle.ice_journal.specs.Plain.{plain, in_version_2}
 use Rattle.ice_journal_laws.specs.declared.rule.Rule.TheVariants as rule
 use Rattle.ice_journal_laws.specs.Checks.{Failure, FirstFailure}
 use Rattle.ice_journal_laws.specs.Answers.{OfJournal}
 use Rattle.ice_migrate.specs.Order.{order_failure}
-use Rattle.ice_migrate.specs.declared.judging.Unfit.{Unfit}
-use Rattle.ice_migrate.specs.declared.judging.Unfit.TheVariants.{Grammar, Unended, OtherKind, FailsTest, NoMemory}
+use Rattle.ice_reading.specs.declared.end.JournalEnd.{JournalEnd}
+use Rattle.ice_reading.specs.Ends.{EndsBytes}
 
 -- a version 1 journal of a kind that has a version 2
 abbrev pub is_old : List Record → Bool
@@ -41,12 +40,6 @@ pub record IsFailing (journal : List Record) (failure : Failure) : Type 0 where
   pub old : IsTrue (is_old journal)
   pub fails : FailsAt journal failure
 
--- the least line at fault comes first, then another kind, then the first failed test; want of
--- memory is free
-abbrev pub Judges : List ℕ → Result (Unit {0}) Unfit → Type 0
+abbrev pub Judges : List ℕ → Result (Unit {0}) JournalEnd → Type 0
 Judges bytes (Ok unit) = OfJournal bytes IsMigrated
-Judges bytes (Err (Grammar place)) = IsLinesFault bytes (grammar place)
-Judges bytes (Err (Unended place)) = IsLinesFault bytes (unended place)
-Judges bytes (Err OtherKind) = OfJournal bytes (λ journal. is_old journal ≡ false)
-Judges bytes (Err (FailsTest place test)) = OfJournal bytes (λ journal. IsFailing journal (record { line = place; rule = test }))
-Judges bytes (Err NoMemory) = Unit {0}
+Judges bytes (Err end) = EndsBytes (λ journal. is_old journal ≡ false) IsFailing bytes end

@@ -9,8 +9,7 @@ ghost use Rattle.ice_migrate.specs.Stopped.{count_at, StandsAt, failure_of};
 
 use crate::counts::Counts;
 use crate::place::Place;
-use crate::records::Records;
-use ice_check::Rule;
+use ice_reading::{Records, Rule};
 
 /// The test that a journal fails: its line, from 1, and its rule.
 #[derive(Clone, Copy)]

@@ -7,8 +7,8 @@ ghost use Rattle.ice_journal.specs.Plain.{goods_in};
 ghost use Rattle.ice_migrate.specs.Reading.{bidders_in};
 ghost use Rattle.ice_migrate.specs.Stopped.{AreCounted};
 
-use crate::records::Records;
 use crate::sort::{Sort, sort_of};
+use ice_reading::Records;
 
 /// How many goods and bidders records name.
 #[derive(Clone, Copy)]

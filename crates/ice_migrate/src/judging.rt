@@ -5,43 +5,13 @@ ghost use Rattle.ice_journal.specs.Journal.{IsJournal};
 ghost use Rattle.ice_journal.specs.Lines.{record_of};
 ghost use Rattle.ice_journal_laws.specs.Answers.{HasNo, AnswersJournal};
 ghost use Rattle.ice_migrate.specs.Migrating.{is_old, Judges};
-ghost use Rattle.ice_migrate.specs.Found.{Tells, IsUnfit};
+ghost use Rattle.ice_migrate.specs.Found.{Tells};
 
 use crate::behind::{FailedTest, order_fault};
-use crate::records::Records;
-use ice_check::{Answer, CheckEnd, Rule, check};
+use ice_check::{Answer, check};
 use ice_journal::{Kind, Line, Version};
+use ice_reading::{CheckEnd, JournalEnd, Records, Rule};
 use std::alloc::Global;
-
-/// Why bytes are no journal that is brought to version 2.
-#[derive(Clone, Copy, PartialEq, Eq, Debug)]
-pub enum Unfit {
-    /// This line is no record, and none before it is at fault.
-    Grammar { line: u64 },
-    /// The last line has no newline, and none before it is at fault.
-    Unended { line: u64 },
-    /// Every line is a record, and the first is no head of a regret or a session journal in version
-    /// 1, or there is no line.
-    OtherKind,
-    /// The first failed test of the journal, but for that of a stop: its line and its rule. At a
-    /// stop it is the first record behind it that may not stand in its place, or the want of one at
-    /// the end.
-    FailsTest { line: u64, rule: Rule },
-    /// Memory ran out.
-    NoMemory,
-}
-
-/// Why bytes that have no answer are not brought to version 2.
-fn unfit_end(end: CheckEnd) -> Unfit
-    ensures { IsUnfit end result }
-{
-    match end {
-        CheckEnd::Grammar { line } => Unfit::Grammar { line },
-        CheckEnd::Unended { line } => Unfit::Unended { line },
-        CheckEnd::OtherKind => Unfit::OtherKind,
-        CheckEnd::NoMemory => Unfit::NoMemory,
-    }
-}
 
 /// Whether a record is a head of a regret or a session journal in version 1.
 fn is_old_head(line: &Line) -> bool
@@ -96,18 +66,18 @@ fn failed_test(bytes: &[u8], answer: Answer) -> Option<FailedTest>
 /// record is no head of a regret or a session journal in version 1. Else `FailsTest` names the
 /// first failed test; at a stop, the first record behind it that may not stand in its place, or the
 /// want of one at the end. `NoMemory` is answered where memory runs out.
-pub fn judge(alloc: Global, bytes: &[u8]) -> Result<(), Unfit>
+pub fn judge(alloc: Global, bytes: &[u8]) -> Result<(), JournalEnd>
     ensures { Judges bytes.now result }
 {
     let answer = match check(alloc, bytes) {
         Ok(answer) => answer,
-        Err(end) => return Err(unfit_end(end)),
+        Err(end) => return Err(JournalEnd::Unjudged(end)),
     };
     if !is_old(bytes) {
-        return Err(Unfit::OtherKind);
+        return Err(JournalEnd::Unjudged(CheckEnd::OtherKind));
     }
     match failed_test(bytes, answer) {
-        Some(FailedTest { line, rule }) => Err(Unfit::FailsTest { line, rule }),
+        Some(FailedTest { line, rule }) => Err(JournalEnd::FailsTest { line, rule }),
         None => Ok(()),
     }
 }

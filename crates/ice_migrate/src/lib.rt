@@ -9,9 +9,9 @@ mod judging;
 mod laws;
 mod packing;
 mod place;
-mod records;
 mod sort;
 
-pub use judging::{Unfit, judge};
+pub use ice_reading::{CheckEnd, JournalEnd, Rule};
+pub use judging::judge;
 pub use laws::bytes_have_one_judgement;
 pub use packing::put_packed;

@@ -16,12 +16,12 @@ ghost use Rattle.ice_migrate.specs.Gathering.{IsGathered};
 
 use crate::counts::Counts;
 use crate::gathered::Gathered;
-use crate::records::Records;
 use crate::sort::{Sort, sort_of};
 use arrayvec::ArrayVec;
 use ice_edge::{Sink, SinkFault};
 use ice_journal::{Change, Line, Version, read_record, write_record};
 use ice_line::LineWriter;
+use ice_reading::Records;
 use ice_write::put_record;
 
 /// The multipliers of the leaf before in the same log; all 0, one for each of so many goods, where

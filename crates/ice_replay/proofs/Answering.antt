@@ -7,6 +7,7 @@ use Rattle.ice_journal.specs.Journal.{IsJournal}
 use Rattle.ice_journal_laws.specs.declared.answer.Answer.{Answer}
 use Rattle.ice_journal_laws.specs.declared.answer.Answer.TheVariants as answer
 use Rattle.ice_journal_laws.specs.declared.answer.CheckEnd.{CheckEnd}
+use Rattle.ice_journal_laws.specs.declared.answer.CheckEnd.TheVariants.{OtherKind}
 use Rattle.ice_journal_laws.specs.declared.rule.Rule.{Rule}
 use Rattle.ice_journal_laws.specs.declared.rule.Rule.TheVariants as rule
 use Rattle.ice_journal_laws.specs.State.{State, begun}
@@ -16,9 +17,11 @@ use Rattle.ice_journal_laws.specs.Answers.{EndsWith}
 use Rattle.ice_journal_laws.specs.Theorems.{HasKind}
 use Rattle.ice_journal_laws.proofs.Leading.{finds}
 use Rattle.ice_journal_laws.proofs.Heads.{session_checked}
+use Rattle.ice_reading.specs.declared.end.JournalEnd.{JournalEnd}
+use Rattle.ice_reading.specs.declared.end.JournalEnd.TheVariants.{Unjudged}
 use Rattle.ice_replay.specs.declared.settlement.Replay.{Replay}
 use Rattle.ice_replay.specs.declared.settlement.ReplayEnd.{ReplayEnd}
-use Rattle.ice_replay.specs.declared.settlement.ReplayEnd.TheVariants.{OtherKind, NoSettlement}
+use Rattle.ice_replay.specs.declared.settlement.ReplayEnd.TheVariants.{Journal, NoSettlement}
 use Rattle.ice_replay.specs.declared.watch.Watch.TheVariants as watch
 use Rattle.ice_replay.specs.Settlements.{OfSession, IsSession, IsReplayable, passes, stops, Settles, prices_from, prices_of}
 use Rattle.ice_replay.specs.Replays.{IsReplay, ReplaysBytes}
@@ -62,10 +65,10 @@ same_failure : (f : Failure) (number : ℕ) (test : Rule) → (let x : Result An
 same_failure f number test e = (cc, cc)
 
 -- it forbids one
-pub forbidden : (bytes : List ℕ) (number : ℕ) (journal : List Record) (p : Progress) (found : Result Answer CheckEnd) (end : ReplayEnd) → IsJournal bytes journal → Leads nothing journal p → EndsWith p found → IsSession journal
-    → IsForbidden found end → ReplaysBytes bytes number (Err end)
+pub forbidden : (bytes : List ℕ) (number : ℕ) (journal : List Record) (p : Progress) (found : Result Answer CheckEnd) (end : JournalEnd) → IsJournal bytes journal → Leads nothing journal p → EndsWith p found → IsSession journal
+    → IsForbidden found end → ReplaysBytes bytes number (Err (Journal end))
 forbidden bytes number journal p (Ok (answer.No place test)) end is l e session (same, other) =
-    subst (λ (x : ReplayEnd). ReplaysBytes bytes number (Err x)) (sym same) (journal, is, (session, first p l e, other))
+    subst (λ (x : JournalEnd). ReplaysBytes bytes number (Err (Journal x))) (sym same) (journal, is, (session, first p l e, other))
   where
     first : (o : Progress) → Leads nothing journal o → EndsWith o (Ok (answer.No place test)) → FirstFailure journal (Some (record { line = place; rule = test }))
     first nothing l e = absurd (answered _ _ e)
@@ -99,10 +102,10 @@ pub is_session : (P : State → List Record → Type 0) (journal : List Record) 
 is_session P journal h = weaker P (λ s rest. Unit {0}) journal (λ s rest x. tt) h
 
 module _ (bytes : List ℕ) (number : ℕ) (journal : List Record) (p : Progress) (found : Result Answer CheckEnd) (is : IsJournal bytes journal) (l : Leads nothing journal p) (e : EndsWith p found) where
-  pub start_ends : IsWatched number watch.Start p journal → ReplaysBytes bytes number (Err OtherKind)
+  pub start_ends : IsWatched number watch.Start p journal → ReplaysBytes bytes number (Err (Journal (Unjudged OtherKind)))
   start_ends none = (journal, is, subst (λ (rs : List Record). ¬ IsSession rs) (sym none) (λ h. h))
 
-  pub other_ends : IsWatched number watch.Other p journal → ReplaysBytes bytes number (Err OtherKind)
+  pub other_ends : IsWatched number watch.Other p journal → ReplaysBytes bytes number (Err (Journal (Unjudged OtherKind)))
   other_ends (first, rest, parts, not) = (journal, is, not)
 
   -- the records so far are all
@@ -152,13 +155,14 @@ module _ (bytes : List ℕ) (number : ℕ) (journal : List Record) (p : Progress
 
   -- no settlement is there
   pub absence_ends : (end : ReplayEnd) → IsAbsence found end → IsWatched number watch.Before p journal → ReplaysBytes bytes number (Err end)
-  absence_ends end (absent allowed) h = before_ends allowed h
-  absence_ends end (refused why) h = forbidden bytes number journal p found end is l e (is_session (λ s rest. IsFine p → ¬ Settles number s rest) journal h) why
+  absence_ends _ (absent allowed) h = before_ends allowed h
+  absence_ends _ (refused {end = end} why) h = forbidden bytes number journal p found end is l e (is_session (λ s rest. IsFine p → ¬ Settles number s rest) journal h) why
 
   -- one is there
   pub replay_ends : (replay : Replay) (result : Result Replay ReplayEnd) → IsReplayAllowed found replay result → (IsAllowed found → ReplaysBytes bytes number (Ok replay)) → IsSession journal → ReplaysBytes bytes number result
   replay_ends replay (Ok other) (allowed, same) h session = subst (λ (x : Replay). ReplaysBytes bytes number (Ok x)) (sym same) (h allowed)
-  replay_ends replay (Err end) why h session = forbidden bytes number journal p found end is l e session why
+  replay_ends replay (Err (Journal end)) why h session = forbidden bytes number journal p found end is l e session why
+  replay_ends replay (Err NoSettlement) why h session = absurd why
 
   pub begun_replay : (replay : Replay) (result : Result Replay ReplayEnd) → IsReplayAllowed found replay result → IsWatched number (watch.Begun replay) p journal → ReplaysBytes bytes number result
   begun_replay replay result why h = replay_ends replay result why (λ allowed. begun_ends allowed replay h) (is_session (λ s rest. IsFine p → HasBegun number replay p s rest) journal h)

@@ -1,22 +1,23 @@
 -- But for want of memory, bytes have one replay of a settlement, or one reason why there is none.
-use Rattle.std.proofs.Common.{◌≡◌, ◌≢◌, ℕ, List, ◌∷◌, refl, sym, ap, subst}
+use Rattle.std.proofs.Common.{◌≡◌, ◌≢◌, ℕ, List, ◌∷◌, refl, sym, ap}
 use Rattle.std.specs.Prelude.{Some, None, Result, Ok, Err}
 use Rattle.std.proofs.lemmas.Option.{none-some, same_Some}
 use Rattle.ice_journal.specs.Records.{Record, session_kind}
 use Rattle.ice_journal.specs.Records as line
-use Rattle.ice_journal.specs.Journal.{LinesFault, grammar, unended, IsJournal, IsLinesFault}
-use Rattle.ice_journal.proofs.Journals.{one_answer as bytes_tell}
+use Rattle.ice_journal_laws.specs.declared.answer.CheckEnd.TheVariants.{OtherKind}
 use Rattle.ice_journal_laws.specs.declared.rule.Rule.{Rule}
 use Rattle.ice_journal_laws.specs.declared.rule.Rule.TheVariants as rule
 use Rattle.ice_journal_laws.specs.State.{State}
 use Rattle.ice_journal_laws.specs.Checks.{Failure, FirstFailure}
 use Rattle.ice_journal_laws.proofs.Single.{same_failure}
-use Rattle.ice_journal_laws.proofs.Answered.{ok_same, ok_err, err_same}
+use Rattle.ice_reading.specs.declared.end.JournalEnd.{JournalEnd}
+use Rattle.ice_reading.specs.declared.end.JournalEnd.TheVariants.{Unjudged, FailsTest}
+use Rattle.ice_reading.proofs.Deciding.{Finds, of_journal, end_found, one_found}
 use Rattle.ice_replay.specs.declared.settlement.Replay.{Replay}
 use Rattle.ice_replay.specs.declared.settlement.ReplayEnd.{ReplayEnd}
-use Rattle.ice_replay.specs.declared.settlement.ReplayEnd.TheVariants.{Grammar, Unended, OtherKind, No, NoSettlement, NoMemory}
+use Rattle.ice_replay.specs.declared.settlement.ReplayEnd.TheVariants.{Journal, NoSettlement}
 use Rattle.ice_replay.specs.Settlements.{OfSession, IsSession, IsReplayable, passes, stops, Settles}
-use Rattle.ice_replay.specs.Replays.{IsReplay, ReplaysBytes}
+use Rattle.ice_replay.specs.Replays.{IsReplay, FailsOther, ReplaysBytes}
 use Rattle.ice_replay.specs.Laws.{AnswerTheSame, OneReplayAnswer}
 use Rattle.ice_replay.proofs.Same.{of_session}
 
@@ -25,8 +26,8 @@ use Rattle.ice_replay.proofs.Same.{of_session}
 -- the answer of a journal
 data Answers (number : ℕ) (journal : List Record) : Result Replay ReplayEnd → Type 0 where
   replays : (replay : Replay) → IsReplayable journal → OfSession (IsReplay number replay) journal → Answers number journal (Ok replay)
-  of_no_session : ¬ IsSession journal → Answers number journal (Err OtherKind)
-  fails : (place : ℕ) (test : Rule) → IsSession journal → FirstFailure journal (Some (record { line = place; rule = test })) → test ≢ rule.Closed → Answers number journal (Err (No place test))
+  of_no_session : ¬ IsSession journal → Answers number journal (Err (Journal (Unjudged OtherKind)))
+  fails : (place : ℕ) (test : Rule) → IsSession journal → FirstFailure journal (Some (record { line = place; rule = test })) → test ≢ rule.Closed → Answers number journal (Err (Journal (FailsTest place test)))
   settles_none : IsReplayable journal → OfSession (λ s records. ¬ Settles number s records) journal → Answers number journal (Err NoSettlement)
 
 is_session : (P : State → List Record → Type 0) (journal : List Record) → OfSession P journal → IsSession journal
@@ -58,7 +59,7 @@ of_one_journal number journal _ _ (of_no_session none) (settles_none may h) = ab
 of_one_journal number journal _ _ (fails m test is first other) (replays x may h) = absurd (fails_other journal (record { line = m; rule = test }) may first other)
 of_one_journal number journal _ _ (fails m test is first other) (of_no_session none) = absurd (none is)
 of_one_journal number journal _ _ (fails m x is first other) (fails n y is' first' other') =
-    ap (λ (f : Failure). No f.line f.rule) (same_test journal (record { line = m; rule = x }) (record { line = n; rule = y }) first first')
+    ap (λ (f : Failure). Journal (FailsTest f.line f.rule)) (same_test journal (record { line = m; rule = x }) (record { line = n; rule = y }) first first')
 of_one_journal number journal _ _ (fails m test is first other) (settles_none may h) = absurd (fails_other journal (record { line = m; rule = test }) may first other)
 of_one_journal number journal _ _ (settles_none may h) (replays x may' k) = absurd (settles_not number x journal k h)
 of_one_journal number journal _ _ (settles_none may h) (of_no_session none) = absurd (none (is_session (λ s records. ¬ Settles number s records) journal h))
@@ -67,33 +68,20 @@ of_one_journal number journal _ _ (settles_none may h) (settles_none may' k) = r
 
 -- ---- what bytes answer
 
-abbrev end_of_lines : LinesFault → ReplayEnd
-end_of_lines (grammar place) = Grammar place
-end_of_lines (unended place) = Unended place
+-- a journal's end among the answers
+abbrev said : JournalEnd → Result Replay ReplayEnd
+said end = Err (Journal end)
 
--- bytes answer that a line is at fault, or what their journal answers, or that memory is wanting
-data Finds (bytes : List ℕ) (number : ℕ) : Result Replay ReplayEnd → Type 0 where
-  at_lines : (fault : LinesFault) → IsLinesFault bytes fault → Finds bytes number (Err (end_of_lines fault))
-  of_journal : (journal : List Record) (answer : Result Replay ReplayEnd) → IsJournal bytes journal → Answers number journal answer → Finds bytes number answer
-  in_want : Finds bytes number (Err NoMemory)
-
-finds : (bytes : List ℕ) (number : ℕ) (answer : Result Replay ReplayEnd) → ReplaysBytes bytes number answer → Finds bytes number answer
+finds : (bytes : List ℕ) (number : ℕ) (answer : Result Replay ReplayEnd) → ReplaysBytes bytes number answer → Finds said (Answers number) bytes answer
 finds bytes number (Ok x) (j, is, (may, h)) = of_journal j (Ok x) is (replays x may h)
-finds bytes number (Err (Grammar place)) h = at_lines (grammar place) h
-finds bytes number (Err (Unended place)) h = at_lines (unended place) h
-finds bytes number (Err OtherKind) (j, is, none) = of_journal j (Err OtherKind) is (of_no_session none)
-finds bytes number (Err (No place test)) (j, is, (session, first, other)) = of_journal j (Err (No place test)) is (fails place test session first other)
+finds bytes number (Err (Journal end)) h =
+    end_found said (Answers number) (λ journal. ¬ IsSession journal) FailsOther (λ journal none. of_no_session none)
+    (λ journal line test fails_so. fails line test fails_so.0 fails_so.1 fails_so.2) bytes end h
 finds bytes number (Err NoSettlement) (j, is, (may, h)) = of_journal j (Err NoSettlement) is (settles_none may h)
-finds bytes number (Err NoMemory) h = in_want
 
-of_same_bytes : (bytes : List ℕ) (number : ℕ) (one other : Result Replay ReplayEnd) → Finds bytes number one → Finds bytes number other → one ≢ Err NoMemory → other ≢ Err NoMemory → AnswerTheSame one other
-of_same_bytes bytes number _ _ (at_lines f h) (at_lines g k) n m = ap end_of_lines (err_same f g (bytes_tell bytes (Err f) (Err g) h k))
-of_same_bytes bytes number _ _ (at_lines f h) (of_journal j answer is k) n m = absurd (ok_err j f (bytes_tell bytes (Ok j) (Err f) is h))
-of_same_bytes bytes number _ _ (of_journal j answer is h) (at_lines f k) n m = absurd (ok_err j f (bytes_tell bytes (Ok j) (Err f) is k))
-of_same_bytes bytes number _ _ (of_journal j one is h) (of_journal k other is' g) n m =
-    of_one_journal number k one other (subst (λ (x : List Record). Answers number x one) (ok_same j k (bytes_tell bytes (Ok j) (Ok k) is is')) h) g
-of_same_bytes bytes number _ _ in_want other n m = absurd (n refl)
-of_same_bytes bytes number _ _ one in_want n m = absurd (m refl)
+same_end : (end : JournalEnd) → AnswerTheSame (said end) (said end)
+same_end end = refl
 
 pub one_replay_answer : OneReplayAnswer
-one_replay_answer bytes number one other h k = of_same_bytes bytes number one other (finds bytes number one h) (finds bytes number other k)
+one_replay_answer bytes number one other h k =
+    one_found said (Answers number) AnswerTheSame same_end (of_one_journal number) bytes one other (finds bytes number one h) (finds bytes number other k)

@@ -1,8 +1,9 @@
 -- Laws of replays.
 use Rattle.std.specs.Prelude.{ℕ, ◌≡◌, ◌≢◌, List, Result, Ok, Err}
+use Rattle.ice_reading.specs.Ends.{in_want}
 use Rattle.ice_replay.specs.declared.settlement.Replay.{Replay}
 use Rattle.ice_replay.specs.declared.settlement.ReplayEnd.{ReplayEnd}
-use Rattle.ice_replay.specs.declared.settlement.ReplayEnd.TheVariants.{NoMemory}
+use Rattle.ice_replay.specs.declared.settlement.ReplayEnd.TheVariants.{Journal}
 use Rattle.ice_replay.specs.Replays.{names_in, bounds_in, ReplaysBytes}
 
 -- two replays say the same
@@ -24,4 +25,4 @@ AnswerTheSame one other = ⊥
 abbrev pub OneReplayAnswer : Type 0
 OneReplayAnswer =
     (bytes : List ℕ) (number : ℕ) (one other : Result Replay ReplayEnd) → ReplaysBytes bytes number one → ReplaysBytes bytes number other
-    → one ≢ Err NoMemory → other ≢ Err NoMemory → AnswerTheSame one other
+    → one ≢ Err (Journal in_want) → other ≢ Err (Journal in_want) → AnswerTheSame one other

@@ -3,15 +3,15 @@ use Rattle.std.specs.Prelude.{ℕ, ◌≡◌, ◌≢◌, List, map, Some, Result
 use Rattle.ice_defs.specs.Bounds.{Bounds}
 use Rattle.ice_defs.specs.Exchange.{names_of}
 use Rattle.ice_journal.specs.Records.{Record}
-use Rattle.ice_journal.specs.Journal.{grammar, unended, IsLinesFault}
 use Rattle.ice_journal_laws.specs.declared.rule.Rule.TheVariants as rule
 use Rattle.ice_journal_laws.specs.State.{State, exchange_at}
-use Rattle.ice_journal_laws.specs.Checks.{FirstFailure}
+use Rattle.ice_journal_laws.specs.Checks.{Failure, FirstFailure}
 use Rattle.ice_journal_laws.specs.Answers.{OfJournal}
+use Rattle.ice_reading.specs.Ends.{EndsBytes}
 use Rattle.ice_replay.specs.declared.settlement.BidderBounds.{BidderBounds}
 use Rattle.ice_replay.specs.declared.settlement.Replay.{Replay}
 use Rattle.ice_replay.specs.declared.settlement.ReplayEnd.{ReplayEnd}
-use Rattle.ice_replay.specs.declared.settlement.ReplayEnd.TheVariants.{Grammar, Unended, OtherKind, No, NoSettlement, NoMemory}
+use Rattle.ice_replay.specs.declared.settlement.ReplayEnd.TheVariants.{Journal, NoSettlement}
 use Rattle.ice_replay.specs.Settlements.{OfSession, IsSession, IsReplayable, Settles, prices_of}
 
 abbrev pub names_in : List BidderBounds → List (List ℕ)
@@ -34,16 +34,13 @@ pub record IsReplay (number : ℕ) (replay : Replay) (s : State) (records : List
   pub told : Tells number replay s records
   pub prices : replay.prices ≡ prices_of told.settles
 
--- the least line at fault comes first, then another kind, then the first failed test but that of a
--- stop, then that the settlement isn't there; want of memory is free
+-- a session fails this test first, and it isn't that of a stop
+abbrev pub FailsOther : List Record → Failure → Type 0
+FailsOther journal failure = IsSession journal × FirstFailure journal (Some failure) × (failure.rule ≢ rule.Closed)
+
+-- the failed test of a session comes before that the settlement isn't there
 abbrev pub ReplaysBytes : List ℕ → ℕ → Result Replay ReplayEnd → Type 0
 ReplaysBytes bytes number (Ok replay) = OfJournal bytes (λ journal. IsReplayable journal × OfSession (IsReplay number replay) journal)
-ReplaysBytes bytes number (Err (Grammar line)) = IsLinesFault bytes (grammar line)
-ReplaysBytes bytes number (Err (Unended line)) = IsLinesFault bytes (unended line)
-ReplaysBytes bytes number (Err OtherKind) = OfJournal bytes (λ journal. ¬ IsSession journal)
-ReplaysBytes bytes number (Err (No line test)) =
-    OfJournal bytes
-    (λ journal. IsSession journal × FirstFailure journal (Some (record { line = line; rule = test })) × (test ≢ rule.Closed))
+ReplaysBytes bytes number (Err (Journal end)) = EndsBytes (λ journal. ¬ IsSession journal) FailsOther bytes end
 ReplaysBytes bytes number (Err NoSettlement) =
     OfJournal bytes (λ journal. IsReplayable journal × OfSession (λ s records. ¬ Settles number s records) journal)
-ReplaysBytes bytes number (Err NoMemory) = Unit {0}

@@ -8,8 +8,9 @@ use Rattle.ice_journal_laws.specs.declared.rule.Rule.TheVariants as rule
 use Rattle.ice_journal_laws.specs.State.{State}
 use Rattle.ice_journal_laws.specs.Progress.{Progress, nothing, passing, failed, IsAfter, Leads}
 use Rattle.ice_check_records.specs.declared.due.DueRegret.{DueRegret}
-use Rattle.ice_check_records.specs.Checking.{Checking, HasCome}
+use Rattle.ice_check_records.specs.Checking.{Checking, HasCome, ComesTo}
 use Rattle.ice_check_records.specs.Due.{TellsDue}
+use Rattle.ice_replay.specs.declared.search.Search.{Search}
 use Rattle.ice_replay.specs.declared.settlement.Replay.{Replay}
 use Rattle.ice_replay.specs.declared.watch.Watch.{Watch}
 use Rattle.ice_replay.specs.declared.watch.Watch.TheVariants as watch
@@ -67,3 +68,9 @@ abbrev pub WatchesOn : ℕ → Watch → Checking → Record → Watch → Type 
 WatchesOn number w c r after =
     (records : List Record) (p q : Progress) → Leads nothing records p → HasCome c p → IsAfter p r q
     → IsWatched number w p records → IsWatched number after q (records ++ r ∷ [])
+
+-- a record takes the tests on, and makes more known of the settlement
+pub record SearchesOn (s : Search) (r : Record) (t : Search) : Type 0 where
+  pub number : t.number ≡ s.number
+  pub takes : (p : Progress) → HasCome s.checker p → ComesTo p r t.checker
+  pub watches : WatchesOn s.number s.watch s.checker r t.watch

@@ -1,25 +1,13 @@
 //! What is answered where the records end.
-ghost use Rattle.std.specs.Prelude.{◌≡◌};
-ghost use Rattle.ice_replay.specs.Ending.{end_of, IsJudged, IsReplayAllowed, IsAbsence, Concludes};
+ghost use Rattle.ice_replay.specs.Ending.{IsJudged, IsReplayAllowed, IsAbsence, Concludes};
 
 use crate::settlement::{Replay, ReplayEnd};
 use crate::watch::Watch;
-use ice_journal_laws::{Answer, CheckEnd, Rule};
-
-/// Why there is no replay of bytes that have no answer.
-pub(crate) fn end_of(why: CheckEnd) -> ReplayEnd
-    ensures { result ≡ end_of why }
-{
-    match why {
-        CheckEnd::Grammar { line } => ReplayEnd::Grammar { line },
-        CheckEnd::Unended { line } => ReplayEnd::Unended { line },
-        CheckEnd::OtherKind => ReplayEnd::OtherKind,
-        CheckEnd::NoMemory => ReplayEnd::NoMemory,
-    }
-}
+use ice_check_records::Answer;
+use ice_reading::{CheckEnd, JournalEnd, Rule};
 
 /// Whether the answer to a session allows a replay: no test fails but that of a stop.
-fn judged(found: Result<Answer, CheckEnd>) -> Result<(), ReplayEnd>
+fn judged(found: Result<Answer, CheckEnd>) -> Result<(), JournalEnd>
     ensures { IsJudged found result }
 {
     match found {
@@ -29,9 +17,9 @@ fn judged(found: Result<Answer, CheckEnd>) -> Result<(), ReplayEnd>
                 ..
             },
         ) => Ok(()),
-        Ok(Answer::No { line, rule }) => Err(ReplayEnd::No { line, rule }),
+        Ok(Answer::No { line, rule }) => Err(JournalEnd::FailsTest { line, rule }),
         Ok(_) => Ok(()),
-        Err(why) => Err(end_of(why)),
+        Err(end) => Err(JournalEnd::Unjudged(end)),
     }
 }
 
@@ -39,8 +27,10 @@ fn judged(found: Result<Answer, CheckEnd>) -> Result<(), ReplayEnd>
 fn allowed(found: Result<Answer, CheckEnd>, replay: Replay) -> Result<Replay, ReplayEnd>
     ensures { IsReplayAllowed found replay result }
 {
-    judged(found)?;
-    Ok(replay)
+    match judged(found) {
+        Ok(()) => Ok(replay),
+        Err(end) => Err(ReplayEnd::Journal(end)),
+    }
 }
 
 /// That no settlement is there, where the answer allows a replay.
@@ -49,7 +39,7 @@ fn none_there(found: Result<Answer, CheckEnd>) -> ReplayEnd
 {
     match judged(found) {
         Ok(()) => ReplayEnd::NoSettlement,
-        Err(end) => end,
+        Err(end) => ReplayEnd::Journal(end),
     }
 }
 
@@ -58,7 +48,9 @@ pub(crate) fn conclude(watch: Watch, found: Result<Answer, CheckEnd>) -> Result<
     ensures { Concludes watch found result }
 {
     match watch {
-        Watch::Start | Watch::Other => Err(ReplayEnd::OtherKind),
+        Watch::Start | Watch::Other => Err(ReplayEnd::Journal(JournalEnd::Unjudged(
+            CheckEnd::OtherKind,
+        ))),
         Watch::Before => Err(none_there(found)),
         Watch::Begun(replay) => allowed(found, replay),
         Watch::Whole(replay) => allowed(found, replay),

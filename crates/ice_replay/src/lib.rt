@@ -9,10 +9,11 @@ mod lines;
 mod putting;
 mod reading;
 mod records;
+mod search;
 mod settlement;
 mod watch;
 
-pub use ice_check_records::Rule;
+pub use ice_reading::{CheckEnd, JournalEnd, Rule};
 pub use laws::bytes_have_one_replay;
 pub use putting::put_replay;
 pub use reading::replay;

@@ -1,5 +1,5 @@
 //! What is said of one settlement of a session.
-use ice_journal_laws::Rule;
+use ice_reading::JournalEnd;
 use ice_terms::{Name, Prices};
 use ice_tree::Bounds;
 
@@ -30,16 +30,8 @@ pub struct Replay {
 /// Why there is no replay.
 #[derive(Clone, Copy, PartialEq, Eq, Debug)]
 pub enum ReplayEnd {
-    /// This line is no record, and none before it is at fault.
-    Grammar { line: u64 },
-    /// The last line has no newline, and none before it is at fault.
-    Unended { line: u64 },
-    /// Every line is a record, and the first is no head of a session, or there is no line.
-    OtherKind,
-    /// The first failed test, which isn't that of a stop: its line, from 1, and its rule.
-    No { line: u64, rule: Rule },
+    /// The journal is of no session, or fails a test first that isn't that of a stop.
+    Journal(JournalEnd),
     /// The session states no regret of this settlement.
     NoSettlement,
-    /// Memory ran out.
-    NoMemory,
 }

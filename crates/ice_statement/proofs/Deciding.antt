@@ -1,19 +1,20 @@
 -- But for want of memory, bytes have one answer for a name.
-use Rattle.std.proofs.Common.{◌≡◌, ◌≢◌, ℕ, true, false, List, ◌∷◌, refl, sym, ◌∙◌, ap, subst}
+use Rattle.std.proofs.Common.{◌≡◌, ℕ, true, false, List, ◌∷◌, refl, sym, ◌∙◌, ap}
 use Rattle.std.specs.Prelude.{Some, None, Result, Ok, Err}
 use Rattle.std.proofs.lemmas.Bool.{true≢false}
 use Rattle.std.proofs.lemmas.Option.{none-some, same_Some}
 use Rattle.ice_journal.specs.Records.{Record, version_2, session_kind}
 use Rattle.ice_journal.specs.Records as line
 use Rattle.ice_journal.specs.Plain.{plain}
-use Rattle.ice_journal.specs.Journal.{LinesFault, grammar, unended, IsJournal, IsLinesFault}
-use Rattle.ice_journal.proofs.Journals.{one_answer as bytes_tell}
+use Rattle.ice_journal_laws.specs.declared.answer.CheckEnd.TheVariants.{OtherKind}
 use Rattle.ice_journal_laws.specs.declared.rule.Rule.{Rule}
 use Rattle.ice_journal_laws.specs.Checks.{Failure, FirstFailure}
 use Rattle.ice_journal_laws.proofs.Single.{same_failure}
-use Rattle.ice_journal_laws.proofs.Answered.{ok_same, ok_err, err_same}
+use Rattle.ice_reading.specs.declared.end.JournalEnd.{JournalEnd}
+use Rattle.ice_reading.specs.declared.end.JournalEnd.TheVariants.{Unjudged, FailsTest}
+use Rattle.ice_reading.proofs.Deciding.{Finds, of_journal, end_found, one_found}
 use Rattle.ice_statement.specs.declared.judging.StatementEnd.{StatementEnd}
-use Rattle.ice_statement.specs.declared.judging.StatementEnd.TheVariants.{Grammar, Unended, OtherKind, FailsTest, NoBidder, NoMemory}
+use Rattle.ice_statement.specs.declared.judging.StatementEnd.TheVariants.{Journal, NoBidder}
 use Rattle.ice_statement.specs.Judging.{is_session, HasStatement, HasNoBidder, IsFailing, MayState}
 use Rattle.ice_statement.specs.Laws.{OneStatementAnswer}
 
@@ -21,8 +22,8 @@ use Rattle.ice_statement.specs.Laws.{OneStatementAnswer}
 
 data Answers (name : List ℕ) (journal : List Record) : Result (Unit {0}) StatementEnd → Type 0 where
   states : (unit : Unit {0}) → HasStatement name journal → Answers name journal (Ok unit)
-  of_no_session : is_session journal ≡ false → Answers name journal (Err OtherKind)
-  fails : (place : ℕ) (test : Rule) → IsFailing journal (record { line = place; rule = test }) → Answers name journal (Err (FailsTest place test))
+  of_no_session : is_session journal ≡ false → Answers name journal (Err (Journal (Unjudged OtherKind)))
+  fails : (place : ℕ) (test : Rule) → IsFailing journal (record { line = place; rule = test }) → Answers name journal (Err (Journal (FailsTest place test)))
   wants_bidder : HasNoBidder name journal → Answers name journal (Err NoBidder)
 
 same_kind : (journal : List Record) → is_session (plain journal) ≡ is_session journal
@@ -55,7 +56,7 @@ module _ (name : List ℕ) (journal : List Record) where
   of_one_journal _ _ (fails m x h) (fails n y k) =
       let f : Failure = record { line = m; rule = x } in
       let g : Failure = record { line = n; rule = y } in
-      ap (λ (z : Failure). Err (FailsTest z.line z.rule)) (same_Some f g (same_failure journal (Some f) (Some g) h.fails.1 k.fails.1))
+      ap (λ (z : Failure). Err (Journal (FailsTest z.line z.rule))) (same_Some f g (same_failure journal (Some f) (Some g) h.fails.1 k.fails.1))
   of_one_journal _ _ (fails m x h) (wants_bidder k) = passes_fails journal (record { line = m; rule = x }) k.checks.1 h.fails.1
   of_one_journal _ _ (wants_bidder h) (states unit k) = absurd (h.none k.own k.is)
   of_one_journal _ _ (wants_bidder h) (of_no_session none) = no_session journal h.session none
@@ -64,33 +65,16 @@ module _ (name : List ℕ) (journal : List Record) where
 
 -- ---- what bytes answer
 
-abbrev end_of_lines : LinesFault → StatementEnd
-end_of_lines (grammar place) = Grammar place
-end_of_lines (unended place) = Unended place
+-- a journal's end among the answers
+abbrev said : JournalEnd → Result (Unit {0}) StatementEnd
+said end = Err (Journal end)
 
--- bytes answer that a line is at fault, or what their journal answers, or that memory is wanting
-data Finds (bytes name : List ℕ) : Result (Unit {0}) StatementEnd → Type 0 where
-  at_lines : (fault : LinesFault) → IsLinesFault bytes fault → Finds bytes name (Err (end_of_lines fault))
-  of_journal : (journal : List Record) (answer : Result (Unit {0}) StatementEnd) → IsJournal bytes journal → Answers name journal answer → Finds bytes name answer
-  in_want : Finds bytes name (Err NoMemory)
-
-finds : (bytes name : List ℕ) (answer : Result (Unit {0}) StatementEnd) → MayState bytes name answer → Finds bytes name answer
+finds : (bytes name : List ℕ) (answer : Result (Unit {0}) StatementEnd) → MayState bytes name answer → Finds said (Answers name) bytes answer
 finds bytes name (Ok unit) (j, is, h) = of_journal j (Ok unit) is (states unit h)
-finds bytes name (Err (Grammar place)) h = at_lines (grammar place) h
-finds bytes name (Err (Unended place)) h = at_lines (unended place) h
-finds bytes name (Err OtherKind) (j, is, none) = of_journal j (Err OtherKind) is (of_no_session none)
-finds bytes name (Err (FailsTest place test)) (j, is, h) = of_journal j (Err (FailsTest place test)) is (fails place test h)
+finds bytes name (Err (Journal end)) h =
+    end_found said (Answers name) (λ journal. is_session journal ≡ false) IsFailing (λ journal none. of_no_session none) (λ journal place test h. fails place test h) bytes end h
 finds bytes name (Err NoBidder) (j, is, h) = of_journal j (Err NoBidder) is (wants_bidder h)
-finds bytes name (Err NoMemory) h = in_want
-
-of_same_bytes : (bytes name : List ℕ) (one other : Result (Unit {0}) StatementEnd) → Finds bytes name one → Finds bytes name other → one ≢ Err NoMemory → other ≢ Err NoMemory → one ≡ other
-of_same_bytes bytes name _ _ (at_lines f h) (at_lines g k) n m = ap (λ (z : LinesFault). Err (end_of_lines z)) (err_same f g (bytes_tell bytes (Err f) (Err g) h k))
-of_same_bytes bytes name _ _ (at_lines f h) (of_journal j answer is k) n m = absurd (ok_err j f (bytes_tell bytes (Ok j) (Err f) is h))
-of_same_bytes bytes name _ _ (of_journal j answer is h) (at_lines f k) n m = absurd (ok_err j f (bytes_tell bytes (Ok j) (Err f) is k))
-of_same_bytes bytes name _ _ (of_journal j one is h) (of_journal k other is' g) n m =
-    of_one_journal name k one other (subst (λ (x : List Record). Answers name x one) (ok_same j k (bytes_tell bytes (Ok j) (Ok k) is is')) h) g
-of_same_bytes bytes name _ _ in_want other n m = absurd (n refl)
-of_same_bytes bytes name _ _ one in_want n m = absurd (m refl)
 
 pub one_statement_answer : OneStatementAnswer
-one_statement_answer bytes name one other h k = of_same_bytes bytes name one other (finds bytes name one h) (finds bytes name other k)
+one_statement_answer bytes name one other h k =
+    one_found said (Answers name) (λ a b. a ≡ b) (λ end. refl) (of_one_journal name) bytes one other (finds bytes name one h) (finds bytes name other k)

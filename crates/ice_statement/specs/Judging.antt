@@ -3,15 +3,14 @@ use Rattle.std.specs.Prelude.{ℕ, ◌≡◌, Bool, true, false, if◌then◌els
 use Rattle.std.specs.Str.{bytes_eq}
 use Rattle.ice_journal.specs.Records.{Record, session_kind}
 use Rattle.ice_journal.specs.Records as line
-use Rattle.ice_journal.specs.Journal.{grammar, unended, IsLinesFault}
-use Rattle.ice_journal_laws.specs.declared.answer.CheckEnd.{CheckEnd}
-use Rattle.ice_journal_laws.specs.declared.answer.CheckEnd.TheVariants as ending
 use Rattle.ice_journal_laws.specs.Checks.{Failure, Checks}
 use Rattle.ice_journal_laws.specs.Answers.{OfJournal, HasNo}
+use Rattle.ice_reading.specs.declared.end.JournalEnd.TheVariants.{Unjudged, FailsTest}
+use Rattle.ice_reading.specs.Ends.{EndsBytes}
 use Rattle.ice_statement_laws.specs.Statement.{Own}
 use Rattle.ice_statement_laws.specs.Texts.{IsOwnOf}
 use Rattle.ice_statement.specs.declared.judging.StatementEnd.{StatementEnd}
-use Rattle.ice_statement.specs.declared.judging.StatementEnd.TheVariants.{Grammar, Unended, OtherKind, FailsTest, NoBidder, NoMemory}
+use Rattle.ice_statement.specs.declared.judging.StatementEnd.TheVariants.{Journal, NoBidder}
 
 abbrev pub is_session : List Record → Bool
 is_session (line.head version session_kind ∷ rest) = true
@@ -48,27 +47,15 @@ pub record IsFailing (journal : List Record) (failure : Failure) : Type 0 where
   pub session : is_session journal ≡ true
   pub fails : HasNo journal failure
 
--- the least line at fault comes first, then another kind, then the first failed test, then the
--- want of the bidder; want of memory is free
+-- the failed test of a session comes before the want of the bidder
 abbrev pub MayState : List ℕ → List ℕ → Result (Unit {0}) StatementEnd → Type 0
 MayState bytes name (Ok unit) = OfJournal bytes (HasStatement name)
-MayState bytes name (Err (Grammar place)) = IsLinesFault bytes (grammar place)
-MayState bytes name (Err (Unended place)) = IsLinesFault bytes (unended place)
-MayState bytes name (Err OtherKind) = OfJournal bytes (λ journal. is_session journal ≡ false)
-MayState bytes name (Err (FailsTest place test)) = OfJournal bytes (λ journal. IsFailing journal (record { line = place; rule = test }))
+MayState bytes name (Err (Journal end)) = EndsBytes (λ journal. is_session journal ≡ false) IsFailing bytes end
 MayState bytes name (Err NoBidder) = OfJournal bytes (HasNoBidder name)
-MayState bytes name (Err NoMemory) = Unit {0}
-
--- why bytes have no answer, in the words of `StatementEnd`
-abbrev pub IsEnd : CheckEnd → StatementEnd → Type 0
-IsEnd (ending.Grammar place) end = end ≡ Grammar place
-IsEnd (ending.Unended place) end = end ≡ Unended place
-IsEnd ending.OtherKind end = end ≡ OtherKind
-IsEnd ending.NoMemory end = end ≡ NoMemory
 
 -- what is found of a session journal by the checker's answer
 abbrev pub Finds : List ℕ → List Record → Result (Unit {0}) StatementEnd → Type 0
 Finds name journal (Ok unit) = HasStatement name journal
-Finds name journal (Err (FailsTest place test)) = IsFailing journal (record { line = place; rule = test })
+Finds name journal (Err (Journal (FailsTest place test))) = IsFailing journal (record { line = place; rule = test })
+Finds name journal (Err (Journal (Unjudged end))) = ⊥
 Finds name journal (Err NoBidder) = HasNoBidder name journal
-Finds name journal (Err other) = ⊥

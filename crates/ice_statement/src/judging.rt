@@ -4,41 +4,20 @@ ghost use Rattle.ice_journal.specs.Records.{Record};
 ghost use Rattle.ice_journal.specs.Journal.{IsJournal};
 ghost use Rattle.ice_journal.specs.Lines.{record_of};
 ghost use Rattle.ice_journal_laws.specs.Answers.{AnswersJournal};
-ghost use Rattle.ice_statement.specs.Judging.{is_session, end_at, has_bidder, MayState, IsEnd, Finds};
+ghost use Rattle.ice_statement.specs.Judging.{is_session, end_at, has_bidder, MayState, Finds};
 
-use ice_check::{Answer, CheckEnd, Rule, check};
-use ice_journal::{Kind, Line, read_record};
-use ice_line::split_line;
+use ice_check::{Answer, check};
+use ice_journal::{Kind, Line};
+use ice_reading::{CheckEnd, JournalEnd, Records};
 use std::alloc::Global;
 
 /// Why there is no statement.
 #[derive(Clone, Copy, PartialEq, Eq, Debug)]
 pub enum StatementEnd {
-    /// This line is no record, and none before it is at fault.
-    Grammar { line: u64 },
-    /// The last line has no newline, and none before it is at fault.
-    Unended { line: u64 },
-    /// Every line is a record, and the first is no head of a session journal, or there is no line.
-    OtherKind,
-    /// The first failed test of a session journal: its line and its rule. A session that isn't
-    /// closed fails one.
-    FailsTest { line: u64, rule: Rule },
+    /// The journal is of no session, or fails a test: a session that isn't closed fails one.
+    Journal(JournalEnd),
     /// The journal is closed and passes every test, and no bidder has the name.
     NoBidder,
-    /// Memory ran out.
-    NoMemory,
-}
-
-/// Why there is no statement of bytes that have no answer.
-fn statement_end(end: CheckEnd) -> StatementEnd
-    ensures { IsEnd end result }
-{
-    match end {
-        CheckEnd::Grammar { line } => StatementEnd::Grammar { line },
-        CheckEnd::Unended { line } => StatementEnd::Unended { line },
-        CheckEnd::OtherKind => StatementEnd::OtherKind,
-        CheckEnd::NoMemory => StatementEnd::NoMemory,
-    }
 }
 
 /// Whether a record is a head of a session journal.
@@ -55,13 +34,10 @@ fn is_session_head(line: &Line) -> bool
 fn is_session(bytes: &[u8]) -> bool
     ensures { (journal : List Record) → IsJournal bytes.now journal → is_session journal ≡ result }
 {
-    let Some((text, _)) = split_line(bytes) else {
-        return false;
-    };
-    let Some(line) = read_record(text) else {
-        return false;
-    };
-    is_session_head(&line)
+    match Records::new(bytes).next() {
+        Some(line) => is_session_head(&line),
+        None => false,
+    }
 }
 
 /// Where the search for a bidder with this name ends: at a bidder with it, or at a settlement.
@@ -89,15 +65,11 @@ fn has_bidder(bytes: &[u8], name: &[u8]) -> bool
     ensures { (journal : List Record) → IsJournal bytes.now journal
         → has_bidder name.now journal ≡ result }
 {
-    let mut rest = bytes;
-    while let Some((text, after)) = split_line(rest) {
-        let Some(line) = read_record(text) else {
-            return false;
-        };
+    let mut records = Records::new(bytes);
+    while let Some(line) = records.next() {
         if let Some(found) = end_at(&line, name) {
             return found;
         }
-        rest = after;
     }
     false
 }
@@ -108,7 +80,9 @@ fn found(bytes: &[u8], name: &[u8], answer: Answer) -> Result<(), StatementEnd>
         → AnswersJournal journal answer → Finds name.now journal result }
 {
     match answer {
-        Answer::No { line, rule } => Err(StatementEnd::FailsTest { line, rule }),
+        Answer::No { line, rule } => {
+            Err(StatementEnd::Journal(JournalEnd::FailsTest { line, rule }))
+        }
         _ => {
             if has_bidder(bytes, name) {
                 Ok(())
@@ -131,10 +105,10 @@ pub fn judge(alloc: Global, bytes: &[u8], name: &[u8]) -> Result<(), StatementEn
 {
     let answer = match check(alloc, bytes) {
         Ok(answer) => answer,
-        Err(end) => return Err(statement_end(end)),
+        Err(end) => return Err(StatementEnd::Journal(JournalEnd::Unjudged(end))),
     };
     if !is_session(bytes) {
-        return Err(StatementEnd::OtherKind);
+        return Err(StatementEnd::Journal(JournalEnd::Unjudged(CheckEnd::OtherKind)));
     }
     found(bytes, name, answer)
 }

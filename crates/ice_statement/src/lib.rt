@@ -7,7 +7,7 @@ mod laws;
 mod lines;
 mod putting;
 
-pub use ice_check::Rule;
+pub use ice_reading::{CheckEnd, JournalEnd, Rule};
 pub use judging::{StatementEnd, judge};
 pub use laws::bytes_have_one_statement;
 pub use putting::put_statement;

@@ -12,8 +12,9 @@ ghost use Rattle.ice_statement_laws.specs.Gathering.{new_gathering, shown_if, li
 use crate::gathering::Gathering;
 use crate::lines::{write_kept, write_offered};
 use ice_edge::{Sink, SinkFault};
-use ice_journal::{Line, read_record};
-use ice_line::{LineWriter, split_line};
+use ice_journal::Line;
+use ice_line::LineWriter;
+use ice_reading::Records;
 use ice_set::NodeSet;
 
 /// Puts two pieces, one behind the other.
@@ -97,14 +98,10 @@ fn put_gathered<K: Sink>(bytes: &[u8], name: &[u8], out: &mut K) -> Result<(), S
         (K.taken out.old) (K.taken out.new) }
 {
     let mut gathering = Gathering::new(name);
-    let mut rest = bytes;
-    while let Some((text, after)) = split_line(rest) {
-        let Some(line) = read_record(text) else {
-            return Ok(());
-        };
-        put_added(&gathering, &line, &rest[..text.len() + 1], out)?;
-        gathering.take(&line);
-        rest = after;
+    let mut records = Records::new(bytes);
+    while let Some((record, line)) = records.next_with_line() {
+        put_added(&gathering, &record, line, out)?;
+        gathering.take(&record);
     }
     Ok(())
 }

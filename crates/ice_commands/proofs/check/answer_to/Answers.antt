@@ -1,4 +1,5 @@
-use Rattle.ice_commands.specs.CheckServed.{IsEndFault, IsCheckFault}
+use Rattle.ice_commands.specs.CheckServed.{IsCheckFault}
+use Rattle.ice_commands.specs.Ends.{IsEndFault}
 use Rattle.ice_command_parts.proofs.Refusing.{fault_anyway}
 use Rattle.ice_commands.proofs.check.answer_to.Goals as goal
 

@@ -1,5 +1,7 @@
 use Rattle.ice_commands.specs.Unwritten.{unwritten_text, unwritten_status}
-use Rattle.ice_commands.proofs.Fairing.{trees_are, fair_serves, unwritten_answers}
+use Rattle.ice_commands.specs.FairServed.{HasNoLast, IsFairFault, FairAnswers}
+use Rattle.ice_commands.proofs.Fairing.{trees_are, fair_serves}
+use Rattle.ice_commands.proofs.Unwriting.{unwritten_answers}
 use Rattle.ice_commands.proofs.fair.fair.Goals as goal
 
 pub say_fair-requires : goal.say_fair-requires
@@ -18,4 +20,10 @@ returns-in-Err-clause-served g c =
     let before = g.H.Shelf.told c.args.shelf.now in
     let after = g.H.Shelf.told c.last_of.new.shelf in
     let unwritten = c.in-Err.unwritten in
-    (unwritten_text unwritten, unwritten_status unwritten, unwritten_answers before after c.args.journal.now unwritten c.in-Err.ensures.none, c.say.ensures)
+    let file = c.args.journal.now in (
+      unwritten_text unwritten,
+      unwritten_status unwritten,
+      unwritten_answers (λ call. FairAnswers call file) IsFairFault file (λ call h. h) (λ call h. h) (λ call h. h) HasNoLast (λ call line rule bytes fails told text. (record { line = line; rule = rule }, (bytes, fails, told), text)) before after unwritten
+          c.in-Err.ensures.none,
+      c.say.ensures,
+    )

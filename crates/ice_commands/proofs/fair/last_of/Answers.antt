@@ -1,8 +1,7 @@
 use Rattle.std.proofs.Common.{ℕ, List, sym, subst}
 use Rattle.std.proofs.lemmas.Result.{MatchResult-weaker}
 use Rattle.ice_command_parts.specs.Call.{journal_limit}
-use Rattle.ice_commands.specs.FairServed.{IsFairFault}
-use Rattle.ice_commands.specs.FairParts.{AreFailing}
+use Rattle.ice_commands.specs.FairServed.{HasNoLast, IsFairFault}
 use Rattle.ice_command_parts.specs.Parts.{AreFetched}
 use Rattle.ice_commands.proofs.Unwriting.{unwritten_file}
 use Rattle.ice_command_parts.proofs.Refusing.{not_had}
@@ -25,4 +24,4 @@ returns-clause-none g c =
     let told : AreFetched shelf c.args.journal.now journal_limit c.deref.result.now =
     subst (λ (read : List ℕ). AreFetched shelf c.args.journal.now journal_limit read) (sym c.deref.ensures.value) c.in-Ok.ensures.bytes in
     MatchResult-weaker c.last_in.result c.last_in.ensures.none (λ last h. tt)
-    (λ unwritten h. unwritten_file AreFailing IsFairFault shelf (g.H.Shelf.told c.fetch.new.shelf) c.args.journal.now c.deref.result.now unwritten told h)
+    (λ unwritten h. unwritten_file HasNoLast IsFairFault shelf (g.H.Shelf.told c.fetch.new.shelf) c.args.journal.now c.deref.result.now unwritten told h)

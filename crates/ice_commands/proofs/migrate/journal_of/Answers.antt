@@ -1,8 +1,7 @@
 use Rattle.std.proofs.Common.{ℕ, List, sym, subst}
 use Rattle.std.proofs.lemmas.Result.{err_from_is_err_and}
 use Rattle.ice_command_parts.specs.Call.{journal_limit}
-use Rattle.ice_commands.specs.MigrateServed.{IsMigrateFault}
-use Rattle.ice_commands.specs.MigrateParts.{AreFailing}
+use Rattle.ice_commands.specs.MigrateServed.{NotMigrated, IsMigrateFault}
 use Rattle.ice_command_parts.specs.Parts.{AreFetched}
 use Rattle.ice_commands.proofs.Unwriting.{unwritten_file}
 use Rattle.ice_command_parts.proofs.Refusing.{not_had}
@@ -18,4 +17,4 @@ returns-in_err-judge_bytes-clause-unwritten g c =
     subst (λ (read : List ℕ). AreFetched shelf c.args.name.now journal_limit read) (sym c.deref.ensures.value) c.in-Ok.ensures.bytes in
     let p = err_from_is_err_and c.from_residual.result c.from_residual.ensures.1 in
     rw (p.1, p.2)
-    (unwritten_file AreFailing IsMigrateFault shelf (g.H.Shelf.told c.fetch.new.shelf) c.args.name.now c.deref.result.now c.in_err-judge_bytes.field-0.0 told c.in_err-judge_bytes.ensures.unwritten)
+    (unwritten_file NotMigrated IsMigrateFault shelf (g.H.Shelf.told c.fetch.new.shelf) c.args.name.now c.deref.result.now c.in_err-judge_bytes.field-0.0 told c.in_err-judge_bytes.ensures.unwritten)

@@ -2,7 +2,9 @@ use Rattle.std.proofs.Common.{ℕ, List, sym, subst}
 use Rattle.ice_command_parts.specs.Call.{journal_limit}
 use Rattle.ice_commands.specs.Unwritten.{unwritten_text, unwritten_status}
 use Rattle.ice_command_parts.specs.Parts.{AreFetched}
-use Rattle.ice_commands.proofs.Migrating.{journal_serves, unwritten_answers}
+use Rattle.ice_commands.specs.MigrateServed.{NotMigrated, IsMigrateFault, MigrateAnswers}
+use Rattle.ice_commands.proofs.Migrating.{journal_serves}
+use Rattle.ice_commands.proofs.Unwriting.{unwritten_answers}
 use Rattle.ice_commands.proofs.migrate.migrate.Goals as goal
 
 pub returns-in-Ok-clause-served : goal.returns-in-Ok-clause-served
@@ -20,4 +22,10 @@ returns-in-Err-clause-served g c =
     let before = g.H.Shelf.told c.args.shelf.now in
     let after = g.H.Shelf.told c.journal_of.new.shelf in
     let unwritten = c.in-Err.unwritten in
-    (unwritten_text unwritten, unwritten_status unwritten, unwritten_answers before after c.args.journal.now unwritten c.in-Err.ensures.unwritten, c.say.ensures)
+    let file = c.args.journal.now in (
+      unwritten_text unwritten,
+      unwritten_status unwritten,
+      unwritten_answers (λ call. MigrateAnswers call file) IsMigrateFault file (λ call h. h) (λ call h. h) (λ call h. h) NotMigrated (λ call line rule bytes fails told text. (record { line = line; rule = rule }, (bytes, fails, told), text)) before after
+          unwritten c.in-Err.ensures.unwritten,
+      c.say.ensures,
+    )

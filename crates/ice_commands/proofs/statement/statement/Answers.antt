@@ -2,10 +2,11 @@ use Rattle.std.proofs.Common.{ℕ, List, sym, subst}
 use Rattle.ice_journal_laws.specs.Answers.{OfJournal}
 use Rattle.ice_statement.specs.Judging.{HasStatement}
 use Rattle.ice_command_parts.specs.Call.{journal_limit}
-use Rattle.ice_commands.specs.StatementServed.{StatementAnswers}
+use Rattle.ice_commands.specs.StatementServed.{NotStated, IsStatementFault, StatementAnswers}
 use Rattle.ice_commands.specs.Unwritten.{unwritten_text, unwritten_status}
 use Rattle.ice_command_parts.specs.Parts.{AreFetched, Serves}
-use Rattle.ice_commands.proofs.Stating.{statement_serves, unwritten_answers}
+use Rattle.ice_commands.proofs.Stating.{statement_serves}
+use Rattle.ice_commands.proofs.Unwriting.{unwritten_answers}
 use Rattle.ice_commands.proofs.statement.statement.Goals as goal
 
 pub returns-in-Ok-clause-served : goal.returns-in-Ok-clause-served
@@ -29,4 +30,11 @@ returns-in-Err-clause-served g c =
     let before = g.H.Shelf.told c.args.shelf.now in
     let after = g.H.Shelf.told c.journal_of.new.shelf in
     let unwritten = c.in-Err.unwritten in
-    (unwritten_text unwritten, unwritten_status unwritten, unwritten_answers before after c.args.journal.now c.args.name.now unwritten c.in-Err.ensures.unstated, c.say.ensures)
+    let file = c.args.journal.now in
+    let name = c.args.name.now in (
+      unwritten_text unwritten,
+      unwritten_status unwritten,
+      unwritten_answers (λ call. StatementAnswers call file name) (IsStatementFault name) file (λ call h. h) (λ call h. h) (λ call h. h) (NotStated name)
+          (λ call line rule bytes fails told text. (record { line = line; rule = rule }, (bytes, fails, told), text)) before after unwritten c.in-Err.ensures.unstated,
+      c.say.ensures,
+    )

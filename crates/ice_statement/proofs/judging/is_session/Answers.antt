@@ -1,13 +1,14 @@
-use Rattle.std.proofs.Common.{◌≡◌}
-use Rattle.ice_journal.specs.Lines.{record_of}
-use Rattle.ice_statement.specs.Judging.{is_session}
-use Rattle.ice_statement.proofs.Judged.{first_read, none_read}
+use Rattle.std.proofs.Common.{ℕ, List, sym, subst}
+use Rattle.ice_journal.specs.Journal.{IsJournal}
+use Rattle.ice_statement.proofs.Judged.{session_first, none_first}
 use Rattle.ice_statement.proofs.judging.is_session.Goals as goal
 
-pub returns-in_default-read_record : goal.returns-in_default-read_record
-returns-in_default-read_record c = λ journal is. none_read c.args.bytes.now c.in-Some.text.now c.in-Some.field-0-1.now journal c.in-Some.ensures c.in_default-read_record.ensures is
+pub returns-in-Some : goal.returns-in-Some
+returns-in-Some c = λ journal is.
+    let here = subst (λ (bytes : List ℕ). IsJournal bytes journal) (sym c.new.ensures) is in
+    session_first journal c.in-Some.line c.next.new.self c.is_session_head.result (c.in-Some.ensures.next journal here) c.is_session_head.ensures
 
-pub returns : goal.returns
-returns c = λ journal is.
-    first_read (λ journal. is_session journal ≡ c.is_session_head.result) c.args.bytes.now c.in-Some.text.now c.in-Some.field-0-1.now journal (record_of c.in-Some-read_record.line) c.in-Some.ensures c.in-Some-read_record.ensures
-    (λ more later. c.is_session_head.ensures more) is
+pub returns-in-None : goal.returns-in-None
+returns-in-None c = λ journal is.
+    let here = subst (λ (bytes : List ℕ). IsJournal bytes journal) (sym c.new.ensures) is in
+    none_first journal c.next.new.self (c.in-None.ensures.next journal here)

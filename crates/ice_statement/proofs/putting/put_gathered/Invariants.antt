@@ -5,12 +5,12 @@ use Rattle.ice_statement_laws.specs.Gathering.{new_gathering}
 use Rattle.ice_statement.proofs.Gathers.{HasPut}
 use Rattle.ice_statement.proofs.putting.put_gathered.Given as goal
 
-abbrev pub invariant-loop-text : goal.invariant-loop-text
-invariant-loop-text g l = record {
-  bidders : l.gathering.bidders + length l.rest ≤ length l.bytes;
-  sets : l.gathering.sets + length l.rest ≤ length l.bytes;
-  put : (journal : List Record) → IsJournal l.bytes journal → HasPut (new_gathering l.name) l.gathering l.rest journal (g.K.Sink.taken l.initial.out) (g.K.Sink.taken l.out);
+abbrev pub invariant-loop-record : goal.invariant-loop-record
+invariant-loop-record g l = record {
+  bidders : l.gathering.bidders + length l.records ≤ length l.bytes;
+  sets : l.gathering.sets + length l.records ≤ length l.bytes;
+  put : (journal : List Record) → IsJournal l.bytes journal → HasPut (new_gathering l.name) l.gathering l.records journal (g.K.Sink.taken l.initial.out) (g.K.Sink.taken l.out);
 }
 
-abbrev pub decreases-loop-text : goal.decreases-loop-text
-decreases-loop-text g l = length l.rest
+abbrev pub decreases-loop-record : goal.decreases-loop-record
+decreases-loop-record g l = length l.records

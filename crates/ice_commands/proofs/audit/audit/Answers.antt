@@ -1,0 +1,26 @@
+use Rattle.ice_command_parts.specs.Refusals.{refusal_text, refusal_status}
+use Rattle.ice_commands.specs.AuditServed.{IsAuditFault, AuditAnswers}
+use Rattle.ice_commands.specs.AuditParts.{answer_text, answer_status}
+use Rattle.ice_commands.proofs.Auditing.{answer_answers}
+use Rattle.ice_commands.proofs.Unwriting.{refusal_answers}
+use Rattle.ice_commands.proofs.audit.audit.Goals as goal
+
+pub returns-in-Ok-clause-served : goal.returns-in-Ok-clause-served
+returns-in-Ok-clause-served g c = (
+  answer_text c.in-Ok.answer,
+  answer_status c.in-Ok.answer,
+  answer_answers (g.H.Shelf.told c.args.shelf.now) (g.H.Shelf.told c.answer_of.new.shelf) c.args.file.now c.in-Ok.answer c.in-Ok.ensures.answer,
+  c.say.ensures,
+)
+
+pub returns-in-Err-clause-served : goal.returns-in-Err-clause-served
+returns-in-Err-clause-served g c =
+    let before = g.H.Shelf.told c.args.shelf.now in
+    let after = g.H.Shelf.told c.answer_of.new.shelf in
+    let file = c.args.file.now in
+    let refusal = c.in-Err.refusal in (
+      refusal_text refusal,
+      refusal_status refusal,
+      refusal_answers (λ call. AuditAnswers call file) IsAuditFault file (λ call h. h) (λ call h. h) (λ call h. h) before after refusal c.in-Err.ensures.refusal,
+      c.say-in-Err.ensures,
+    )
