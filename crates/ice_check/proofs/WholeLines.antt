@@ -1,59 +1,61 @@
 -- What one more line makes of the whole lines.
-use Rattle.std.proofs.Common.{◌≡◌, ◌<◌, ◌≤◌, ◌+◌, ℕ, suc, Bool, true, false, List, [], ◌∷◌, ◌++◌, length, Contains, refl, sym, ◌∙◌, ap, subst, arith, append_assoc, add-one, inr}
+use Rattle.std.proofs.Common.{◌≡◌, ◌<◌, ◌≤◌, ◌+◌, ℕ, suc, Bool, true, false, List, [], ◌∷◌, ◌++◌, length, Contains, refl, sym, ◌∙◌, ap, subst, arith, append_assoc, append-nil, add-one, inr}
 use Rattle.ice_journal.specs.Records.{Record}
 use Rattle.ice_journal.specs.Ranges.{IsRecord}
-use Rattle.ice_journal.specs.Spelling.{text_of, line_of}
+use Rattle.ice_journal.specs.Spelling.{line_of}
 use Rattle.ice_journal.specs.Journal.{bytes_of, IsNoRecord, grammar, unended, IsLinesFault}
-use Rattle.ice_journal_laws.specs.Progress.{Progress, is_ready}
+use Rattle.ice_journal_laws.specs.Progress.{Progress, nothing, is_ready, Leads}
+use Rattle.ice_journal_laws.proofs.Leading.{leads_more}
 use Rattle.ice_check_records.specs.Checking.{Checking, HasCome, ComesTo}
-use Rattle.ice_check_records.proofs.Reading.{HasRead, one_read, grammar_fault, unended_fault, all_read}
+use Rattle.ice_reading.proofs.SoFar.{HasRead, one_read, grammar_fault, unended_fault, all_read}
 use Rattle.ice_check.specs.Standing.{AreTaken, AreReadiness, ReadsOn, IsWithin}
 use Rattle.std.specs.Prelude.{Option, Some, None, Result, Ok, Err, OnOk, OnErr}
 use Rattle.ice_check.specs.declared.lines.Lines.{Lines}
 use Rattle.ice_check.specs.declared.lines.Lines.TheVariants as known
 
--- nothing else is known of the records
-abbrev Any : Progress → List Record → Type 0
-Any p records = Unit {0}
+-- where the tests of the records have come
+record HasComeTo (c : Checking) (records : List Record) : Type 0 where
+  progress : Progress
+  leads : Leads nothing records progress
+  come : HasCome c progress
 
 -- the taken lines, before bytes that come after them
-before : (c : Checking) (whole rest : List ℕ) (h : AreTaken c whole) → HasRead Any (whole ++ rest) rest (length h.journal) c
+before : (c : Checking) (whole rest : List ℕ) (h : AreTaken c whole) → HasRead (HasComeTo c) (whole ++ rest) rest (length h.journal)
 before c whole rest h = record {
   records = h.journal;
   lawful = h.spelled.lawful;
   count_is = refl;
   bytes_are = ap (λ (l : List ℕ). l ++ rest) h.spelled.spelled;
-  progress = h.progress;
-  leads = h.leads;
-  come = h.come;
-  line = h.line ∙ sym (add-one (length h.journal));
-  known = tt;
+  known = record { progress = h.progress; leads = h.leads; come = h.come };
 }
 
 -- the line of a record
 pub one_more : (c d : Checking) (whole : List ℕ) (r : Record) → AreTaken c whole → IsRecord r → ((p : Progress) → HasCome c p → ComesTo p r d) → d.line ≡ suc c.line → AreTaken d (whole ++ line_of r)
 one_more c d whole r h is takes line =
-    let after : HasRead Any (whole ++ line_of r) [] (length h.journal + 1) d = one_read (whole ++ line_of r) (line_of r) (text_of r) [] (length h.journal) c d r (before c whole (line_of r) h) refl is refl takes line (λ records p q leads come after any. tt) in
+    let after : HasRead (HasComeTo d) (whole ++ line_of r) [] (length h.journal + 1) =
+    one_read (whole ++ line_of r) (line_of r) [] (length h.journal) r (before c whole (line_of r) h) is (sym (append-nil (line_of r))) (λ records known.
+    let next = takes known.progress known.come in
+    record { progress = next.after; leads = leads_more nothing known.progress next.after records r known.leads next.leads; come = next.come }) in
     record {
       journal = after.records;
-      spelled = all_read (whole ++ line_of r) [] (length h.journal + 1) d after refl;
-      line = omega (arith, after.line, after.count_is);
-      progress = after.progress;
-      leads = after.leads;
-      come = after.come;
+      spelled = all_read (whole ++ line_of r) [] (length h.journal + 1) after refl;
+      line = omega (arith, line, h.line, after.count_is);
+      progress = after.known.progress;
+      leads = after.known.leads;
+      come = after.known.come;
     }
 
 -- the line of no record
 pub at_fault : (c : Checking) (whole text : List ℕ) → AreTaken c whole → ¬ Contains text 10 → IsNoRecord text → IsLinesFault (whole ++ (text ++ 10 ∷ [])) (grammar c.line)
 at_fault c whole text h one_line none =
     subst (λ (n : ℕ). IsLinesFault (whole ++ (text ++ 10 ∷ [])) (grammar n)) (add-one (length h.journal) ∙ sym h.line)
-    (grammar_fault (whole ++ (text ++ 10 ∷ [])) (text ++ 10 ∷ []) text [] (length h.journal) c (before c whole (text ++ 10 ∷ []) h) refl one_line none)
+    (grammar_fault (whole ++ (text ++ 10 ∷ [])) (text ++ 10 ∷ []) text [] (length h.journal) (before c whole (text ++ 10 ∷ []) h) refl one_line none)
 
 -- a line that has begun, where nothing more comes
 pub not_ended : (c : Checking) (whole text : List ℕ) → AreTaken c whole → ¬ Contains text 10 → 0 < length text → IsLinesFault (whole ++ text) (unended c.line)
 not_ended c whole text h one_line some =
     subst (λ (n : ℕ). IsLinesFault (whole ++ text) (unended n)) (add-one (length h.journal) ∙ sym h.line)
-    (unended_fault (whole ++ text) text (length h.journal) c (before c whole text h) one_line some)
+    (unended_fault (whole ++ text) text (length h.journal) (before c whole text h) one_line some)
 
 -- the least line at fault stays it
 pub fault_stays : (whole more : List ℕ) (n : ℕ) → IsLinesFault whole (grammar n) → IsLinesFault (whole ++ more) (grammar n)

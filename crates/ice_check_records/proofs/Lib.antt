@@ -16,8 +16,6 @@ pub mod Walks
 pub mod Changes
 -- what the stages of the checker make of a record
 pub mod Placing
--- the records that are read so far, and where the tests of them have come
-pub mod Reading
 -- what the stages of the checker stand for, behind the exchange and at the end
 pub mod Staged
 -- a journal that has not ended leaves no session
