@@ -37,7 +37,7 @@ use Rattle.ice_check_offer.specs.Offers as offers
 use Rattle.ice_gap_laws.specs.declared.answer.GapAnswer.{GapAnswer}
 use Rattle.ice_gap_laws.specs.declared.answer.GapAnswer.TheVariants as gap_is
 use Rattle.ice_gap_laws.specs.Gap.{at_gap_sets, is_in_group, aimed_place, with_target, GapProgress, checking, in_group, at_close, no_gap, in_its_group, is_closed, IsGapAfter, StatesNone, IsThere}
-use Rattle.ice_gap_laws.specs.Answers.{ended_at, gap_answer}
+use Rattle.ice_gap_laws.specs.Answers.{answer_at_end, gap_answer}
 use Rattle.ice_gap_laws.proofs.Right.{log_leaves}
 use Rattle.ice_gap_laws.proofs.Written.{awaited_valued}
 use Rattle.ice_gap_laws.proofs.Heading.{is_stopped, usual, usual_on, AsHead, read_as_head, order_at}
@@ -54,7 +54,7 @@ use Rattle.ice_journal.specs.Ranges.{IsRecord}
 use Rattle.ice_check_records.specs.Groups.{at_hand, place_at, known_in, IsOffering, StandsFor, weights_for, AreKept, HasOpen, IsReady}
 use Rattle.ice_check_records.specs.Taking.{failure_at, Goes, IsTaken, Fails}
 use Rattle.ice_check_records.specs.Stages.{IsProgress, TakesFurther}
-use Rattle.ice_check_records.specs.Gaps.{gap_of, TellsAwaited, AwaitsGroup, IsInGroup, IsInside, IsGapProgress, is_no_stop, IsOpen, gap_stage, opened_stage, failed_gap, found_of, TakesGapFurther, LeadsFrom, LeadsInside, WalksOn}
+use Rattle.ice_check_records.specs.Gaps.{stated_gap, TellsAwaited, AwaitsGroup, IsInGroup, IsInside, IsGapProgress, is_no_stop, IsOpen, gap_stage, opened_stage, failed_gap, gapless_answer, TakesGapFurther, LeadsFrom, LeadsInside, WalksOn}
 use Rattle.ice_check_records.proofs.Knowing.{IsQuiet, stands_known, stands_goes, stands_fails}
 
 -- ---- before a stop
@@ -137,32 +137,32 @@ next_in g s group stands e = by g.next (subst (λ (t : State). GroupOf t.place �
     by coming.End e h = absurd (none-some group e)
     by coming.Nothing e h = absurd (none-some group e)
 
-opens_in : (n : ℕ) (after : Stage) (s : State) (spent : Spent) (q : Progress) → s.line ≡ n → is_valued spent.group ≡ true → q ≡ passing (at_gap_sets (gap_of spent) s) → IsProgress (suc n) after q
-    → IsGapProgress (suc n) (opened_stage n spent after) (cond (int_lt spent.value spent.bound) (in_group (gap_of spent) (at_gap_sets (gap_of spent) s)) (no_gap s.line))
+opens_in : (n : ℕ) (after : Stage) (s : State) (spent : Spent) (q : Progress) → s.line ≡ n → is_valued spent.group ≡ true → q ≡ passing (at_gap_sets (stated_gap spent) s) → IsProgress (suc n) after q
+    → IsGapProgress (suc n) (opened_stage n spent after) (cond (int_lt spent.value spent.bound) (in_group (stated_gap spent) (at_gap_sets (stated_gap spent) s)) (no_gap s.line))
 opens_in n (stage.Behind groups) s spent q at v e (t, is, line_is, stands) = by (int_lt spent.value spent.bound)
   where
-    here : t ≡ at_gap_sets (gap_of spent) s
-    here = same_passing t (at_gap_sets (gap_of spent) s) (sym is ∙ e)
+    here : t ≡ at_gap_sets (stated_gap spent) s
+    here = same_passing t (at_gap_sets (stated_gap spent) s) (sym is ∙ e)
 
-    known : StandsFor groups.value (at_gap_sets (gap_of spent) s)
+    known : StandsFor groups.value (at_gap_sets (stated_gap spent) s)
     known = subst (StandsFor groups.value) here stands
 
-    by : (b : Bool) → IsGapProgress (suc n) (cond b (gap.Inside groups spent) (gap.NoGap n)) (cond b (in_group (gap_of spent) (at_gap_sets (gap_of spent) s)) (no_gap s.line))
+    by : (b : Bool) → IsGapProgress (suc n) (cond b (gap.Inside groups spent) (gap.NoGap n)) (cond b (in_group (stated_gap spent) (at_gap_sets (stated_gap spent) s)) (no_gap s.line))
     by true = record {
-      state = at_gap_sets (gap_of spent) s;
+      state = at_gap_sets (stated_gap spent) s;
       come = refl;
       line_is = ap suc at;
       stands = known;
-      next_is = next_in groups.value (at_gap_sets (gap_of spent) s) spent.group known refl;
+      next_is = next_in groups.value (at_gap_sets (stated_gap spent) s) spent.group known refl;
       valued = v;
     }
     by false = ap no_gap at
-opens_in n stage.Begin s spent q at v e is = absurd (let f : nothing ≡ passing (at_gap_sets (gap_of spent) s) = sym is ∙ e in cc)
-opens_in n stage.OtherKind s spent q at v e is = absurd (let f : other_kind ≡ passing (at_gap_sets (gap_of spent) s) = sym is ∙ e in cc)
+opens_in n stage.Begin s spent q at v e is = absurd (let f : nothing ≡ passing (at_gap_sets (stated_gap spent) s) = sym is ∙ e in cc)
+opens_in n stage.OtherKind s spent q at v e is = absurd (let f : other_kind ≡ passing (at_gap_sets (stated_gap spent) s) = sym is ∙ e in cc)
 opens_in n (stage.Describing head section) s spent q at v e is =
-    absurd (none-some spent.group (ap (λ (t : State). GroupOf t.place) (same_passing _ (at_gap_sets (gap_of spent) s) (sym is ∙ e))))
-opens_in n (stage.Failed there x) s spent q at v e is = absurd (let f : failed (record { line = there; rule = x }) ≡ passing (at_gap_sets (gap_of spent) s) = sym is ∙ e in cc)
-opens_in n stage.OutOfMemory s spent q at v e is = absurd (let f : out_of_memory ≡ passing (at_gap_sets (gap_of spent) s) = sym is ∙ e in cc)
+    absurd (none-some spent.group (ap (λ (t : State). GroupOf t.place) (same_passing _ (at_gap_sets (stated_gap spent) s) (sym is ∙ e))))
+opens_in n (stage.Failed there x) s spent q at v e is = absurd (let f : failed (record { line = there; rule = x }) ≡ passing (at_gap_sets (stated_gap spent) s) = sym is ∙ e in cc)
+opens_in n stage.OutOfMemory s spent q at v e is = absurd (let f : out_of_memory ≡ passing (at_gap_sets (stated_gap spent) s) = sym is ∙ e in cc)
 
 misplaced_in : (n : ℕ) (after : Stage) (s : State) (spent : Spent) (q : Progress) → q ≡ order_at s → IsProgress (suc n) after q
     → IsGapProgress (suc n) (opened_stage n spent after) (checking (order_at s))
@@ -186,7 +186,7 @@ stated_leads n before after spent awaits takes p is = by p is (awaits n p is) (t
       where
         on : AsHead s spent.group spent.value spent.bound x.after → TakesGapFurther n (opened_stage n spent after) (checking (passing s)) (line.spent spent.value spent.bound)
         on (inl (e, leads)) = record {
-          after = cond (int_lt spent.value spent.bound) (in_group (gap_of spent) (at_gap_sets (gap_of spent) s)) (no_gap s.line);
+          after = cond (int_lt spent.value spent.bound) (in_group (stated_gap spent) (at_gap_sets (stated_gap spent) s)) (no_gap s.line);
           leads = leads;
           stands = opens_in n after s spent x.after (line_at n before s is) (awaited_valued s.kind s.place spent.group tells) e x.stands;
         }
@@ -201,7 +201,7 @@ stated_leads n before after spent awaits takes p is = by p is (awaits n p is) (t
 pub record GoesInside (n : ℕ) (spent : Spent) (groups : Groups) (p : GapProgress) (r : Record) : Type 0 where
   pub after : GapProgress
   pub leads : IsGapAfter p r after
-  pub stands : IsInside (suc n) (gap_of spent) groups after
+  pub stands : IsInside (suc n) (stated_gap spent) groups after
 
 in_group_of : (place : Place) (g : Group) → GroupOf place ≡ Some g → is_in_group place ≡ true
 in_group_of (at_sets h found) g e = refl
@@ -233,13 +233,13 @@ set_stays s after g found other v e = absurd (none-some after e)
 sets_place : (g : Groups) (s : State) (group : Group) → StandsFor g s → g.next ≡ coming.Set group → s.place ≡ at_sets group (at_hand g)
 sets_place g s group stands now = ap (λ (t : State). t.place) stands.known ∙ ap (λ (m : Next). place_at g m s.place) now
 
-pub sets_pass : (n : ℕ) (spent : Spent) (g after : Groups) (r : Record) (group : Group) → g.next ≡ coming.Set group → IsTaken g.next g r after → (p : GapProgress) → IsInside n (gap_of spent) g p
+pub sets_pass : (n : ℕ) (spent : Spent) (g after : Groups) (r : Record) (group : Group) → g.next ≡ coming.Set group → IsTaken g.next g r after → (p : GapProgress) → IsInside n (stated_gap spent) g p
     → GoesInside n spent after p r
 sets_pass n spent g after r group now taken p is = record {
-  after = in_group (gap_of spent) (with_target spent.bound x.state);
-  leads = subst (λ (q : GapProgress). IsGapAfter q r (in_group (gap_of spent) (with_target spent.bound x.state)))
-      (sym (is.come ∙ ap (in_group (gap_of spent)) (aimed_same spent.bound is.state group (at_hand g) place)))
-      (passing x.state, x.passes, sym (ap (λ (b : Bool). cond b (in_group (gap_of spent) (with_target spent.bound x.state)) (at_close (gap_of spent) x.state.line)) (in_group_of x.state.place spent.group stays)));
+  after = in_group (stated_gap spent) (with_target spent.bound x.state);
+  leads = subst (λ (q : GapProgress). IsGapAfter q r (in_group (stated_gap spent) (with_target spent.bound x.state)))
+      (sym (is.come ∙ ap (in_group (stated_gap spent)) (aimed_same spent.bound is.state group (at_hand g) place)))
+      (passing x.state, x.passes, sym (ap (λ (b : Bool). cond b (in_group (stated_gap spent) (with_target spent.bound x.state)) (at_close (stated_gap spent) x.state.line)) (in_group_of x.state.place spent.group stays)));
   stands = record {
     state = x.state;
     come = refl;
@@ -269,7 +269,7 @@ pub sets_fail : (n : ℕ) (spent : Spent) (g : Groups) (r : Record) (fault : Fau
 sets_fail n spent g r fault group now fails p is = record {
   after = checking (failed (failure_at n fault));
   leads = subst (λ (q : GapProgress). IsGapAfter q r (checking (failed (failure_at n fault))))
-      (sym (is.come ∙ ap (in_group (gap_of spent)) (aimed_same spent.bound is.state group (at_hand g) (sets_place g is.state group is.stands now))))
+      (sym (is.come ∙ ap (in_group (stated_gap spent)) (aimed_same spent.bound is.state group (at_hand g) (sets_place g is.state group is.stands now))))
       (failed (failure_at n fault), subst (λ (k : ℕ). TakesOn is.state r (failed (failure_at k fault))) is.line_is (stands_fails g r fault fails is.state is.stands), refl);
   stands = refl;
 }
@@ -277,7 +277,7 @@ sets_fail n spent g r fault group now fails p is = record {
 -- ---- in its log
 
 module _ (n : ℕ) (spent : Spent) (g : Groups) (r : Record) (group : Group) (now : g.next ≡ coming.Step group) (kept : AreKept g) (holds : HasOpen g group) (opened_sides : 0 < length g.log.walk.sides)
-    (p : GapProgress) (is : IsInside n (gap_of spent) g p) where
+    (p : GapProgress) (is : IsInside n (stated_gap spent) g p) where
   abbrev Known : State
   Known = known_in g (coming.Step group) is.state
 
@@ -290,8 +290,8 @@ module _ (n : ℕ) (spent : Spent) (g : Groups) (r : Record) (group : Group) (no
   state_is : is.state ≡ known_in g (coming.Step group) is.state
   state_is = is.stands.known ∙ ap (λ (m : Next). known_in g m is.state) now
 
-  come : p ≡ in_group (gap_of spent) Aimed
-  come = is.come ∙ ap (λ (s : State). in_group (gap_of spent) (with_target spent.bound s)) state_is
+  come : p ≡ in_group (stated_gap spent) Aimed
+  come = is.come ∙ ap (λ (s : State). in_group (stated_gap spent) (with_target spent.bound s)) state_is
 
   same_group : group ≡ spent.group
   same_group = subst (IsInGroup spent.group) now is.next_is
@@ -317,18 +317,18 @@ module _ (n : ℕ) (spent : Spent) (g : Groups) (r : Record) (group : Group) (no
         (λ (ws : List Weights). PassesStep (trees_of g.stated.exchange) (exact_of g.stated.exchange) ws spent.bound (version_of_head g.head) g.log.walk.sides g.log.before r after.log.walk.sides after.log.before)
         (sym weights_there) w.passes)
 
-    leads : (q : GapProgress) → q ≡ in_its_group (gap_of spent) (passing (to_line (suc is.state.line) (after_step Aimed group Target after.log.walk.sides after.log.before))) → IsGapAfter p r q
+    leads : (q : GapProgress) → q ≡ in_its_group (stated_gap spent) (passing (to_line (suc is.state.line) (after_step Aimed group Target after.log.walk.sides after.log.before))) → IsGapAfter p r q
     leads q e = subst (λ (o : GapProgress). IsGapAfter o r q) (sym come) (passing (to_line (suc is.state.line) (after_step Aimed group Target after.log.walk.sides after.log.before)), takes, e)
 
     -- the log is complete
     pub log_closes : closed ≡ true → TakesGapFurther n (gap.Close spent) p r
     log_closes e = record {
-      after = at_close (gap_of spent) (suc n);
-      leads = leads (at_close (gap_of spent) (suc n)) (
-          ap (at_close (gap_of spent)) (ap suc (sym is.line_is))
-          ∙ sym (ap (λ (b : Bool). cond b (in_group (gap_of spent) (with_target spent.bound (to_line (suc is.state.line) (after_log Aimed group Target)))) (at_close (gap_of spent) (suc is.state.line)))
+      after = at_close (stated_gap spent) (suc n);
+      leads = leads (at_close (stated_gap spent) (suc n)) (
+          ap (at_close (stated_gap spent)) (ap suc (sym is.line_is))
+          ∙ sym (ap (λ (b : Bool). cond b (in_group (stated_gap spent) (with_target spent.bound (to_line (suc is.state.line) (after_log Aimed group Target)))) (at_close (stated_gap spent) (suc is.state.line)))
           (log_leaves Aimed group Target is_one))
-          ∙ ap (λ (sides : List Side). in_its_group (gap_of spent) (passing (to_line (suc is.state.line) (after_step Aimed group Target sides after.log.before)))) (sym (w.closed_is.0 e))
+          ∙ ap (λ (sides : List Side). in_its_group (stated_gap spent) (passing (to_line (suc is.state.line) (after_step Aimed group Target sides after.log.before)))) (sym (w.closed_is.0 e))
           );
       stands = refl;
     }
@@ -365,10 +365,10 @@ module _ (n : ℕ) (spent : Spent) (g : Groups) (r : Record) (group : Group) (no
         by : (sides : List Side) → after.log.walk.sides ≡ sides → GoesInside n spent after p r
         by [] none = absurd (true≢false (sym (w.closed_is.1 none) ∙ e))
         by (first ∷ others) some = record {
-          after = in_group (gap_of spent) (with_target spent.bound Then);
-          leads = leads (in_group (gap_of spent) (with_target spent.bound Then)) (
-              ap (in_group (gap_of spent)) (then_is ∙ ap (λ (sides : List Side). to_line (suc is.state.line) (go_to (at_log group Target sides after.log.before) (known_in g (coming.Step group) is.state))) some)
-              ∙ ap (λ (sides : List Side). in_its_group (gap_of spent) (passing (to_line (suc is.state.line) (after_step Aimed group Target sides after.log.before)))) (sym some)
+          after = in_group (stated_gap spent) (with_target spent.bound Then);
+          leads = leads (in_group (stated_gap spent) (with_target spent.bound Then)) (
+              ap (in_group (stated_gap spent)) (then_is ∙ ap (λ (sides : List Side). to_line (suc is.state.line) (go_to (at_log group Target sides after.log.before) (known_in g (coming.Step group) is.state))) some)
+              ∙ ap (λ (sides : List Side). in_its_group (stated_gap spent) (passing (to_line (suc is.state.line) (after_step Aimed group Target sides after.log.before)))) (sym some)
               );
           stands = record {
             state = Then;
@@ -429,28 +429,28 @@ head_lawful (Without b) value bound there is = (omega (arith, there), is.0)
 
 -- ---- what is answered
 
-short_at : (s : State) (place : Place) → place ≢ done → ended_at s place ≡ gap_is.No s.line rule.Short
+short_at : (s : State) (place : Place) → place ≢ done → answer_at_end s place ≡ gap_is.No s.line rule.Short
 short_at s done ne = absurd (ne refl)
 short_at s other ne = refl
 
 abbrev found_so : GapAnswer → Result GapAnswer CheckEnd
 found_so a = Ok a
 
-passing_gives : (n : ℕ) (s : State) (a : Result Answer CheckEnd) → s.line ≡ n → EndsWith (passing s) a → gap_answer (checking (passing s)) ≡ found_of n a
-passing_gives n s (Ok (answer.Assign value)) at h = ap (λ (p : Place). found_so (ended_at s p)) h.0 ∙ ap (λ (k : ℕ). found_so (gap_is.NoGap k)) at
-passing_gives n s (Ok (answer.Regret amount)) at h = ap (λ (p : Place). found_so (ended_at s p)) h.0 ∙ ap (λ (k : ℕ). found_so (gap_is.NoGap k)) at
-passing_gives n s (Ok (answer.Closed regret surplus)) at h = ap (λ (p : Place). found_so (ended_at s p)) h.0 ∙ ap (λ (k : ℕ). found_so (gap_is.NoGap k)) at
+passing_gives : (n : ℕ) (s : State) (a : Result Answer CheckEnd) → s.line ≡ n → EndsWith (passing s) a → gap_answer (checking (passing s)) ≡ gapless_answer n a
+passing_gives n s (Ok (answer.Assign value)) at h = ap (λ (p : Place). found_so (answer_at_end s p)) h.0 ∙ ap (λ (k : ℕ). found_so (gap_is.NoGap k)) at
+passing_gives n s (Ok (answer.Regret amount)) at h = ap (λ (p : Place). found_so (answer_at_end s p)) h.0 ∙ ap (λ (k : ℕ). found_so (gap_is.NoGap k)) at
+passing_gives n s (Ok (answer.Closed regret surplus)) at h = ap (λ (p : Place). found_so (answer_at_end s p)) h.0 ∙ ap (λ (k : ℕ). found_so (gap_is.NoGap k)) at
 passing_gives n s (Ok (answer.No there test)) at h =
     ap found_so (short_at s s.place h.0) ∙ ap (λ (k : ℕ). found_so (gap_is.No k rule.Short)) (sym h.1) ∙ ap (λ (x : Rule). found_so (gap_is.No there x)) (sym h.2)
 passing_gives n s (Err end) at h = absurd h
 
-found_gives : (n : ℕ) (x : Stage) (p : Progress) (a : Result Answer CheckEnd) → IsProgress n x p → EndsWith p a → gap_answer (checking p) ≡ found_of n a
-found_gives n x nothing a is e = sym (ap (found_of n) e)
-found_gives n x other_kind a is e = sym (ap (found_of n) e)
+found_gives : (n : ℕ) (x : Stage) (p : Progress) (a : Result Answer CheckEnd) → IsProgress n x p → EndsWith p a → gap_answer (checking p) ≡ gapless_answer n a
+found_gives n x nothing a is e = sym (ap (gapless_answer n) e)
+found_gives n x other_kind a is e = sym (ap (gapless_answer n) e)
 found_gives n x (passing s) a is e = passing_gives n s a (line_at n x s is) e
-found_gives n x (failed failure) a is e = sym (ap (found_of n) e)
-found_gives n x out_of_memory a is e = sym (ap (found_of n) e)
+found_gives n x (failed failure) a is e = sym (ap (gapless_answer n) e)
+found_gives n x out_of_memory a is e = sym (ap (gapless_answer n) e)
 
 pub before_gives : (n : ℕ) (x : Stage) (a : Result Answer CheckEnd) (p : GapProgress) → ((q : Progress) → IsProgress n x q → EndsWith q a) → (q : Progress) × (p ≡ checking q) × IsProgress n x q
-    → gap_answer p ≡ found_of n a
+    → gap_answer p ≡ gapless_answer n a
 before_gives n x a p ends (q, e, is) = ap gap_answer e ∙ found_gives n x q a is (ends q is)

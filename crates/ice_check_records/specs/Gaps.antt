@@ -33,8 +33,8 @@ use Rattle.ice_check_records.specs.Logs.{IsWalkOf}
 use Rattle.ice_check_records.specs.Groups.{StandsFor, AreKept, IsReady}
 use Rattle.ice_check_records.specs.Stages.{IsProgress, IsAtLine}
 
-abbrev pub gap_of : Spent → Gap
-gap_of spent = record { group = spent.group; value = spent.value; bound = spent.bound }
+abbrev pub stated_gap : Spent → Gap
+stated_gap spent = record { group = spent.group; value = spent.value; bound = spent.bound }
 
 -- ---- the group whose head comes next
 
@@ -65,9 +65,9 @@ pub record IsInside (line : ℕ) (g : Gap) (groups : Groups) (p : GapProgress) :
 -- at this stage the tests have come so far, where this line is next
 abbrev pub IsGapProgress : ℕ → GapStage → GapProgress → Type 0
 IsGapProgress line (gap.Before before) p = (q : Progress) × (p ≡ checking q) × IsProgress line before q
-IsGapProgress line (gap.Inside groups spent) p = IsInside line (gap_of spent) groups.value p
-IsGapProgress line (gap.Close spent) p = p ≡ at_close (gap_of spent) line
-IsGapProgress line (gap.Ended spent) p = p ≡ ended (gap_of spent) line
+IsGapProgress line (gap.Inside groups spent) p = IsInside line (stated_gap spent) groups.value p
+IsGapProgress line (gap.Close spent) p = p ≡ at_close (stated_gap spent) line
+IsGapProgress line (gap.Ended spent) p = p ≡ ended (stated_gap spent) line
 IsGapProgress line (gap.NoGap there) p = p ≡ no_gap there
 IsGapProgress line (gap.Failed there test) p = p ≡ checking (failed (record { line = there; rule = test }))
 
@@ -104,7 +104,7 @@ pub record TakesGapFurther (n : ℕ) (next : GapStage) (p : GapProgress) (r : Re
 
 -- the same in the sets or the log of a gap
 abbrev pub LeadsInside : ℕ → Spent → Groups → Record → GapStage → Type 0
-LeadsInside n spent groups r next = (p : GapProgress) → IsInside n (gap_of spent) groups p → TakesGapFurther n next p r
+LeadsInside n spent groups r next = (p : GapProgress) → IsInside n (stated_gap spent) groups p → TakesGapFurther n next p r
 
 abbrev pub LeadsGapOn : ℕ → GapStage → Record → GapStage → Type 0
 LeadsGapOn n s r next = (p : GapProgress) → IsGapProgress n s p → TakesGapFurther n next p r
@@ -138,7 +138,7 @@ abbrev pub failed_gap : Failure → GapStage
 failed_gap failure = gap.Failed failure.line failure.rule
 
 -- what is found where the tests of `check` find this, with no stop
-abbrev pub found_of : ℕ → Result Answer CheckEnd → Result GapAnswer CheckEnd
-found_of line (Ok (answer.No there test)) = Ok (gap_answer.No there test)
-found_of line (Ok other) = Ok (gap_answer.NoGap line)
-found_of line (Err end) = Err end
+abbrev pub gapless_answer : ℕ → Result Answer CheckEnd → Result GapAnswer CheckEnd
+gapless_answer line (Ok (answer.No there test)) = Ok (gap_answer.No there test)
+gapless_answer line (Ok other) = Ok (gap_answer.NoGap line)
+gapless_answer line (Err end) = Err end

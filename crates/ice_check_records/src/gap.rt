@@ -13,7 +13,7 @@ ghost use Rattle.ice_gap_laws.specs.Answers.{gap_answer};
 ghost use Rattle.ice_check_records.specs.Groups.{AreKept, IsReady, StandsFor};
 ghost use Rattle.ice_check_records.specs.Taking.{failure_at};
 ghost use Rattle.ice_check_records.specs.Stages.{IsProgress, IsAtLine, IsKept};
-ghost use Rattle.ice_check_records.specs.Gaps.{AwaitsGroup, IsOpen, IsGapProgress, IsGapKept, gap_stage, opened_stage, failed_gap, found_of, LeadsInside, LeadsGapOn, LeadsFrom, TakesAimed};
+ghost use Rattle.ice_check_records.specs.Gaps.{AwaitsGroup, IsOpen, IsGapProgress, IsGapKept, gap_stage, opened_stage, failed_gap, gapless_answer, LeadsInside, LeadsGapOn, LeadsFrom, TakesAimed};
 
 use crate::groups::Groups;
 use crate::head::Head;
@@ -359,7 +359,7 @@ impl GapStage {
 /// What is found where the tests of `check` find this, with no stop, and the line with this number
 /// would be the next.
 fn found(answer: Result<Answer, CheckEnd>, number: u64) -> Result<GapAnswer, CheckEnd>
-    ensures { result ≡ found_of number answer }
+    ensures { result ≡ gapless_answer number answer }
 {
     match answer {
         Ok(Answer::No { line, rule }) => Ok(GapAnswer::No { line, rule }),

@@ -24,8 +24,8 @@ use Rattle.ice_gap_laws.specs.Gap.{Gap, next_group, gap_in, at_gap_sets, GapProg
 use Rattle.ice_gap_laws.proofs.Single.{takes_same}
 use Rattle.ice_gap_laws.proofs.Right.{no_list}
 
-abbrev pub gap_of : Group → ℤ → ℤ → Gap
-gap_of g value bound = record { group = g; value = value; bound = bound }
+abbrev pub group_gap : Group → ℤ → ℤ → Gap
+group_gap g value bound = record { group = g; value = value; bound = bound }
 
 abbrev pub order_at : State → Progress
 order_at s = failed (record { line = s.line; rule = rule.Order })
@@ -36,7 +36,7 @@ closed_at s = failed (record { line = s.line; rule = rule.Closed })
 -- either both may stand there, or neither
 abbrev StandAlike : State → Group → ℤ → ℤ → Type 0
 StandAlike s g value bound =
-    (TakesOn s (head_of_group g value) (passing (at_gap_sets (gap_of g value bound) s)) × TakesOn s (line.spent value bound) (closed_at s))
+    (TakesOn s (head_of_group g value) (passing (at_gap_sets (group_gap g value bound) s)) × TakesOn s (line.spent value bound) (closed_at s))
     ⊎ (TakesOn s (head_of_group g value) (order_at s) × TakesOn s (line.spent value bound) (order_at s))
 
 -- behind the exchange of a regret journal
@@ -45,7 +45,7 @@ module _ (s : State) (value bound : ℤ) where
   At = record s { place = at_section; kind = regret_kind }
 
   behind_section : (ended : Bool) → may_end s.section ≡ ended
-      → (TakesOn At (line.final value) (passing (at_gap_sets (gap_of Final value bound) At)) × TakesOn At (line.spent value bound) (closed_at At))
+      → (TakesOn At (line.final value) (passing (at_gap_sets (group_gap Final value bound) At)) × TakesOn At (line.spent value bound) (closed_at At))
       ⊎ (TakesOn At (line.final value) (order_at At) × TakesOn At (line.spent value bound) (order_at At))
   behind_section true e = inl (
     passes_on (λ z f. absurd (none-some z f)) quiet (record { leaf = tt; violation = tt; list = tt; verdict = tt }) is,
@@ -55,7 +55,7 @@ module _ (s : State) (value bound : ℤ) where
       Stands : Bool → Type 0
       Stands b = IsSome (option_map (to_line (suc s.line)) (cond b (after_section (past_section At) regret_kind (line.spent value bound)) None))
 
-      is : next At (line.final value) ≡ Some (at_gap_sets (gap_of Final value bound) At)
+      is : next At (line.final value) ≡ Some (at_gap_sets (group_gap Final value bound) At)
       is = ap (λ (b : Bool). option_map (to_line (suc s.line)) (cond b (after_section (past_section At) regret_kind (line.final value)) None)) e
 
       quiet : (z : Rule) → ¬ Fails z At (line.final value)
@@ -84,16 +84,16 @@ stand_alike s g value bound v e = at_place s s.kind s.place g value bound v e
 -- what the head made of the tests, and what the `spent` record makes of them
 abbrev pub AsHead : State → Group → ℤ → ℤ → Progress → Type 0
 AsHead s g value bound after =
-    ((after ≡ passing (at_gap_sets (gap_of g value bound) s))
+    ((after ≡ passing (at_gap_sets (group_gap g value bound) s))
     × IsGapAfter (checking (passing s)) (line.spent value bound)
-    (cond (int_lt value bound) (in_group (gap_of g value bound) (at_gap_sets (gap_of g value bound) s)) (no_gap s.line)))
+    (cond (int_lt value bound) (in_group (group_gap g value bound) (at_gap_sets (group_gap g value bound) s)) (no_gap s.line)))
     ⊎ ((after ≡ order_at s) × IsGapAfter (checking (passing s)) (line.spent value bound) (checking (order_at s)))
 
 pub read_as_head : (s : State) (g : Group) (value bound : ℤ) (after : Progress) → is_valued g ≡ true → next_group s.kind s.place ≡ Some g → TakesOn s (head_of_group g value) after
     → AsHead s g value bound after
 read_as_head s g value bound after v e takes = by (stand_alike s g value bound v e)
   where
-    stops : from_stop s (gap_in s (line.spent value bound)) ≡ from_stop s (Some (gap_of g value bound))
+    stops : from_stop s (gap_in s (line.spent value bound)) ≡ from_stop s (Some (group_gap g value bound))
     stops = ap (λ (o : Option Group). from_stop s (option_map (λ x. record { group = x; value = value; bound = bound }) o)) e
 
     by : StandAlike s g value bound → AsHead s g value bound after

@@ -46,7 +46,7 @@ use Rattle.ice_journal_laws.proofs.Heads.{all_left}
 use Rattle.ice_gap_laws.specs.declared.answer.GapAnswer.{GapAnswer}
 use Rattle.ice_gap_laws.specs.declared.answer.GapAnswer.TheVariants as answer
 use Rattle.ice_gap_laws.specs.Gap.{Gap, next_group, gap_in, before_head, at_gap_sets, is_in_group, with_target, GapProgress, checking, in_group, at_close, ended, no_gap, from_stop, unless_stopped, in_its_group, out_of_order, IsGapAfter, GapLeads, stays, goes, IsThere}
-use Rattle.ice_gap_laws.specs.Answers.{ended_at, gap_answer}
+use Rattle.ice_gap_laws.specs.Answers.{answer_at_end, gap_answer}
 use Rattle.ice_gap_laws.specs.Laws.{EndsThere, IsGap, StatesGap, GapIsRight}
 use Rattle.ice_gap_laws.proofs.Ready.{IsAwaited, is_awaited}
 
@@ -452,7 +452,7 @@ known_all before p end (r ∷ rest) records h (goes {q = after} is l) =
 
 -- ---- the answer
 
-no_end : (s : State) (place : Place) (a : GapAnswer) (g : Group) (value bound : ℤ) → a ≡ ended_at s place → a ≡ answer.Gap g value bound → ⊥
+no_end : (s : State) (place : Place) (a : GapAnswer) (g : Group) (value bound : ℤ) → a ≡ answer_at_end s place → a ≡ answer.Gap g value bound → ⊥
 no_end s done a g value bound e f = cc
 no_end s other a g value bound e f = cc
 

@@ -38,7 +38,7 @@ use Rattle.ice_journal_laws.proofs.CarriedLog.{step_takes}
 use Rattle.ice_gap_laws.specs.Gap.{Gap, next_group, before_head, at_gap_sets, with_target, GapProgress, checking, in_group, at_close, ended, no_gap, from_stop, in_its_group, IsGapAfter, GapLeads, stays, goes}
 use Rattle.ice_gap_laws.specs.Laws.{EndsThere, IsShownGap, gap_records, GapIsWritten}
 use Rattle.ice_gap_laws.proofs.Right.{log_leaves}
-use Rattle.ice_gap_laws.proofs.Heading.{gap_of, closed_at}
+use Rattle.ice_gap_laws.proofs.Heading.{group_gap, closed_at}
 
 -- ---- pieces
 
@@ -74,30 +74,30 @@ spent_stops s regret_kind at_section g value bound e there = fails_at (λ z f. a
 spent_stops s kind other g value bound e there = absurd (none-some g e)
 
 opens_gap : (s : State) (g : Group) (value bound : ℤ) → next_group s.kind s.place ≡ Some g → EndsThere s s.place → value <ℤ bound
-    → IsGapAfter (checking (passing s)) (line.spent value bound) (in_group (gap_of g value bound) (at_gap_sets (gap_of g value bound) s))
+    → IsGapAfter (checking (passing s)) (line.spent value bound) (in_group (group_gap g value bound) (at_gap_sets (group_gap g value bound) s))
 opens_gap s g value bound e there below = (
   closed_at s,
   spent_stops s s.kind s.place g value bound e there,
   sym (ap (λ (o : Option Group). from_stop s (option_map (λ x. record { group = x; value = value; bound = bound }) o)) e
-      ∙ ap (λ (b : Bool). cond b (in_group (gap_of g value bound) (at_gap_sets (gap_of g value bound) s)) (no_gap s.line)) (is_below value bound below)),
+      ∙ ap (λ (b : Bool). cond b (in_group (group_gap g value bound) (at_gap_sets (group_gap g value bound) s)) (no_gap s.line)) (is_below value bound below)),
 )
 
 -- ---- the sets and the log
 
 module _ (now : State) (g : Group) (p : Proved) (bound : ℤ) (valued : is_valued g ≡ true) (is : IsShownGap now g p bound) where
   abbrev Mine : Gap
-  Mine = gap_of g p.value bound
+  Mine = group_gap g p.value bound
 
   abbrev Target : Stated
   Target = record { value = bound; sets = p.sets }
 
   abbrev InSets : ℕ → Assignment → GapProgress
-  InSets n sets = in_group (gap_of g p.value bound) (to_line n (go_to (at_sets g (record { value = p.value; sets = sets })) now))
+  InSets n sets = in_group (group_gap g p.value bound) (to_line n (go_to (at_sets g (record { value = p.value; sets = sets })) now))
 
   -- with these sides open
   abbrev InLog : ℕ → List Side → Multipliers → GapProgress
-  InLog n [] m = at_close (gap_of g p.value bound) n
-  InLog n (side ∷ others) m = in_group (gap_of g p.value bound) (to_line n (go_to (at_log g (record { value = bound; sets = p.sets }) (side ∷ others) m) now))
+  InLog n [] m = at_close (group_gap g p.value bound) n
+  InLog n (side ∷ others) m = in_group (group_gap g p.value bound) (to_line n (go_to (at_log g (record { value = bound; sets = p.sets }) (side ∷ others) m) now))
 
   sets_lead : (n : ℕ) (front rest : Assignment) (x : NodeSet) → front ++ x ∷ rest ≡ p.sets
       → (m : ℕ) × GapLeads (InSets n front) (map line.set (x ∷ rest)) (InLog m (start_of (trees_at now) g ∷ []) (all_zero (goods_at now)))
@@ -229,12 +229,12 @@ pub gap_is_written : GapIsWritten
 gap_is_written kind v before s g p bound checked carries e there some is =
     let (m, l) = carries.leads 2 in
     let gap = gap_leads (before_head s.place s) g p bound (awaited_valued s.kind s.place g e) is (suc m) some in (
-      ended (gap_of g p.value bound) gap.0,
+      ended (group_gap g p.value bound) gap.0,
       goes (after_head (line.head v kind), refl, head_read v kind checked)
-          (gap_joins (checking (passing (begun v kind))) (checking (passing (to_line m s))) (ended (gap_of g p.value bound) gap.0) before (gap_records (before_head s.place s) p bound)
+          (gap_joins (checking (passing (begun v kind))) (checking (passing (to_line m s))) (ended (group_gap g p.value bound) gap.0) before (gap_records (before_head s.place s) p bound)
           (gap_before (begun v kind) (to_line m s) before l)
           (goes (opens_gap (to_line m s) g p.value bound e (there_in m s s.place there) is.below)
-          (subst (λ (t : State). GapLeads (in_group (gap_of g p.value bound) t) (map line.set p.sets ++ (step_records (before_head s.place s).version (all_zero (goods_at (before_head s.place s))) p.log ++ line.end spent_end ∷ [])) (ended (gap_of g p.value bound) gap.0))
+          (subst (λ (t : State). GapLeads (in_group (group_gap g p.value bound) t) (map line.set p.sets ++ (step_records (before_head s.place s).version (all_zero (goods_at (before_head s.place s))) p.log ++ line.end spent_end ∷ [])) (ended (group_gap g p.value bound) gap.0))
           (sym (opened_same m s s.place g p.value bound)) gap.1))),
       refl,
     )

@@ -12,9 +12,9 @@ use Rattle.ice_gap_laws.specs.declared.answer.GapAnswer.TheVariants.{Gap, No, No
 use Rattle.ice_gap_laws.specs.Gap.{GapProgress, checking, in_group, at_close, ended, no_gap, GapLeads}
 
 -- where a whole journal ends no gap is stated; any other ends early
-abbrev pub ended_at : State → Place → GapAnswer
-ended_at s done = NoGap s.line
-ended_at s place = No s.line rule.Short
+abbrev pub answer_at_end : State → Place → GapAnswer
+answer_at_end s done = NoGap s.line
+answer_at_end s place = No s.line rule.Short
 
 -- what is answered where the records end
 abbrev pub gap_answer : GapProgress → Result GapAnswer CheckEnd
@@ -22,7 +22,7 @@ gap_answer (checking nothing) = Err OtherKind
 gap_answer (checking other_kind) = Err OtherKind
 gap_answer (checking out_of_memory) = Err NoMemory
 gap_answer (checking (failed failure)) = Ok (No failure.line failure.rule)
-gap_answer (checking (passing s)) = Ok (ended_at s s.place)
+gap_answer (checking (passing s)) = Ok (answer_at_end s s.place)
 gap_answer (in_group gap s) = Ok (No s.line rule.Short)
 gap_answer (at_close gap line) = Ok (No line rule.Short)
 gap_answer (ended gap line) = Ok (Gap gap.group gap.value gap.bound)
