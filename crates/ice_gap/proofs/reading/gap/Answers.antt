@@ -15,5 +15,5 @@ returns-in-Ok c =
     let (p, leads, come) = come_to read.journal _ c.read_journal.new.reader (checking nothing) read.runs c.new.ensures.made in
     subst (AnswersGap bytes) (c.answer.ensures p come) (gap_end_is_answer bytes read.journal p read.spelled leads)
 
-pub returns-in-Err : goal.returns-in-Err
-returns-in-Err c = read_unanswered TestsOn c.args.bytes.now c.read_journal.new.reader c.in-Err.end c.in-Err.ensures
+pub returns : goal.returns
+returns c = read_unanswered TestsOn c.args.bytes.now c.read_journal.new.reader c.in-Err.end c.in-Err.ensures
