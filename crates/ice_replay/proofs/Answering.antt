@@ -7,7 +7,6 @@ use Rattle.ice_journal.specs.Journal.{IsJournal}
 use Rattle.ice_journal_laws.specs.declared.answer.Answer.{Answer}
 use Rattle.ice_journal_laws.specs.declared.answer.Answer.TheVariants as answer
 use Rattle.ice_journal_laws.specs.declared.answer.CheckEnd.{CheckEnd}
-use Rattle.ice_journal_laws.specs.declared.answer.CheckEnd.TheVariants.{OtherKind}
 use Rattle.ice_journal_laws.specs.declared.rule.Rule.{Rule}
 use Rattle.ice_journal_laws.specs.declared.rule.Rule.TheVariants as rule
 use Rattle.ice_journal_laws.specs.State.{State, begun}
@@ -18,7 +17,6 @@ use Rattle.ice_journal_laws.specs.Theorems.{HasKind}
 use Rattle.ice_journal_laws.proofs.Leading.{finds}
 use Rattle.ice_journal_laws.proofs.Heads.{session_checked}
 use Rattle.ice_reading.specs.declared.end.JournalEnd.{JournalEnd}
-use Rattle.ice_reading.specs.declared.end.JournalEnd.TheVariants.{Unjudged}
 use Rattle.ice_replay.specs.declared.settlement.Replay.{Replay}
 use Rattle.ice_replay.specs.declared.settlement.ReplayEnd.{ReplayEnd}
 use Rattle.ice_replay.specs.declared.settlement.ReplayEnd.TheVariants.{Journal, NoSettlement}
@@ -102,12 +100,6 @@ pub is_session : (P : State → List Record → Type 0) (journal : List Record) 
 is_session P journal h = weaker P (λ s rest. Unit {0}) journal (λ s rest x. tt) h
 
 module _ (bytes : List ℕ) (number : ℕ) (journal : List Record) (p : Progress) (found : Result Answer CheckEnd) (is : IsJournal bytes journal) (l : Leads nothing journal p) (e : EndsWith p found) where
-  pub start_ends : IsWatched number watch.Start p journal → ReplaysBytes bytes number (Err (Journal (Unjudged OtherKind)))
-  start_ends none = (journal, is, subst (λ (rs : List Record). ¬ IsSession rs) (sym none) (λ h. h))
-
-  pub other_ends : IsWatched number watch.Other p journal → ReplaysBytes bytes number (Err (Journal (Unjudged OtherKind)))
-  other_ends (first, rest, parts, not) = (journal, is, not)
-
   -- the records so far are all
   all_prices : (s : State) (rest : List Record) (x : Settles number s rest) → prices_behind x [] ≡ prices_of x
   all_prices s rest x = ap (λ (rs : List Record). prices_from x.state (line.regret x.amount ∷ rs)) (append-nil x.rest)
