@@ -26,7 +26,6 @@ use Rattle.ice_statement_laws.proofs.Walking.{quiet}
 use Rattle.ice_statement_laws.proofs.Beginning.{IsNamed, phase_next, complete_ends, before_goes}
 use Rattle.ice_audit.specs.declared.auditor.OwnSection.{OwnSection}
 use Rattle.ice_audit.specs.declared.auditor.Auditor.TheVariants as so_far
-use Rattle.ice_audit.specs.declared.auditor.Stop.TheVariants.{NoMemory}
 use Rattle.ice_audit.specs.declared.next.Next.{Next}
 use Rattle.ice_audit.specs.declared.next.Next.TheVariants as next
 use Rattle.ice_audit.specs.declared.settlements.Settlements.{Settlements}

@@ -19,7 +19,7 @@ use Rattle.ice_journal_laws.specs.declared.rule.Rule.TheVariants as rule
 use Rattle.ice_journal_laws.specs.Fields.{prices_in}
 use Rattle.ice_journal_laws.specs.Assigning.{rule_of}
 use Rattle.ice_pricing.specs.Lawful as pricing
-use Rattle.ice_verdicts.specs.Judges.{Round, IsRoundOf}
+use Rattle.ice_verdicts.specs.Judges.{IsRoundOf}
 use Rattle.ice_verdicts.proofs.Starting.{priced_round}
 use Rattle.ice_statement_laws.specs.Statement.{StatementLine, shown, kept, offered}
 use Rattle.ice_statement_laws.specs.Audit.{at_regret, at_kept, at_offered, at_prices, at_round, at_threshold, AuditState, bidder_at, settings_at, goods_at, move_to, to_line, spot_next, audit_next, stated_set, IsRefused, AreUnlawful, HasUnlawfulPrices}

@@ -1,4 +1,4 @@
-use Rattle.std.proofs.Common.{subst}
+use Rattle.std.proofs.Common.{◌≡◌, subst}
 use Rattle.ice_defs.specs.Round.{Submission}
 use Rattle.ice_verdicts.specs.Judges.{IsVerdictIn, round_after}
 use Rattle.ice_audit.proofs.Judged.{submission_taken}
