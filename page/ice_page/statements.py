@@ -13,7 +13,7 @@ from .lines import Lines
 from .records import Record
 
 HEADS = ("settings", "good", "exact")
-GROUPS = ("final", "rival", "provisional", "without", "spent")
+GROUPS = ("assign", "final", "rival", "provisional", "without", "spent")
 AWAITED = ("open", "refused", "unread")
 
 

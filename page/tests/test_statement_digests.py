@@ -103,9 +103,11 @@ class Statements(unittest.TestCase):
                 self.assertTrue(later[name].startswith(text.removesuffix("end open\n")), file.name)
 
     def test_what_has_none(self) -> None:
-        for name in ("two-settlements.regret", "ring.spent.session", "ring.spent.regret"):
+        names = ("two-settlements.regret", "ring.spent.session", "ring.spent.regret")
+        assign = (ROOT / "examples/sample.journal").read_text()
+        for journal in (*map(sample, names), assign):
             with self.assertRaises(BadJournal):
-                statements(sample(name))
+                statements(journal)
         twice = OPEN.replace("bidder b 0", "bidder s 0")
         with self.assertRaises(BadJournal):
             statements(twice)
