@@ -28,17 +28,17 @@ parts : (g : Gathering) (r : Record) (more : List Record) → bytes_of_lines (li
 parts g r more = flat_map-append line_text (lines_at g r) (lines_gathered (gathering_after g r) more)
 
 -- the first record is the next one
-first_is : (rest after : List ℕ) (line : Line) (text : Bor (List ℕ)) (left : List Record) → StartsWithLine left (Some (line, text)) after → (more : List Record) × (left ≡ record_of line ∷ more) × IsJournal after more
-first_is rest after line text [] starts = absurd starts
-first_is rest after line text (r ∷ more) starts = (more, ap (λ (x : Record). x ∷ more) (sym starts.0), starts.1)
+first_is : (after : List ℕ) (line : Line) (text : Bor (List ℕ)) (left : List Record) → StartsWithLine left (Some (line, text)) after → (more : List Record) × (left ≡ record_of line ∷ more) × IsJournal after more
+first_is after line text [] starts = absurd starts
+first_is after line text (r ∷ more) starts = (more, ap (λ (x : Record). x ∷ more) (sym starts.0), starts.1)
 
 module _ (start g : Gathering) (rest after : List ℕ) (journal : List Record) (line : Line) (text : Bor (List ℕ)) (old mid new : Taken)
     (put : HasPut start g rest journal old mid) (starts : (left : List Record) → IsJournal rest left → StartsWithLine left (Some (line, text)) after) where
-  r : Record
+  abbrev r : Record
   r = record_of line
 
   to_come : (more : List Record) × (put.left ≡ r ∷ more) × IsJournal after more
-  to_come = first_is rest after line text put.left (starts put.left put.is)
+  to_come = first_is after line text put.left (starts put.left put.is)
 
   all_is : TakesAllBut (bytes_of_lines (lines_at g r) ++ bytes_of_lines (lines_gathered (gathering_after g r) to_come.0)) (bytes_of_lines (lines_gathered start journal)) old mid
   all_is = subst (λ (t : List ℕ). TakesAllBut t (bytes_of_lines (lines_gathered start journal)) old mid) (ap (λ (rs : List Record). bytes_of_lines (lines_gathered g rs)) to_come.1 ∙ parts g r to_come.0) put.all
