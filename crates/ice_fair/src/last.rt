@@ -127,6 +127,8 @@ impl Last {
         requires short { AllByRecursion IsShortPayment payments.items }
         ensures { IfOk result (λ last. last ≡ last_at exchange bounds.now sets payments.items cut) }
     {
+        // The exchange is a lawful one.
+        let _bidders = exchange.bidders();
         let low = low_bounds(alloc, &exchange, bounds)?;
         let weights = weighted_values(alloc, &exchange, &low)?;
         let nums = nums_of(alloc, &payments, cut)?;

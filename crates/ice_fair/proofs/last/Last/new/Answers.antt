@@ -1,4 +1,4 @@
-use Rattle.std.proofs.Common.{◌≡◌, ◌∙◌, map, ap, subst}
+use Rattle.std.proofs.Common.{◌≡◌, ◌∙◌, map, ap}
 use Rattle.ice_defs.specs.Lawful.{IsExchange}
 use Rattle.ice_defs.specs.PricingRun.{num_over}
 use Rattle.ice_defs.specs.Weighing.{weighted_weights}
@@ -7,7 +7,7 @@ use Rattle.ice_fair.proofs.last.Last.new.Goals as goal
 
 pub invariant_of-result : goal.invariant_of-result
 invariant_of-result c =
-    let lawful : IsExchange c.args.exchange = subst IsExchange c.exchange.view_is c.exchange.invariant in
+    let lawful : IsExchange c.args.exchange = c.bidders-bidders.ensures.lawful in
     let weights : c.in_ok-weights.weights ≡ weighted_weights c.args.exchange.settings.weight c.in_ok-low.low.items =
     c.in_ok-weights.ensures.value ∙ ap (weighted_weights c.args.exchange.settings.weight) c.deref.ensures.value in
     let nums : c.in_ok-nums.nums.items ≡ map (num_over c.args.cut) c.args.payments.items = c.in_ok-nums.ensures ∙ ap (map (num_over c.args.cut)) c.deref-2.ensures.value in
