@@ -1,5 +1,5 @@
 -- What a leaf changes of the leaf before it, good by good, and that it may stand in a record.
-use Rattle.std.proofs.Common.{◌≡◌, ◌≢◌, ℕ, ◌+◌, ◌<◌, ◌≤◌, List, [], ◌∷◌, ◌++◌, length, drop, get_or, pos, refl, sym, ap, subst, ◌∙◌, arith}
+use Rattle.std.proofs.Common.{◌≡◌, ℕ, ◌≤◌, List, [], ◌∷◌, ◌++◌, length, drop, refl, sym, ap, subst, ◌∙◌, arith}
 use Rattle.std.specs.List.{AllByRecursion}
 use Rattle.std.proofs.lemmas.List.{append-nil}
 use Rattle.std.proofs.Math.ListN.{drop_of_length-le}
@@ -9,13 +9,6 @@ use Rattle.ice_journal.specs.Records as line
 use Rattle.ice_journal.specs.Ranges.{HasLength, IsMultiplier, IsRecord}
 use Rattle.ice_journal.specs.Plain.{changes_from}
 use Rattle.ice_write.proofs.Changing as written
-
-module _ (old new : Multipliers) (g : ℕ) (there : g < length old) (also : g < length new) where
-  pub nothing_changed : get_or old g (pos 0) ≡ get_or new g (pos 0) → changes_from g (drop g old) (drop g new) ≡ changes_from (g + 1) (drop (g + 1) old) (drop (g + 1) new)
-  nothing_changed is = written.nothing_changed old new g there also is
-
-  pub one_changed : get_or old g (pos 0) ≢ get_or new g (pos 0) → changes_from g (drop g old) (drop g new) ≡ record { good = g; multiplier = get_or new g (pos 0) } ∷ changes_from (g + 1) (drop (g + 1) old) (drop (g + 1) new)
-  one_changed ne = written.one_changed old new g there also ne
 
 -- past the end of either nothing is changed
 pub none_changed : (g : ℕ) (old : Multipliers) → changes_from g old [] ≡ []
