@@ -54,4 +54,4 @@ module _ (Served : Call → Status → Type 0) (HasFault : List ℕ → FileFaul
       → (before after : Told) (unwritten : Unwritten) → IsUnwritten EndsSo HasFault file before after unwritten → Answers Served before after (unwritten_text unwritten) (unwritten_status unwritten)
   unwritten_answers EndsSo failing before after (Fails line rule) (bytes, fails, told) call part text =
       failing call line rule bytes fails (told_in_call call before after file journal_limit (λ other. other ≡ bytes) part told) text
-  unwritten_answers EndsSo failing before after (Refused refusal) is = refusal_answers before after refusal is
+  unwritten_answers EndsSo failing before after (Refused refusal) is call part text = refusal_answers before after refusal is call part text

@@ -1,6 +1,7 @@
 -- The goods and bidders of an exchange, one after another.
-use Rattle.std.proofs.Common.{◌≡◌, ℕ, suc, ◌+◌, ◌<◌, true, false, List, [], ◌∷◌, ◌++◌, length, drop, get_or, Option, Some, None, refl, sym, ap, ◌∙◌, rules, add-one, drop-cons}
+use Rattle.std.proofs.Common.{◌≡◌, ℕ, suc, ◌+◌, ◌<◌, ◌≤◌, true, false, List, [], ◌∷◌, ◌++◌, length, drop, get_or, Option, Some, None, refl, sym, ap, ◌∙◌, rules, add-one, drop-cons}
 use Rattle.std.specs.Prelude.{Ok, Err, IsSome, codes, unwrap_or}
+use Rattle.std.proofs.lemmas.List.{drop_all}
 use Rattle.ice_defs.specs.Exchange.{Good, Bidder, Exchange}
 use Rattle.ice_defs.specs.FileFault.{FileFault, Path, Read, refuse, ◌>>=◌}
 use Rattle.ice_defs.specs.Lawful.{good_names}
@@ -56,11 +57,24 @@ module _ (ex : Exchange) (path : Path) (vs : List Value) (i : ℕ) where
       rw (drop-cons vs i v h, e)
       (chained (good_value (at_index path i) (view v)) (add_good (at_index path i) ex.goods) (λ more. goods_from path (suc i) more (items_view (drop (suc i) vs))) ∙ ap (λ r. r >>= λ more. goods_from path (suc i) more (items_view (drop (suc i) vs))) read)
 
+  pub no_more_good : length vs ≤ i → goods_from path i ex.goods (items_view (drop i vs)) ≡ Ok ex.goods
+  no_more_good h = rw (drop_all i vs h)
+
+  pub next_bidder : (v : Value) (bidders : List Bidder) → i < length vs → get_or vs i v ≡ v → bidders_with ex (at_index path i) (view v) ≡ Ok bidders
+      → bidders_from (good_names ex) path i ex.bidders (items_view (drop i vs)) ≡ bidders_from (good_names ex) path (i + 1) bidders (items_view (drop (i + 1) vs))
+  next_bidder v bidders h e read =
+      rw (drop-cons vs i v h, e, add-one i)
+      (chained (bidder_at (good_names ex) (at_index path i) (view v)) (add_bidder (at_index path i) (length (good_names ex)) ex.bidders) (λ more. bidders_from (good_names ex) path (suc i) more (items_view (drop (suc i) vs)))
+      ∙ ap (λ r. r >>= λ more. bidders_from (good_names ex) path (suc i) more (items_view (drop (suc i) vs))) read)
+
   pub bad_bidder : (v : Value) (fault : FileFault) → i < length vs → get_or vs i v ≡ v → bidders_with ex (at_index path i) (view v) ≡ Err fault → bidders_from (good_names ex) path i ex.bidders (items_view (drop i vs)) ≡ Err fault
   bad_bidder v fault h e read =
       rw (drop-cons vs i v h, e)
       (chained (bidder_at (good_names ex) (at_index path i) (view v)) (add_bidder (at_index path i) (length (good_names ex)) ex.bidders) (λ more. bidders_from (good_names ex) path (suc i) more (items_view (drop (suc i) vs)))
       ∙ ap (λ r. r >>= λ more. bidders_from (good_names ex) path (suc i) more (items_view (drop (suc i) vs))) read)
+
+  pub no_more_bidder : length vs ≤ i → bidders_from (good_names ex) path i ex.bidders (items_view (drop i vs)) ≡ Ok ex.bidders
+  no_more_bidder h = rw (drop_all i vs h)
 
 -- ---- a bidder
 

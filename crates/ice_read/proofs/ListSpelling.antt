@@ -4,7 +4,7 @@ use Rattle.std.specs.Prelude.{codes, slice_index, slice_index_or}
 use Rattle.std.proofs.lemmas.Bool.{eq-eqb, ne_eqb, cond-true, cond-false}
 use Rattle.std.proofs.lemmas.List.{map_more, map_push, take_all, get_or-map, drop_all}
 use Rattle.serde_json.specs.Data.{Data, object, Members, no_members, put}
-use Rattle.serde_json.specs.View.{view}
+use Rattle.serde_json.specs.View.{view, items_view}
 use Rattle.serde_json.specs.declared.value.Value.{Value}
 use Rattle.ice_defs.specs.declared.NodeKind.{NodeKind}
 use Rattle.ice_defs.specs.declared.NodeKind.TheVariants.{Choose, Buy, Sell}
@@ -15,7 +15,7 @@ use Rattle.ice_defs.specs.Market.{owned_amount}
 use Rattle.ice_defs.specs.Exchange.{Good, Bidder, Exchange, trees_of, exact_of, opening_bounds, names_of, market_of}
 use Rattle.ice_defs.specs.Lawful.{IsBidder, IsExchange, good_names}
 use Rattle.ice_defs.specs.Trade.{is_exact}
-use Rattle.ice_read.specs.Written.{whole_data, good_name, leaf_data, kind_data, node_data, own_members, bidder_data}
+use Rattle.ice_read.specs.Written.{whole_data, items_of, good_name, leaf_data, kind_data, node_data, own_members, bidder_data}
 use Rattle.ice_read.specs.Parts.{with_tree, bidder_of, choose_data, named_data}
 use Rattle.ice_read.proofs.NamePlaces.{all_at}
 
@@ -23,6 +23,9 @@ use Rattle.ice_read.proofs.NamePlaces.{all_at}
 
 pub listed_more : {X : Type 0} (f : X → Data) (xs : List X) (i : ℕ) (d : X) (vs : List Value) (v : Value) → map view vs ≡ map f (take i xs) → i < length xs → view v ≡ f (get_or xs i d) → map view (vs ++ v ∷ []) ≡ map f (take (i + 1) xs)
 listed_more f xs i d vs v before there here = map_push view vs v ∙ ap (λ l. l ++ view v ∷ []) before ∙ ap (λ w. map f (take i xs) ++ w ∷ []) here ∙ sym (map_more f xs i d there)
+
+pub listed_all : {X : Type 0} (f : X → Data) (xs : List X) (i : ℕ) (vs : List Value) → map view vs ≡ map f (take i xs) → length xs ≤ i → items_view vs ≡ items_of (map f xs)
+listed_all f xs i vs listed all = ap items_of (listed ∙ ap (map f) (take_all i xs all))
 
 -- ---- goods
 

@@ -1,13 +1,13 @@
 -- The places of faults, told from a value and from what holds it.
 use Rattle.std.proofs.Common.{◌≡◌, ℕ, List, [], ◌∷◌, ◌++◌, refl, sym, ap, ◌∙◌, append_assoc, append-nil}
-use Rattle.std.specs.Prelude.{Err, unwrap_or}
+use Rattle.std.specs.Prelude.{Result, Err, unwrap_or}
 use Rattle.std.specs.List.{join_with_byte}
 use Rattle.ice_defs.specs.FileFault.{Path, Read, place_of, refuse}
 use Rattle.ice_read.specs.declared.fault.ReadFault.{ReadFault}
 use Rattle.ice_read.specs.declared.cause.ReadCause.{ReadCause}
 use Rattle.ice_read.specs.Cause.{cause_number}
 use Rattle.ice_read.specs.Places.{dotted_text, place_text}
-use Rattle.ice_read.specs.Fault.{fault_at, IsFault}
+use Rattle.ice_read.specs.Fault.{fault_at, IsFault, IsReading}
 use Rattle.ice_read.specs.declared.cause.ReadCause.TheVariants.{Shape}
 
 joined : (part : List ℕ) (parts : Path) → join_with_byte 46 (part ∷ parts) ≡ part ++ dotted_text parts
@@ -42,6 +42,9 @@ pub missing : {X : Type 0} (part : List ℕ) (fault : ReadFault) → fault ≡ r
 missing part fault is =
     let here : ReadFault = record { place = []; cause = Shape } in
     deeper (refuse 2) part here fault (refused 2 Shape here refl refl) (rw (append-nil part) is)
+
+pub as_fault : {X : Type 0} (r : Result X ReadFault) (fault : ReadFault) (read : Path → Read X) → r ≡ Err fault → IsFault fault read → IsReading r read
+as_fault r fault read is h = rw is h
 
 -- a fault of a part
 pub refused_part : {X : Type 0} (number : ℕ) (cause : ReadCause) (part : List ℕ) (inner outer : ReadFault) → inner ≡ record { place = []; cause = cause } → outer ≡ record { place = (46 ∷ part) ++ inner.place; cause = inner.cause }
