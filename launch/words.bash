@@ -7,6 +7,8 @@
 # - Where it is anything else, as a pipe, nothing stands between, and the words and the status alone are told.
 
 : "${program:?}"
+# shellcheck source=launch/kinds.bash
+. "${BASH_SOURCE[0]%/*}/kinds.bash"
 
 # Of what is read, the last record of each kind that tells what the answer is, or how far a session came; and for what a search
 # was made that spent its branches, as the groups before it and the settings tell.
@@ -79,40 +81,14 @@ field() {
     awk -v name="$1" -v n="$2" '$1 == name { print $n; exit }' <<<"$said"
 }
 
-# The fault of a file with a number, in words.
+# What launch/numbers has of the fault with a number: the name by which it is asked for here, or what is told of it in words.
 fault() {
-    case $1 in
-    1) echo "no JSON" ;;
-    2) echo "not of the form that belongs here" ;;
-    3) echo "no whole number: write 10, not 10.0 or 1e1" ;;
-    4) echo "outside its limits" ;;
-    5) echo "a good is named that isn't there: it is spelled as in \`goods\`, or numbered from 0" ;;
-    10) echo "a good of this name is there already" ;;
-    11) echo "a bidder of this name is there already" ;;
-    12) echo "too many: at most 32 goods, 40 bidders, and 2,000 nodes in all trees" ;;
-    13) echo "not a lawful name: 1 to 32 of A-Z a-z 0-9 _ - ." ;;
-    14) echo "its bids may sell more of a good than it owns" ;;
-    16) echo "an exchange has at least one good and one bidder" ;;
-    17) echo "a good stands behind a bidder" ;;
-    20) echo "a choice asks for at least, at most and among so many children, in rising order, and has at least one" ;;
-    21) echo "the lower value is above the upper one" ;;
-    22) echo "a value, a number of units or a good is outside its limits" ;;
-    23) echo "more than 200 nodes in a tree" ;;
-    24) echo "a tree more than 16 levels deep" ;;
-    25) echo "a tree is not complete, or goes on behind its end" ;;
-    26) echo "a list that doesn't count the nodes of the tree" ;;
-    50) echo "no record, or one that may not stand here, or one is missing" ;;
-    51) echo "the last line has no newline: the file may have been cut off" ;;
-    52) echo "the journal has no such settlement" ;;
-    53) echo "not a journal of a kind that \`$2\` takes" ;;
-    61) echo "longer than such a file may be" ;;
-    90) echo "a package with no good" ;;
-    91) echo "a bidder with no package" ;;
-    92) echo "no true values of a bidder that no earlier bid names: two equal lists, a value for each node, inside its bounds" ;;
-    93) echo "a bidder of the exchange has no bid: its true values are wanted too" ;;
-    94) echo "no bidder of the session has this name" ;;
-    *) echo "refused" ;;
-    esac
+    LC_ALL=C awk -F'\t' -v number="$1" -v wanted="$2" '
+        $1 != number { next }
+        wanted == "name" { print $2; exit }
+        $4 == "" { sub(/^[^:]*: /, "", $3); $4 = $3 }
+        { print $4; exit }
+    ' "${BASH_SOURCE[0]%/*}/numbers"
 }
 
 # The test of a journal that failed, in words.
@@ -169,17 +145,32 @@ what_stands() {
         text=$(sed -n "${place}{p;q}" "$file" 2>/dev/null | cut -c1-60 | cat -v)
         [ -z "$text" ] || printf " \`%s\`" "$text"
     elif command -v python3 >/dev/null; then
-        python3 -I "${BASH_SOURCE[0]%/*}/value_at" "$file" "$number" "$place" "${words[0]}" 2>/dev/null
+        python3 -I "${BASH_SOURCE[0]%/*}/value_at" "$file" "$(fault "$number" name)" "$place" "${words[0]}" 2>/dev/null
     fi
 }
 
-# The first word of file N of the words, where it is a file that can be read again.
-first_word() {
-    [ ! -f "${words[$1]}" ] || head -c 12 "${words[$1]}" 2>/dev/null | LC_ALL=C sed -n '1s/[^a-z].*//p'
+# What file N of the words is, and which command reads it, where the command takes no file of its kind there.
+other_kind() {
+    local kind command=${words[0]}
+    kind=$(ice_kind "${words[$1]}")
+    [ -n "$kind" ] || return 0
+    case " $(ice_takes "$command" "$1") " in *" $kind "*) return 0 ;; esac
+    case $command:$kind in
+    migrate:session | migrate:regret) echo "it is in version 2 already, and \`ice check\` tests it as it is" ;;
+    migrate:assign) echo "it is a journal of kind assign, which has version 1 alone: \`ice check\` tests it as it is" ;;
+    *:session | *:regret | *:assign | *:session1 | *:regret1) echo "it is a journal of kind ${kind%1}: \`ice check\` tests it" ;;
+    *:statement) echo "it is a statement: \`ice audit\` tests it" ;;
+    *:exchange | *:market) echo "it is an exchange: \`ice run\`, \`simulate\`, \`regret\` and \`best\` read it first" ;;
+    *:flat) echo "it has flat bids: \`ice xor\` makes an exchange of them first" ;;
+    *:round) echo "it has bids of a round: \`ice run\` reads it behind an exchange, and \`ice simulate\` where it has true values" ;;
+    *:bid) echo "it is a single bid: \`examples/collect.py\` makes a round file of such" ;;
+    *:prices) echo "it has prices: \`ice best\` reads it behind an exchange" ;;
+    *:fair) echo "it has fair prices: \`page/ice-page JOURNAL --fair FILE\` shows them, and no command reads them" ;;
+    esac
 }
 
 refused() {
-    local file number place name stands words_of
+    local file number place name stands words_of other=
     file=$(field refused 2) number=$(field refused 3) place=$(field refused 4)
     if [ -z "$place" ] || [ -z "${words[$file]:-}" ]; then
         echo "a file is refused: the last line of the output says which, its fault, and where"
@@ -187,15 +178,17 @@ refused() {
     fi
     name=$(name_of "$file" | tr -d '\n')
     stands=$(what_stands "${words[$file]}" "$number" "$place")
-    words_of=$(fault "$number" "${words[0]}")
-    case $number:$place in
-    50:1)
-        [ "$(first_word "$file")" != statement ] || words_of="it is a statement: \`ice audit\` tests it"
-        ;;
+    words_of=$(fault "$number" words)
+    words_of=${words_of:-refused}
+    words_of=${words_of/COMMAND/${words[0]}}
+    case $(fault "$number" name):$place in
+    json:- | shape:- | shape:bidders.? | shape:bidders.?? | record:1 | kind:-) other=$(other_kind "$file") ;;
     esac
-    case $number$stands in
-    "2 "*"has flat bids") words_of="\`ice xor\` makes an exchange of them first" ;;
+    case $stands in
+    *"has flat bids") words_of="\`ice xor\` makes an exchange of them first" ;;
+    *) words_of=${other:-$words_of} ;;
     esac
+    [ "$place" != - ] || [ -z "$other" ] || stands=
     case $place in
     -) echo "$name is refused: $words_of$stands (number $number)" ;;
     *[!0-9]*) echo "$name is refused: $place$stands: $words_of (number $number)" ;;
@@ -321,7 +314,7 @@ stopped() {
 
 # The line of words for what the program answered: nothing where its own output says it all.
 describe() {
-    local status=$1 line test
+    local status=$1 line test other
     shift
     local words=("$@")
     case $status in
@@ -334,8 +327,8 @@ describe() {
             echo "no: the answer has the line of the first test that failed, and its name"
         elif [ "$test" = closed ]; then
             echo "$(name_of 1 | tr -d '\n') is $(stopped "$line")"
-        elif [ "${words[0]}:$line" = audit:1 ] && [ "$(first_word 1)" = ice ]; then
-            echo "$(name_of 1 | tr -d '\n') is no statement but a journal: \`ice check\` tests it"
+        elif [ "$line" = 1 ] && other=$(other_kind 1) && [ -n "$other" ]; then
+            echo "$(name_of 1 | tr -d '\n'), line 1: $other"
         elif [ "${words[0]}:$test" = audit:order ] && [ -f "${words[1]}" ] && [ "$(sed -n "${line}{p;q}" "${words[1]}" 2>/dev/null)" = "end open" ]; then
             echo "$(name_of 1 | tr -d '\n') is right as far as it goes, to line $line: it is a statement of a session that is open"
         else

@@ -176,10 +176,13 @@ class Words(unittest.TestCase):
         (self.top / "j").write_text("ice 1 assign\nsettings 1\ngood a\x07 \n")
         self.assertEqual(self.refused(50, "3", "check", "j"), "j is refused: line 3 `good a^G `: no record, or one that may not stand here, or one is missing (number 50)")
         self.assertEqual(self.refused(51, "9", "check", "/dev/stdin"), "standard input is refused: line 9: the last line has no newline: the file may have been cut off (number 51)")
+        (self.top / "j").write_text("good a\n")
         self.assertEqual(self.refused(53, "-", "migrate", "j"), "j is refused: not a journal of a kind that `migrate` takes (number 53)")
 
     def test_each_number_has_words(self) -> None:
-        for number in [*range(1, 6), *range(10, 15), 16, 17, *range(20, 27), 50, 51, 52, 53, 61, 90, 91, 92, 93, 94]:
+        numbers = [line.split("\t")[0] for line in (TOP / "launch/numbers").read_text().splitlines()]
+        self.assertEqual(len(numbers), 29)
+        for number in map(int, numbers):
             told = self.refused(number, "-")
             self.assertRegex(told, rf"^market.json is refused: [^:]{{6,}}.*\(number {number}\)$")
             self.assertNotIn("refused: refused", told)
@@ -197,14 +200,65 @@ class Words(unittest.TestCase):
         self.assertEqual(self.told("no 8 closed\n", 3, "check", "j"), "j is right as far as it goes, to line 8: it closes nothing, and ends with `end open`")
 
     def test_the_command_for_another_file_is_named(self) -> None:
-        (self.top / "s").write_text("statement a\nsettings 50 0 9 0 5 9\n")
-        for words in (("check", "s"), ("replay", "s", "0")):
-            self.assertEqual(self.told("refused 1 50 1\n", 2, *words), "s is refused: line 1 `statement a`: it is a statement: `ice audit` tests it (number 50)")
-        (self.top / "j").write_text(OPEN)
-        self.assertEqual(self.told("no 1 order\n", 3, "audit", "j"), "j is no statement but a journal: `ice check` tests it")
+        self.files({
+            "s": "statement a\nsettings 50 0 9 0 5 9\n",
+            "j": OPEN,
+            "j1": OPEN.replace("ice 2", "ice 1"),
+            "r": "ice 2 regret\nsettings 50 0 9 0 5 9\n",
+            "a": "ice 1 assign\nsettings 50 0 9 0 5 9\n",
+            "e": "ice 1 exchange\nsettings 50 0 9 0 5 9\n",
+            "p": "ice 1 prices\nprices 2 3\n",
+            "f": "prices 2 3\naccuracy 0 1\n",
+            "bids": ' {\n"bids" : []}',
+            "flat": '{"goods": ["day"], "bidders": [{"name": "a", "own": {}, "xor": []}]}',
+            "bid": '{"bidder": "a", "lo": [], "hi": []}',
+        })
+        journal = "it is a journal of kind {}: `ice check` tests it"
+        statement, flat = "it is a statement: `ice audit` tests it", "it has flat bids: `ice xor` makes an exchange of them first"
+        exchange = "it is an exchange: `ice run`, `simulate`, `regret` and `best` read it first"
+        bids, prices = "it has bids of a round: `ice run` reads it behind an exchange", "it has prices: `ice best` reads it behind an exchange"
+        for file, number, place, words, told in [
+            (1, 50, "1", ("check", "s"), statement),
+            (1, 50, "1", ("replay", "s", "0"), statement),
+            (1, 50, "1", ("gap", "e"), exchange),
+            (1, 50, "1", ("fair", "market.json"), exchange),
+            (1, 50, "1", ("check", "f"), "it has fair prices: `page/ice-page JOURNAL --fair FILE` shows them"),
+            (1, 53, "-", ("check", "p"), prices),
+            (1, 53, "-", ("replay", "a", "0"), journal.format("assign")),
+            (1, 53, "-", ("statement", "r", "a"), journal.format("regret")),
+            (1, 53, "-", ("fair", "r"), journal.format("regret")),
+            (1, 53, "-", ("migrate", "j"), "it is in version 2 already"),
+            (1, 53, "-", ("migrate", "a"), "it is a journal of kind assign, which has version 1 alone"),
+            (1, 50, "1", ("run", "j"), journal.format("session")),
+            (1, 50, "1", ("simulate", "j1", "bids"), journal.format("session")),
+            (1, 1, "-", ("run", "s"), statement),
+            (1, 50, "1", ("best", "r", "p"), journal.format("regret")),
+            (1, 2, "bidders.0", ("best", "flat", "p"), "`ice xor` makes an exchange of them first"),
+            (1, 2, "bidders.0", ("regret", "flat"), "`ice xor` makes an exchange of them first"),
+            (1, 2, "bidders.0", ("xor", "market.json"), exchange),
+            (1, 2, "-", ("regret", "bids"), bids),
+            (2, 2, "-", ("run", "market.json", "market.json"), exchange),
+            (2, 2, "-", ("run", "market.json", "bid"), "it is a single bid: `examples/collect.py` makes a round file of such"),
+            (2, 2, "-", ("run", "market.json", "flat"), flat),
+            (2, 50, "1", ("best", "market.json", "bids"), bids),
+        ]:
+            said = self.refused(number, place, *words, file=file)
+            self.assertIn(f": {told}", said, words)
+            self.assertTrue(said.endswith(f" (number {number})"), said)
+        for words, told in {("audit", "j"): journal.format("session"), ("audit", "p"): prices}.items():
+            self.assertIn(f", line 1: {told}", self.told("no 1 order\n", 3, *words))
+        # the kind that the command takes has its own fault
+        for words in (("check", "j"), ("migrate", "j1"), ("audit", "s")):
+            self.assertNotIn("it is", self.refused(50, "1", *words))
+        self.assertNotIn("it is", self.refused(2, "-", "run", "market.json"))
+        self.assertEqual(self.told("no 2 order\n", 3, "audit", "s"), "s, line 2: another record belongs here")
         (self.top / "o").write_text("statement a\nend open\n")
         self.assertEqual(self.told("no 2 order\n", 3, "audit", "o"), "o is right as far as it goes, to line 2: it is a statement of a session that is open")
-        self.assertEqual(self.told("no 2 order\n", 3, "audit", "s"), "s, line 2: another record belongs here")
+
+    def files(self, texts: dict[str, str]) -> None:
+        """Files in the checkout."""
+        for name, text in texts.items():
+            (self.top / name).write_text(text)
 
     def test_help_behind_a_command(self) -> None:
         for words in (("check", "--help"), ("run", "-h"), ("--help",)):
