@@ -3,9 +3,6 @@ use Rattle.ice_command_parts.proofs.Parts.{later_refl}
 use Rattle.ice_session_commands.proofs.Playing.{begins, begins_played, begins_without_memory, begin_fails}
 use Rattle.ice_session_commands.proofs.session.hold_session.Goals as goal
 
-pub same-exchange : goal.same-exchange
-same-exchange g c = refl
-
 pub hold_rounds-requires : goal.hold_rounds-requires
 hold_rounds-requires g c = begins_played c.args.source c.args.exchange c.in-Ok-start.ready (g.H.Shelf.told c.args.shelf.now) c.bidders-bidders.ensures.lawful c.requires c.in-Ok-start.ensures
 

@@ -1,4 +1,4 @@
-use Rattle.std.proofs.Common.{◌∙◌, List, [], refl, sym, subst}
+use Rattle.std.proofs.Common.{◌∙◌, List, [], sym, subst}
 use Rattle.ice_edge.specs.Told.{Told}
 use Rattle.ice_defs.specs.Round.{Submission}
 use Rattle.ice_defs.specs.Exchange.{opening_bounds}
@@ -12,9 +12,6 @@ use Rattle.ice_session_commands.specs.TruthParts.{IsTruthFault, HoldsTruths}
 use Rattle.ice_session_commands.specs.SimulateJournal.{IsSimulatedJournal}
 use Rattle.ice_session_commands.proofs.SimulateJournal.{journal_serves, refusal_serves, truths_refusal_serves}
 use Rattle.ice_session_commands.proofs.simulate.simulate.Goals as goal
-
-pub same-exchange : goal.same-exchange
-same-exchange g c = refl
 
 pub hold_session-requires : goal.hold_session-requires
 hold_session-requires g c =
