@@ -5,22 +5,21 @@ so it tells neither names nor how many bid. A line that is no bidder's is the di
 """
 from __future__ import annotations
 
-import argparse
 import os
 import re
 import secrets
-import sys
-from typing import BinaryIO, NamedTuple, NoReturn
+from typing import BinaryIO, NamedTuple, Sequence
 
+from .digest import DIFFERS, NAME, bytes_of
 from .journal import MOST_BIDDERS, BadJournal
 from .lines import FILE_LIMIT
 from .statements import Salted, Watched, write_statements
+from .terminal import DONE, LAST_STATUSES, Words, ends, reading, standard_output, writing
 
-DONE, BAD_WORDS, BAD_FILE, DIFFERS, UNREAD, UNWRITTEN = 0, 1, 2, 3, 6, 7
 STATUSES = (
     "status: 0 done, 1 the words are wrong, 2 a file is no journal that closed or waits for bids, "
     "no statement, no list or no salt, 3 the statement is not in the list, 6 a file could not be "
-    "read, 7 a file or standard output could not be written"
+    f"read, 7 a file or standard output could not be written, {LAST_STATUSES}"
 )
 ALL, ONE = "--statements", "--statement"
 NOBODY = "*"  # no name has this character
@@ -28,15 +27,7 @@ SALT = re.compile(rb"salt (\*|[A-Za-z0-9_.-]{1,32}) ([0-9a-f]{64})\n")
 ENTRY = re.compile(rb"statement (\d{1,2}) ([0-9a-f]{64})\n")
 HEAD = re.compile(rb"statement ([A-Za-z0-9_.-]{1,32})\n")
 SETTLEMENT = re.compile(rb"^settle (\d{1,2})$", re.MULTILINE)
-SMALL, BLOCK = 1 << 16, 1 << 16
-
-
-class BadFile(Exception):
-    """A file is not what it is taken for."""
-
-
-class Unwritten(Exception):
-    """A file of salts can't be made."""
+SMALL = 1 << 16  # longer than any list of salts or digests
 
 
 class Salts(NamedTuple):
@@ -46,32 +37,23 @@ class Salts(NamedTuple):
     nobodies: list[bytes]
 
 
-def read_small(name: str) -> bytes:
-    """A small file; BadFile where it is larger than any list of salts or digests."""
-    with open(name, "rb") as source:
-        data = source.read(SMALL + 1)
-    if len(data) > SMALL:
-        raise BadFile(f"longer than {SMALL:,} bytes")
-    return data
-
-
 def read_salts(name: str) -> Salts:
-    """The salts of a file, one in each line."""
+    """The salts of a file, one in each line; BadJournal where it has others."""
     found = Salts({}, [])
-    for number, line in enumerate(read_small(name).splitlines(keepends=True), 1):
+    for number, line in enumerate(bytes_of(name, SMALL).splitlines(keepends=True), 1):
         entry = SALT.fullmatch(line)
         if entry is None:
-            raise BadFile(f"line {number} is no salt")
+            raise BadJournal(f"line {number} is no salt")
         whose, salt = entry[1].decode(), bytes.fromhex(entry[2].decode())
         if whose == NOBODY:
             found.nobodies.append(salt)
         elif whose in found.named:
-            raise BadFile(f"line {number} has a second salt of one name")
+            raise BadJournal(f"line {number} has a second salt of one name")
         else:
             found.named[whose] = salt
     every = [*found.named.values(), *found.nobodies]
     if len(set(every)) < len(every):
-        raise BadFile("one salt stands in it twice")
+        raise BadJournal("one salt stands in it twice")
     return found
 
 
@@ -92,27 +74,32 @@ def make_salts(name: str, bidders: list[str]) -> None:
     """New salts for these bidders and for nobodies, in a file that only its owner may read."""
     drawn = [secrets.token_bytes(32) for _ in range(MOST_BIDDERS)]
     salts = Salts(dict(zip(bidders, drawn)), drawn[len(bidders) :])
-    try:
+    with writing(name):
         file = os.open(name, os.O_WRONLY | os.O_CREAT | os.O_EXCL, 0o600)
         with open(file, "w", encoding="ascii") as target:
             target.write(written(salts))
-    except OSError as fault:
-        raise Unwritten(f"{name}: {fault.strerror}") from None
 
 
 def digests_of(journal: str, salts: Salts) -> list[str]:
-    """A line for each bidder of a journal and for each nobody, in the order of the digests."""
+    """A line for each bidder of a journal and for each nobody, in the order of the digests.
+
+    BadJournal where the salts aren't those of the journal's bidders.
+    """
     hashes: dict[str, Salted] = {}
+    strangers: list[str] = []
 
-    def make(name: str) -> Salted:
-        if name not in salts.named:
-            raise BadFile("it has no salt of a bidder of the journal")
-        return hashes.setdefault(name, Salted(salts.named[name]))
+    def make(name: str) -> Salted | None:
+        if name in salts.named:
+            return hashes.setdefault(name, Salted(salts.named[name]))
+        strangers.append(name)
+        return None
 
-    with open(journal, "rb", buffering=0) as stream:
+    with reading(journal), open(journal, "rb", buffering=0) as stream:
         done = write_statements(Watched(stream), make)
+    if strangers:
+        raise BadJournal("it has no salt of a bidder of the journal")
     if len(hashes) + len(salts.nobodies) != MOST_BIDDERS or len(hashes) != len(salts.named):
-        raise BadFile(f"its salts aren't those of the journal's bidders, {MOST_BIDDERS} in all")
+        raise BadJournal(f"its salts aren't those of the journal's bidders, {MOST_BIDDERS} in all")
     found = [each.hexdigest() for each in hashes.values()]
     found += [Salted(salt).hexdigest() for salt in salts.nobodies]
     return [f"statement {done.settlement} {digest}" for digest in sorted(found)]
@@ -120,69 +107,53 @@ def digests_of(journal: str, salts: Salts) -> list[str]:
 
 def all_statements(journal: str, salts: str) -> tuple[list[str], int]:
     """What to publish of a journal; its file of salts is made where it isn't there."""
-    name = journal
-    try:
-        if not os.path.lexists(salts):
-            with open(journal, "rb", buffering=0) as stream:
-                bidders = names_of(stream)
-            name = salts
-            make_salts(salts, bidders)
-        name = salts
-        found = read_salts(salts)
-        return digests_of(journal, found), DONE
-    except BadFile as fault:
-        raise BadFile(f"{name}: {fault}") from None
-    except BadJournal as fault:
-        raise BadFile(f"{journal}: {fault}") from None
+    if not os.path.lexists(salts):
+        with reading(journal), open(journal, "rb", buffering=0) as stream:
+            bidders = names_of(stream)
+        make_salts(salts, bidders)
+    with reading(salts):
+        return digests_of(journal, read_salts(salts)), DONE
 
 
 def digest_of_file(name: str, salts: Salts) -> tuple[str, str]:
     """The last settlement of a statement, and its digest with the salt of its name."""
-    with open(name, "rb") as source:
-        data = source.read(FILE_LIMIT + 1)
-    if len(data) > FILE_LIMIT:
-        raise BadFile(f"longer than {FILE_LIMIT:,} bytes")
+    data = bytes_of(name, FILE_LIMIT)
     head, settlements = HEAD.match(data), SETTLEMENT.findall(data)
     if head is None or not settlements:
-        raise BadFile("no statement")
+        raise BadJournal("no statement")
     whose = head[1].decode()
     if whose not in salts.named:
-        raise BadFile("no salt of its name was given")
+        raise BadJournal("no salt of its name was given")
     digest = Salted(salts.named[whose])
     digest.update(data)
     return settlements[-1].decode(), digest.hexdigest()
 
 
+def read_list(name: str) -> set[tuple[str, str]]:
+    """The settlements and digests of a list, one in each line; BadJournal where a line is none."""
+    lines = bytes_of(name, SMALL).splitlines(keepends=True)
+    entries = [ENTRY.fullmatch(line) for line in lines]
+    if not entries or None in entries:
+        raise BadJournal("not each line is a digest of a statement, or none is there")
+    return {(each[1].decode(), each[2].decode()) for each in entries if each}
+
+
 def one_statement(statement: str, salt: str, published: str) -> tuple[list[str], int]:
     """Whether a statement is in a list that was published."""
-    name = published
-    try:
-        lines = read_small(published).splitlines(keepends=True)
-        entries = [ENTRY.fullmatch(line) for line in lines]
-        if not entries or None in entries:
-            raise BadFile("not each line is a digest of a statement, or none is there")
-        found = {(each[1].decode(), each[2].decode()) for each in entries if each}
-        name = salt
+    with reading(published):
+        found = read_list(published)
+    with reading(salt):
         salts = read_salts(salt)
-        name = statement
+    with reading(statement):
         settlement, digest = digest_of_file(statement, salts)
-    except BadFile as fault:
-        raise BadFile(f"{name}: {fault}") from None
     same = (settlement, digest) in found
     return [f"{'same' if same else 'other'} statement {settlement}"], DONE if same else DIFFERS
-
-
-class Words(argparse.ArgumentParser):
-    """The words of the command; wrong ones end with status 1, since 2 is about a file."""
-
-    def error(self, message: str) -> NoReturn:
-        self.exit(BAD_WORDS, f"{self.format_usage()}{self.prog}: {message}\n")
 
 
 def words() -> Words:
     """The words that are understood."""
     parser = Words(
-        prog="ice-digest",
+        prog=NAME,
         epilog=STATUSES,
         allow_abbrev=False,
         description="Digests of statements: whoever checked a journal publishes them, and each "
@@ -206,29 +177,14 @@ def words() -> Words:
     return parser
 
 
-def main(arguments: list[str] | None = None) -> int:
+@ends(NAME)
+def main(arguments: Sequence[str] | None = None) -> int:
     """Writes the digests of statements, or looks for one, and answers the status."""
     options = words().parse_args(arguments)
-    try:
-        if options.statements:
-            lines, status = all_statements(*options.statements)
-        else:
-            lines, status = one_statement(*options.statement)
-    except BadFile as fault:
-        print(f"ice-digest: {fault}", file=sys.stderr)
-        return BAD_FILE
-    except OSError as fault:
-        print(f"ice-digest: {fault.filename}: {fault.strerror}", file=sys.stderr)
-        return UNREAD
-    except Unwritten as fault:
-        print(f"ice-digest: {fault}", file=sys.stderr)
-        return UNWRITTEN
-    try:
-        print(*lines, sep="\n")
-        sys.stdout.flush()
-    except OSError as fault:
-        # Nothing more is written when the process ends.
-        os.dup2(os.open(os.devnull, os.O_WRONLY), 1)
-        print(f"ice-digest: standard output: {fault.strerror}", file=sys.stderr)
-        return UNWRITTEN
+    if options.statements:
+        lines, status = all_statements(*options.statements)
+    else:
+        lines, status = one_statement(*options.statement)
+    with standard_output() as output:
+        output.write("".join(f"{line}\n" for line in lines))
     return status

@@ -11,8 +11,11 @@ import tempfile
 import unittest
 from pathlib import Path
 from typing import Callable
+from unittest import mock
 
 from support import HERE, ROOT, SAMPLES, page_of, run, sample
+from test_echo import SPELLED, WILD
+from test_echo import wild as wild_letters
 from test_statement import BUYER, CLOSED, SELLER, names, statement_of
 
 from ice_page import digest, statement_command, statement_digests
@@ -284,6 +287,42 @@ class Digests(unittest.TestCase):
         self.assertEqual(call(main, "--statements", journal, salts)[:2], (7, ""))
         for words in ((absent, journal, journal), (journal, journal, absent)):
             self.assertEqual(call(main, "--statement", *words)[:2] in ((6, ""), (2, "")), True)
+
+    def test_names_that_a_terminal_would_obey(self) -> None:
+        wild, absent = self.file(WILD, "no list\n"), str(self.folder / f"absent-{WILD}")
+        journal, main = self.file("journal", OPEN), statement_digests.main
+        for words, wanted in (
+            (("--statements", wild, str(self.folder / "new")), 2),
+            (("--statements", absent, absent), 6),
+            (("--statements", journal, str(self.folder / "none" / WILD)), 7),
+            (("--statement", wild, wild, wild), 2),
+            (("--statement", absent, absent, absent), 6),
+            (("--statements", journal, journal, WILD), 1),
+        ):
+            status, output, said = call(main, *words)
+            self.assertEqual((status, output, wild_letters(said)), (wanted, "", []), words[0])
+            self.assertIn(SPELLED, said)
+
+    def test_want_of_memory_and_interrupts(self) -> None:
+        words = ("--statements", self.file("journal", OPEN), str(self.folder / "salts"))
+        for fault, ending in (
+            (MemoryError, (8, "", "ice-digest: want of memory\n")),
+            (KeyboardInterrupt, (130, "", "")),
+        ):
+            with mock.patch.object(statement_digests, "read_salts", side_effect=fault):
+                self.assertEqual(call(statement_digests.main, *words), ending)
+
+    def test_no_more_is_read_than_shows_that_a_file_is_too_long(self) -> None:
+        files = {name: self.file(name, "x\n") for name in ("statement", "salt", "list")}
+        files["salt"] = self.file("salt", f"salt b {'0' * 64}\n")
+        files["list"] = self.file("list", f"statement 0 {'0' * 64}\n")
+        # No byte of so long a file is there, and no memory would hold them.
+        for name, limit in (("list", "65,536"), ("salt", "65,536"), ("statement", "134,217,728")):
+            with open(self.folder / "long", "wb") as long:
+                long.truncate(1 << 40)
+            words = {**files, name: long.name}.values()
+            status, _, said = call(statement_digests.main, "--statement", *words)
+            self.assertEqual((status, f"longer than {limit} bytes" in said), (2, True), said)
 
     def test_the_command(self) -> None:
         command = [sys.executable, str(HERE.parent / "ice-digest"), "--statements"]
