@@ -24,9 +24,10 @@ def files(*bids: Any) -> tuple[Any, ...]:
 
 
 def limited(folder: str, memory: int, *words: str) -> subprocess.CompletedProcess[str]:
-    """The command in a process that may take so many bytes of memory."""
+    """A command of the examples in a process that may take so many bytes of memory."""
+    command, *others = words
     return subprocess.run(
-        [sys.executable, str(ROOT / "examples/collect.py"), *words],
+        [sys.executable, str(ROOT / "examples" / command), *others],
         cwd=folder,
         capture_output=True,
         text=True,
@@ -135,11 +136,24 @@ class Collect(unittest.TestCase):
         with tempfile.TemporaryDirectory() as folder:
             for name, value in (("m.json", EXCHANGE), ("1.json", BID)):
                 (Path(folder) / name).write_text(json.dumps(value))
+            (Path(folder) / "t.csv").write_text("bidder,bid,lo,hi,berth\np,own,,,1\np,or,-1,-1,-1\n")
             with open(Path(folder) / "0.json", "wb") as long:
                 long.truncate(1 << 30)
-            ran = limited(folder, 150 << 20, "m.json", "0.json", "1.json")
+            ran = limited(folder, 150 << 20, "collect.py", "m.json", "0.json", "1.json")
+            others = [
+                limited(folder, 150 << 20, *words)
+                for words in (
+                    ("collect.py", "0.json", "1.json"),
+                    ("sheet.py", "0.json"),
+                    ("sheet.py", "t.csv", "--market", "0.json"),
+                    ("sheet.py", "t.csv", "--settings", "0.json"),
+                )
+            ]
         self.assertEqual((ran.returncode, ran.stdout), (3, json.dumps({"bids": [BID]}) + "\n"))
         self.assertIn("0.json: put aside: the file is longer than 16,777,216 bytes", ran.stderr)
+        for other in others:
+            self.assertEqual((other.returncode, other.stdout), (2, ""), other.stderr)
+            self.assertIn(" is longer than 16,777,216 bytes", other.stderr)
 
     def test_a_member_that_stands_twice(self) -> None:
         bid = '{"bidder": "b", "lo": %s, "hi": %s, "lo": %s}' % (LO, HI, LO)

@@ -12,6 +12,7 @@ from support import ROOT, SETTINGS, collect, run, sheet
 from test_market import EXCHANGE
 
 from ice_sheet import collecting
+from ice_sheet.faults import BadTable, Fault, shown
 from ice_sheet.spelling import spelled
 
 # A title, the screen cleared and a forged answer; a C1 control; the order of characters turned round.
@@ -45,11 +46,30 @@ class Spelling(unittest.TestCase):
 
     def test_names_of_files(self) -> None:
         name = "1405-\x1b[2J\u202e.json"
-        for words in ((name,), (name, "--named"), ("absent\x1b[2J",), ("--absent\x1b[2J",)):
+        for words, wanted in (
+            ((name,), 3),
+            ((name, "--named"), 3),
+            (("absent\x1b[2J",), 6),
+            ((name, "--absent\x1b[2J"), 1),
+        ):
             files = {"m.json": EXCHANGE, name: 7}
             status, _, errors = run(collecting.main, files, "m.json", *words)
-            self.assertIn(status, (1, 3, 6))
+            self.assertEqual((status, r"\x1b[2J" in errors), (wanted, True), words)
             self.assert_prints(errors.splitlines())
+        self.assert_prints(sheet("", "a\x1b[2J", "b\x9b2J")[2])
+
+    def test_reasons_that_are_kept(self) -> None:
+        """What `jq -r` prints of the bids that were put aside, and each fault of a table."""
+        for name in NAMES:
+            self.assertTrue(shown(name).isprintable(), ascii(name))
+            self.assert_prints(BadTable([Fault(2, name, name)]).told())
+            with tempfile.NamedTemporaryFile() as file:
+                value = {"bidder": name, "lo": [], "hi": []}
+                words = ("m.json", "b.json", "--aside", file.name)
+                status, _, _ = collect({"m.json": EXCHANGE, "b.json": value}, *words)
+                aside = json.load(file)["aside"]
+            self.assertEqual((status, len(aside)), (3, 1))
+            self.assert_prints([aside[0]["reason"]])
 
     def test_tables(self) -> None:
         for name in NAMES:
