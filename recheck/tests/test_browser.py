@@ -15,6 +15,7 @@ from ice_recheck.journals import check, gap
 
 PAGE = HERE.parent / "ice-recheck.html"
 HALL = (ROOT / "examples" / "hall-session.journal").read_bytes()
+SEASON = (ROOT / "examples" / "season-session.journal").read_bytes()
 BYTES = "Uint8Array.from(atob(%s), (letter) => letter.charCodeAt(0))"
 ANSWERS = f"""
 %s.map((file) => {{
@@ -38,6 +39,15 @@ window.Worker = class {
   postMessage(file) { this.file = file; }
   terminate() { this.isEnded = true; }
 };
+"""
+# How far each table scrolls, and how far from its edge its first column stands then, with the head.
+SCROLLED = """
+[...document.querySelectorAll(".wide")].map((frame) => {
+  frame.scrollLeft = 120;
+  const place = (cell) => cell.getBoundingClientRect().left - frame.getBoundingClientRect().left;
+  const firsts = [...frame.querySelectorAll("tr > :first-child")].map(place);
+  return [frame.scrollLeft, Math.min(...firsts), Math.max(...firsts)].map(Math.round);
+})
 """
 # Two million bids behind the prices: minutes of work, and a file of 58 MB.
 LONG = """
@@ -118,6 +128,13 @@ class Browser(unittest.TestCase):
         line = 1 + damaged.split(b"payment choir")[0].count(b"\n")
         self.assertIn(f"no {line} payment\n", self.shown(file(damaged, "damaged")))
         self.assertEqual(self.tab.run("document.querySelectorAll('table').length"), 0)
+
+    def test_the_first_column_stays_with_its_head(self) -> None:
+        phone = "Emulation.setDeviceMetricsOverride"
+        self.tab.ask(phone, width=390, height=800, deviceScaleFactor=1, mobile=True)
+        self.addCleanup(self.tab.ask, "Emulation.clearDeviceMetricsOverride")
+        self.shown(file(SEASON, "season"))
+        self.assertEqual(self.tab.run(SCROLLED), [[120, 0, 0]] * 2)
 
     def test_the_last_file_has_the_answer(self) -> None:
         self.tab.run(STILL)
