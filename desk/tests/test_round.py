@@ -244,7 +244,7 @@ class Stops(Desk):
         (self.folder / "Polar-Cargo-1.html").mkdir()
         self.stops(7, "Polar-Cargo-1.html")
 
-    def test_two_at_once(self):
+    def test_two_at_once(self) -> None:
         with (self.folder / "market.json").open() as stream:
             fcntl.flock(stream, fcntl.LOCK_EX)
             self.stops(2, "another ice-round works on market.json")
@@ -298,14 +298,18 @@ class Stops(Desk):
 class OnATerminal(Desk):
     """A line on the terminal says which step it is at, and leaves nothing there."""
 
-    def on_terminal(self, *words: str, columns: int = 80, **settings: str):
+    def on_terminal(self, *words: str, columns: int = 80) -> tuple[int, str, str]:
         """Holds a round whose standard error is a terminal: the status, output, and what it got."""
         terminal, its_end = pty.openpty()
         fcntl.ioctl(its_end, termios.TIOCSWINSZ, struct.pack("HHHH", 24, columns, 0, 0))
-        where = {**self.where, **settings}
-        words = (sys.executable, ROUND, "market.json", *(words or (PROGRAM,)))
-        how = {"cwd": self.folder, "env": where, "stdin": subprocess.DEVNULL}
-        process = subprocess.Popen(words, stdout=subprocess.PIPE, stderr=its_end, **how)
+        process = subprocess.Popen(
+            [sys.executable, ROUND, "market.json", *(words or (PROGRAM,))],
+            cwd=self.folder,
+            env=self.where,
+            stdin=subprocess.DEVNULL,
+            stdout=subprocess.PIPE,
+            stderr=its_end,
+        )
         os.close(its_end)
         got = b""
         try:
@@ -314,16 +318,15 @@ class OnATerminal(Desk):
         except OSError:  # nobody has the other end any more
             pass
         os.close(terminal)
-        output = process.stdout.read().decode()
-        process.stdout.close()
-        return process.wait(), output, got.decode()
+        output = process.communicate()[0].decode()
+        return process.returncode, output, got.decode()
 
     def shown(self, got: str) -> list[str]:
         """The lines that stood on the terminal, one over the other."""
         self.assertNotIn("\x1b", got)
         return [line.rstrip() for line in got.split("\r") if line.strip()]
 
-    def test_each_step_is_named(self):
+    def test_each_step_is_named(self) -> None:
         self.open()
         self.bids_come(1)
         status, output, got = self.on_terminal()
@@ -342,14 +345,14 @@ class OnATerminal(Desk):
         found = [line for line in shown if line.removeprefix("ice-round: ") in steps]
         self.assertEqual(found, [f"ice-round: {step}" for step in steps])
 
-    def test_nothing_of_it_is_left(self):
+    def test_nothing_of_it_is_left(self) -> None:
         """What is written last blanks the whole of what was written before it."""
         _, _, got = self.on_terminal()
         *_, before, blank, end = got.split("\r")
         self.assertEqual((blank, end), (" " * len(before.rstrip()), ""))
         self.assertNotIn("\n", got)
 
-    def test_a_long_run_says_how_long_and_what_its_program_said(self):
+    def test_a_long_run_says_how_long_and_what_its_program_said(self) -> None:
         slow = self.folder / "slow"
         slow.write_text("#!/bin/sh\necho first >&2\necho 'ice: 3 of 90' >&2\nsleep 2\nexit 2\n")
         slow.chmod(0o755)
@@ -360,13 +363,13 @@ class OnATerminal(Desk):
         # And what is wrong stands on lines of its own.
         self.assertIn("\rice-round: first\r\nice-round: ice: 3 of 90\r\nice-round: stopped", got)
 
-    def test_a_narrow_terminal(self):
+    def test_a_narrow_terminal(self) -> None:
         _, _, got = self.on_terminal(columns=30)
         lines = self.shown(got)
         self.assertIn("ice-round: 2 of 5, running th", lines)
         self.assertLess(max(map(len, lines)), 30)
 
-    def test_a_trial_makes_no_pages(self):
+    def test_a_trial_makes_no_pages(self) -> None:
         self.open()
         self.bids_come(1)
         _, _, got = self.on_terminal(PROGRAM, "--try")

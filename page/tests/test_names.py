@@ -104,14 +104,14 @@ class FromRightToLeft(Named):
         whole = re.findall(rf"{BEFORE}{HEBREW}(?: \d+)?{BEHIND}", page)
         self.assertEqual(len(whole), found)
 
-    def test_pages_of_all_samples(self):
+    def test_pages_of_all_samples(self) -> None:
         for file in SAMPLES:
             journal = file.read_text()
             status, page, errors = self.named(turned(journal), journal=journal)
             self.assertEqual((status, errors), (0, ""), file.name)
             self.alone(page, 2)
 
-    def test_a_name_that_goes_on_in_the_next_line(self):
+    def test_a_name_that_goes_on_in_the_next_line(self) -> None:
         name = isolated(f"{HEBREW} {HEBREW}")
         lines = textwrap.wrap(f"buy {name} + a", 12)
         self.assertEqual(lines, [f"buy {BEFORE}{HEBREW}", f"{HEBREW}{BEHIND} + a"])
@@ -119,20 +119,20 @@ class FromRightToLeft(Named):
         self.assertEqual(isolated_lines(lines), wanted)
         self.assertEqual(isolated_lines(["a b", "c"]), ["a b", "c"])
 
-    def test_pages_of_bidders_and_of_a_session_that_waits(self):
+    def test_pages_of_bidders_and_of_a_session_that_waits(self) -> None:
         airport = sample("airport-slots.session")
         for journal in (airport, opened(airport, 2)):
             for more in ((), ("--bidder", "Meridian")):
                 _, page, _ = self.named(turned(journal), *more, journal=journal)
                 self.alone(page, 20)
 
-    def test_which_names_are_isolates(self):
+    def test_which_names_are_isolates(self) -> None:
         for name in ("Kammerchor", "Bühne 7", "合唱团", "Хор", "हॉल 2"):
             self.assertEqual(isolated(name), name)
         for name in (HEBREW, ARABIC, f"Opera {ARABIC} 2", "\u0662 Opera"):
             self.assertEqual(isolated(name), f"{BEFORE}{name}{BEHIND}")
 
-    def test_only_what_stands_around_a_name_stays(self):
+    def test_only_what_stands_around_a_name_stays(self) -> None:
         name = isolated(HEBREW)
         self.assertEqual(text(f"buy 2 {name} + <b>"), f"buy 2 {name} + &lt;b&gt;")
         for mark in (BEFORE, BEHIND, "\u202e", "\u200f", "\x1b"):
@@ -145,7 +145,7 @@ class FromRightToLeft(Named):
         self.assertEqual(foreign(name), f"<bdi>\\u2068{HEBREW}\\u2069</bdi>")
 
     @browser.NEEDS
-    def test_a_browser_shows_them_in_their_order(self):
+    def test_a_browser_shows_them_in_their_order(self) -> None:
         table = f"name,full name\nmonday,{HEBREW}\ntuesday,{ARABIC}\n"
         page = self.named(table)[1]
         bare = page.replace(BEFORE, "").replace(BEHIND, "")
