@@ -231,6 +231,8 @@ class Sizes(unittest.TestCase):
             *_, bids = read_tables(io.BytesIO(journal.encode()), None, aside)
             found = sum(1 for row in bids.rows if len(row) == len(bids.heads))
             peak = tracemalloc.get_traced_memory()[1]
+            aside.seek(0)
+            self.assertEqual(aside.read().count(b"submit nobody 0 0\nverdict 45\n"), 2000)
         self.assertEqual(found, count)
         self.assertLess(peak, 500_000)
 

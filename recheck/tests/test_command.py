@@ -80,6 +80,25 @@ class Statuses(unittest.TestCase):
             self.assertEqual((status, line), (1, "words refused\n"), words)
             self.assertIn("usage: ice-recheck JOURNAL", said)
 
+    def test_nothing_of_a_file_or_of_its_name_is_echoed(self) -> None:
+        with tempfile.TemporaryDirectory() as folder:
+            file = Path(folder, "a\x1b]0;x\x07\x1b[2J yes 0\x9b\u202eb\u2067.journal")
+            for content, wanted in (
+                (SAMPLE.read_bytes(), (0, "yes 10\n")),
+                (b"\x1b[2J yes 10\n", (2, "refused 1 50 1\n")),
+                (b"ice 2 session\n\x1b[2J yes 10\n", (2, "refused 1 50 2\n")),
+                (None, (6, "unread 1\n")),
+            ):
+                if content is None:
+                    file.unlink()
+                else:
+                    file.write_bytes(content)
+                status, line, said = run(str(file))
+                told = "ice-recheck: a second opinion, of which nothing is proved\n"
+                self.assertEqual((status, line, said), (*wanted, told))
+            said = run(file.name, file.name)[2]
+            self.assertTrue("".join(said.split("\n")).isprintable(), ascii(said))
+
     def test_help(self) -> None:
         for word in ("--help", "-h"):
             status, text, _ = run(word)
