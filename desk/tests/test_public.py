@@ -67,7 +67,7 @@ class Public(Desk):
 
     def test_what_was_traded_in_all(self) -> None:
         page = self.page(JOURNAL)
-        rows = re.findall(r'<th scope="row">([^<]*)</th><td class="right">([^<]*)</td></tr>', page)
+        rows = re.findall(r'<th scope="row"[^>]*>([^<]*)</th><td class="right">([^<]*)</td></tr>', page)
         # By the final sets: the airport sells 9 units, a swap sells dep-0800 and one arr-1800,
         # and the charter line arr-0830.
         wanted = {"dep-0630": 2, "dep-0700": 2, "dep-0730": 1, "dep-0800": 1, "arr-0830": 1}
