@@ -1,6 +1,6 @@
 # shellcheck shell=bash
-# What kind of file a file is, by its beginning, and which kinds a command takes. The launcher reads this file for its words, and
-# launch/complete.bash for the names of files: so it runs nothing but bash itself, and its functions begin with `ice_`.
+# What kind of file a file is, by its beginning, and which kinds a command takes. The launcher reads this file for its words. It
+# runs nothing but bash itself, and its functions begin with `ice_`, so that a completion of names can read it too.
 
 # The kind of a file: `assign`, `regret` or `session`, with a 1 behind the last two in version 1; `exchange` or `prices` in line
 # form; `market`, `flat`, `round` or `bid` in JSON; `statement`, or `fair` prices. Nothing where it is none of these, or no file

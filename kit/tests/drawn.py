@@ -97,7 +97,7 @@ def drawn_bounds(draw: random.Random, nodes: list[Node]) -> Bounds:
 
 def drawn_prices(draw: random.Random, goods: int, bounds: Bounds) -> list[Fraction]:
     """Prices by which units cost about as much as they are worth, or less."""
-    most = max(2, *map(abs, bounds[0]), *map(abs, bounds[1])) // draw.choice([1, 2, 4, 8]) + 1
+    most = max(2, *(abs(low) for low in bounds[0]), *(abs(high) for high in bounds[1])) // draw.choice([1, 2, 4, 8]) + 1
     bottom = draw.choice([1, 1, 6, 210])
     return [Fraction(draw.randrange(most * bottom), bottom) for _ in range(goods)]
 
@@ -129,7 +129,7 @@ def drawn_bid(draw: random.Random, bounds: Bounds) -> Bounds:
     elif way == 3:
         low.pop()
     elif way == 4:
-        low, high = map(list, bounds)
+        low, high = list(bounds[0]), list(bounds[1])
     return low, high
 
 

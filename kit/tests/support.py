@@ -12,7 +12,7 @@ import sys
 import tempfile
 import unittest
 from pathlib import Path
-from typing import Any, Iterable
+from typing import Any, BinaryIO, Iterable, cast
 
 HERE = Path(__file__).resolve().parent
 KIT = HERE.parent
@@ -81,7 +81,7 @@ def statements(journal: bytes) -> dict[str, bytes]:
         stream.write(journal)
         stream.seek(0)
         try:
-            write_statements(Watched(stream), lambda name: found.setdefault(name, Kept()))
+            write_statements(Watched(cast(BinaryIO, stream)), lambda name: found.setdefault(name, Kept()))
         except BadJournal:
             return {}
     return {name: bytes(kept.data) for name, kept in found.items()}
@@ -95,6 +95,13 @@ def awaited(journal: bytes, settlement: int) -> bytes | None:
     if place < 0 or bids < 0 or 0 <= after < bids:
         return None
     return journal[: bids + 1] + b"end open\n"
+
+
+def so_far(journal: bytes, settlement: int) -> bytes:
+    """The same of a session that awaited bids then."""
+    found = awaited(journal, settlement)
+    assert found is not None
+    return found
 
 
 def sessions() -> list[bytes]:

@@ -8,12 +8,13 @@ import unittest
 
 from support import PROGRAM, ROOT, all_statements, asked, encoded, needs_node, needs_program
 
-from ice_recheck.statements import LIMIT, audit
+from ice_recheck.journals import LIMIT
+from ice_recheck.statements import audit
 
 try:
     import tomllib
 except ImportError:  # before Python 3.11
-    tomllib = None
+    tomllib = None  # type: ignore[assignment]
 
 FILES = sorted(ROOT.glob("tests/files/*.statement"))
 TABLE = ROOT / "tests/rows/audit.toml"
@@ -152,7 +153,7 @@ class Audits(unittest.TestCase):
     def test_rows_of_the_program(self) -> None:
         texts, due = zip(*rows())
         self.assertGreater(len(due), 70)
-        self.assertEqual(tuple(line for line, _, _ in answers(texts)), due)
+        self.assertEqual(tuple(line for line, _, _ in answers(list(texts))), due)
 
     def test_a_long_file(self) -> None:
         for more, line in ((1, "refused 1 61 -"), (0, "refused 1 51 1")):
@@ -181,7 +182,7 @@ class Program(unittest.TestCase):
     def test_damaged_ones(self) -> None:
         texts = whole_statements() + drawn_damage(200)
         for text, (line, status, _) in zip(texts, answers(texts)):
-            ran = subprocess.run([PROGRAM, "audit", "/dev/stdin"], input=text, capture_output=True, check=False)
+            ran = subprocess.run([str(PROGRAM), "audit", "/dev/stdin"], input=text, capture_output=True, check=False)
             self.assertEqual((ran.stdout.decode(), ran.returncode), (f"{line}\n", status), text)
 
 

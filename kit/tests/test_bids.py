@@ -10,9 +10,10 @@ import tempfile
 import unittest
 from fractions import Fraction
 from pathlib import Path
+from typing import Any
 
 import drawn
-from support import HERE, PROGRAM, ROOT, asked, awaited, encoded, needs_node, needs_program, statements
+from support import HERE, PROGRAM, ROOT, asked, encoded, needs_node, needs_program, so_far, statements
 
 from ice_page import rules
 from ice_page.journal import Bounds, Lines, Node, Bidder, read_journal
@@ -31,7 +32,7 @@ def offer_of(name: str) -> Offer:
     return found
 
 
-def tries(offer: Offer, goods: int, *bids: Bounds) -> list[dict]:
+def tries(offer: Offer, goods: int, *bids: Bounds) -> list[dict[str, Any]]:
     """What the kit says of these bids."""
     return asked(drawn.question(offer, goods, bid) for bid in bids)
 
@@ -113,9 +114,10 @@ class Drawn(unittest.TestCase):
         ran = subprocess.run([script, "10", "7"], capture_output=True, text=True, check=False)
         self.assertEqual((ran.returncode, ran.stderr), (0, ""))
         self.assertRegex(ran.stdout, r"(?s)\A1\d bids in \d statements.*\n0 differ\n\Z")
-        for words in ([], ["x"], ["1", "2", "3"]):
-            ran = subprocess.run([script, *words], capture_output=True, check=False)
-            self.assertEqual((ran.returncode, ran.stdout), (2, b""))
+        wrong: list[list[str]] = [[], ["x"], ["1", "2", "3"]]
+        for words in wrong:
+            ran = subprocess.run([script, *words], capture_output=True, text=True, check=False)
+            self.assertEqual((ran.returncode, ran.stdout), (2, ""))
 
 
 @needs_node
@@ -123,7 +125,7 @@ class Nets(unittest.TestCase):
     """The kit's table has what `page/ice-nets` prints."""
 
     def test_the_hall(self) -> None:
-        for name, text in statements(awaited(HALL, 0)).items():
+        for name, text in statements(so_far(HALL, 0)).items():
             offer = offer_of(name)
             (found,) = tries(offer, 3, offer.bounds)
             with tempfile.NamedTemporaryFile() as file:
@@ -151,14 +153,14 @@ class Nets(unittest.TestCase):
 class Program(unittest.TestCase):
     """The program gives bids the verdicts that the kit gives."""
 
-    def run_rounds(self, folder: Path, rounds: list[list[dict]]) -> bytes:
+    def run_rounds(self, folder: Path, rounds: list[list[dict[str, Any]]]) -> bytes:
         """The journal of the hall's session with these rounds."""
         files = []
         for number, bids in enumerate(rounds):
             file = folder / f"{number}.json"
             file.write_text(json.dumps({"bids": bids}))
             files.append(str(file))
-        command = [PROGRAM, "run", str(ROOT / "examples/hall.json"), *files]
+        command = [str(PROGRAM), "run", str(ROOT / "examples/hall.json"), *files]
         ran = subprocess.run(command, stdout=subprocess.PIPE, check=False)
         self.assertIn(ran.returncode, (0, 9))
         return ran.stdout

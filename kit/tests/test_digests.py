@@ -6,8 +6,9 @@ import random
 import tempfile
 import unittest
 from pathlib import Path
+from typing import Any, Sequence
 
-from support import ROOT, asked, awaited, encoded, needs_node, sessions, statements
+from support import ROOT, asked, awaited, encoded, needs_node, sessions, so_far, statements
 
 from ice_page import statement_digests
 from ice_page.digest import Bound, compared, read_list
@@ -37,14 +38,14 @@ def by_page(journal: bytes, lines: list[str], salt: bytes) -> list[str] | None:
         return None
 
 
-def question(content: bytes, lines: list[str] | str, salt: bytes | str = b"") -> dict[str, str]:
+def question(content: bytes, lines: Sequence[str], salt: bytes | str = b"") -> dict[str, str]:
     """A file beside a list."""
     listed = lines if isinstance(lines, str) else "\n".join(lines)
     typed = salt if isinstance(salt, str) else salt.hex()
     return {"kind": "compare", "content": encoded(content), "list": listed, "salt": typed}
 
 
-def as_lines(answer: dict) -> list[str] | None:
+def as_lines(answer: dict[str, Any]) -> list[str] | None:
     """An answer in the words of `page/ice-digest`; None where there is none."""
     if answer["of"] != "journal":
         return None
@@ -151,7 +152,7 @@ class Statements(unittest.TestCase):
         return lines, {line.split()[1]: line for line in typed}
 
     def test_each_bidder_finds_its_own(self) -> None:
-        for journal in (HALL, awaited(HALL, 0)):
+        for journal in (HALL, so_far(HALL, 0)):
             lines, salts = self.publish(journal)
             texts = statements(journal)
             last = "0" if journal.endswith(b"end open\n") else "1"

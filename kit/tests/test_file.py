@@ -61,7 +61,9 @@ class OneFile(unittest.TestCase):
         self.assertEqual({file.name for file in (KIT / "parts").iterdir()}, named)
 
     def test_its_policy(self) -> None:
-        policy = re.search(r'Content-Security-Policy" content="([^"]+)"', SOURCE)[1]
+        found = re.search(r'Content-Security-Policy" content="([^"]+)"', SOURCE)
+        assert found is not None
+        policy = found[1]
         parts = dict(part.strip().split(" ", 1) for part in policy.split(";"))
         script = [text for attributes, text in SCRIPT.findall(SOURCE) if not attributes]
         self.assertEqual(len(script), 1)

@@ -10,7 +10,7 @@ import tempfile
 import unittest
 from pathlib import Path
 
-from support import PROGRAM, ROOT, awaited, needs_program, statements
+from support import PROGRAM, ROOT, needs_program, so_far, statements
 from window import NEEDS, Window
 
 from ice_page import statement_digests
@@ -72,7 +72,7 @@ SAVED = """
 def brightness(colour: str) -> float:
     """The relative luminance of a colour, by the WCAG."""
     parts = [int(part) / 255 for part in re.findall(r"\d+", colour)[:3]]
-    linear = [part / 12.92 if part <= 0.03928 else ((part + 0.055) / 1.055) ** 2.4 for part in parts]
+    linear: list[float] = [part / 12.92 if part <= 0.03928 else ((part + 0.055) / 1.055) ** 2.4 for part in parts]
     return 0.2126 * linear[0] + 0.7152 * linear[1] + 0.0722 * linear[2]
 
 
@@ -85,6 +85,8 @@ def contrast(one: str, other: str) -> float:
 @NEEDS
 class InABrowser(unittest.TestCase):
     """Each test opens the kit anew."""
+
+    window: Window
 
     @classmethod
     def setUpClass(cls) -> None:
@@ -108,12 +110,12 @@ class InABrowser(unittest.TestCase):
         self.window.run("document.getElementById('said').className = ''")
         self.window.choose("file", self.file(content, name))
         self.window.wait("/ (good|bad)$/.test(document.getElementById('said').className)")
-        return self.window.words("#said")
+        return str(self.window.words("#said"))
 
     def tried(self) -> str:
         """The line that is said of the bid that is tried."""
         self.window.wait("/ (good|bad)$/.test(document.getElementById('verdict')?.className)")
-        return self.window.words("#verdict")
+        return str(self.window.words("#verdict"))
 
     def becomes(self, place: str, text: str) -> None:
         """Waits until an element has this text."""
@@ -142,7 +144,7 @@ class InABrowser(unittest.TestCase):
         self.assertEqual(self.window.complaints(), [])
 
     def test_a_session_that_waits(self) -> None:
-        self.assertEqual(self.audit(statements(awaited(HALL, 0))["choir"]), "Right so far")
+        self.assertEqual(self.audit(statements(so_far(HALL, 0))["choir"]), "Right so far")
         shown = self.window.words("#answer")
         self.assertIn("The session waits for bids of round 1.", shown)
         self.assertIn("would say of the last line: no 17 order", shown)
@@ -181,7 +183,7 @@ class InABrowser(unittest.TestCase):
         self.assertEqual(self.window.complaints(), [])
 
     def test_a_bid(self) -> None:
-        self.audit(statements(awaited(HALL, 0))["choir"])
+        self.audit(statements(so_far(HALL, 0))["choir"])
         self.assertEqual(self.tried(), "This bid would be refused")
         self.assertIn("You need not bid", self.window.words("#tried"))
         self.window.type("[name=low-1]", "62")
@@ -216,7 +218,7 @@ class InABrowser(unittest.TestCase):
         self.assertEqual(self.window.complaints(), [])
 
     def test_signs(self) -> None:
-        waiting = awaited(HALL, 0).replace(b"node sell 0 1 -10 -10", b"node sell 0 1 -10 500", 1)
+        waiting = so_far(HALL, 0).replace(b"node sell 0 1 -10 -10", b"node sell 0 1 -10 500", 1)
         self.audit(statements(waiting)["hall"])
         self.tried()
         self.assertIn("Node 1 sells at a value above 0: you would pay up to 500 to be rid of it.", self.window.words("#tried"))
@@ -224,7 +226,7 @@ class InABrowser(unittest.TestCase):
 
     def saved_bid(self) -> bytes:
         """The file of the choir's bid, as it is saved."""
-        self.audit(statements(awaited(HALL, 0))["choir"])
+        self.audit(statements(so_far(HALL, 0))["choir"])
         self.tried()
         self.window.type("[name=low-1]", "76")
         self.becomes("#verdict", "This bid would count")
@@ -232,7 +234,7 @@ class InABrowser(unittest.TestCase):
         self.window.run("document.querySelector('#send button').click()")
         self.window.wait("window.saved && window.savedAs")
         self.assertEqual(self.window.run("savedAs"), "choir.json")
-        return self.window.run("saved").encode()
+        return str(self.window.run("saved")).encode()
 
     def test_the_file_to_send(self) -> None:
         bid = self.file(self.saved_bid(), "1405-choir.json")
@@ -247,12 +249,12 @@ class InABrowser(unittest.TestCase):
     def test_the_file_that_was_sent(self) -> None:
         bid = json.loads(self.saved_bid())
         sent = self.file(json.dumps({"bids": [bid]}).encode(), "round.json")
-        command = [PROGRAM, "run", str(ROOT / "examples/hall.json"), str(sent)]
+        command = [str(PROGRAM), "run", str(ROOT / "examples/hall.json"), str(sent)]
         ran = subprocess.run(command, stdout=subprocess.PIPE, check=False)
         self.assertIn(b"submit choir 5 0 76 0 0 20 5 0 80 0 0 30\nverdict accepted\n", ran.stdout)
 
     def test_by_keys_alone(self) -> None:
-        self.audit(statements(awaited(HALL, 0))["choir"])
+        self.audit(statements(so_far(HALL, 0))["choir"])
         self.tried()
         self.window.run("document.getElementById('round').focus()")
         stops = []
@@ -290,7 +292,7 @@ class InABrowser(unittest.TestCase):
         self.window.type("#salt", salt)
         self.window.run("document.getElementById('compare-go').click()")
         self.window.wait("/ (good|bad)$/.test(document.getElementById('found').className)")
-        return self.window.words("#found")
+        return str(self.window.words("#found"))
 
     def test_digests(self) -> None:
         journal, salts = self.file(HALL, "a.journal"), self.folder / "salts"
@@ -337,7 +339,7 @@ class InABrowser(unittest.TestCase):
         self.assertNotIn("\u202e", shown)
 
     def test_a_long_file_may_be_stopped(self) -> None:
-        front = json.dumps(statements(awaited(HALL, 0))["choir"].decode().removesuffix("end open\n"))
+        front = json.dumps(statements(so_far(HALL, 0))["choir"].decode().removesuffix("end open\n"))
         bid = json.dumps("submit choir 5 0 60 0 0 20 5 0 80 0 0 30\nverdict 42\n")
         self.window.run(f"takeFiles([new File([{front}, {bid}.repeat(100000)], 'long')])")
         self.assertEqual(self.window.run("document.getElementById('stop').hidden"), False)
@@ -347,7 +349,7 @@ class InABrowser(unittest.TestCase):
         self.assertEqual(self.audit(statements(HALL)["choir"]), "Yes: every test passed")
 
     def test_each_width_look_and_language(self) -> None:
-        texts = [statements(HALL)["choir"], statements(awaited(HALL, 0))["hall"], statements(SEASON)["Northern-Airways"]]
+        texts = [statements(HALL)["choir"], statements(so_far(HALL, 0))["hall"], statements(SEASON)["Northern-Airways"]]
         for number, (width, dark, language) in enumerate(((1160, False, "de"), (390, True, "en"), (390, False, "de"), (320, True, "de"))):
             self.window.open(width, dark, language)
             for text in texts:

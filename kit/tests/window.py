@@ -60,8 +60,8 @@ class Window(Tab):
 
     def press(self, key: str, text: str = "") -> None:
         """Presses a key."""
-        given = {"key": key, "code": key, "windowsVirtualKeyCode": CODES.get(key, 0)}
-        down = {"type": "keyDown", "text": text} if text else {"type": "rawKeyDown"}
+        given: dict[str, Any] = {"key": key, "code": key, "windowsVirtualKeyCode": CODES.get(key, 0)}
+        down: dict[str, Any] = {"type": "keyDown", "text": text} if text else {"type": "rawKeyDown"}
         self.ask("Input.dispatchKeyEvent", **down, **given)
         self.ask("Input.dispatchKeyEvent", type="keyUp", **given)
 

@@ -15,7 +15,7 @@ SOURCES = ["ice_trade/src/faults.rt", "ice_read/src/cause.rt", "ice_tree/src/fau
 class Numbers(unittest.TestCase):
     """Each test has some of the sources, with the table that is made of them."""
 
-    def setUp(self):
+    def setUp(self) -> None:
         self.top = pathlib.Path(tempfile.mkdtemp(prefix="numbers-"))
         self.addCleanup(shutil.rmtree, self.top)
         for name in [*(f"crates/{source}" for source in SOURCES), "docs/check_numbers", "launch/numbers"]:
@@ -36,13 +36,13 @@ class Numbers(unittest.TestCase):
         self.assertIn(old, text)
         (self.top / name).write_text(text.replace(old, new))
 
-    def test_a_text_that_changes(self):
+    def test_a_text_that_changes(self) -> None:
         self.changed("crates/ice_trade/src/faults.rt", "a bidder of this name is there already", "two bidders have this name")
         status, said = self.checked()
         self.assertEqual(status, 1)
         self.assertIn("launch/numbers: 11: the types say `DuplicateBidder: two bidders have this name`, and the table", said)
 
-    def test_a_number_that_is_new_and_one_that_goes(self):
+    def test_a_number_that_is_new_and_one_that_goes(self) -> None:
         self.changed("crates/ice_read/src/cause.rt", "Some(90)", "Some(89)")
         status, said = self.checked()
         self.assertEqual(status, 1)
@@ -51,13 +51,13 @@ class Numbers(unittest.TestCase):
         status, said = self.checked("--write")
         self.assertEqual((status, "89: `?` isn't a name of its own" in said), (1, True))
 
-    def test_words_that_are_wanted(self):
+    def test_words_that_are_wanted(self) -> None:
         self.changed("launch/numbers", "\tits bids may sell more of a good than it owns", "\t")
         self.assertIn("14: it wants words", self.checked()[1])
         self.changed("launch/numbers", "\tsale\t", "\tname\t")
         self.assertIn("14: `name` isn't a name of its own", self.checked()[1])
 
-    def test_a_line_that_is_none(self):
+    def test_a_line_that_is_none(self) -> None:
         with open(self.top / "launch/numbers", "a", encoding="ascii") as table:
             table.write("95 \n")
         ran = subprocess.run([sys.executable, self.top / "docs/check_numbers"], capture_output=True, text=True, check=False)
