@@ -134,7 +134,7 @@ def behind(held: Held, folder: Folder, command: str) -> Iterator[str]:
         yield f"for you: {folder.page}, {folder.tables}/, {folder.journal}"
         yield from payments(held.journal)
         return
-    yield f"to send to each bidder: NAME-{held.number}.html"
+    yield f"to send to each bidder: NAME-{held.number}.statement and NAME-{held.number}.html"
     yield f"for you: {folder.page}, {folder.journal}"
     following = held.number + 1
     yield f"next: bids of round {following} into bids-{following}/, each as TIME-NAME.json; then"

@@ -10,6 +10,8 @@ from pathlib import Path
 from ice_page import command as page, numbers
 from ice_page.journal import BadJournal, Journal
 from ice_page.names import name_all, read_names
+from ice_page.statement_command import Kept
+from ice_page.statements import Watched, write_statements
 from ice_page.words import awaited
 
 from .collecting import collect, late
@@ -165,6 +167,15 @@ class Turn:
         for name in names:
             own = [f"--bidder={name}", *checked, *digest]
             self.page(path, f"{name}-{held.number}.html", *own)
+        self.statements_so_far(path, held.number)
+
+    def statements_so_far(self, path: Path, number: int) -> None:
+        """Makes each bidder's statement of a session that waits for bids."""
+        found: dict[str, Kept] = {}
+        with path.open("rb") as stream:
+            write_statements(Watched(stream), lambda name: found.setdefault(name, Kept()))
+        for name, kept in found.items():
+            self.staged.put(f"{name}-{number}.statement", bytes(kept.data))
 
     def public_journal(self, path: Path) -> Journal:
         """The journal again, with full names of goods where a table has them."""

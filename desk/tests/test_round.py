@@ -16,6 +16,8 @@ import unittest
 
 from support import NAMES, PROGRAM, SEASON, TOP, Desk, fronts
 
+from ice_page.statement_command import statement_of
+
 ROUND = TOP / "desk" / "ice-round"
 FRONT = re.compile(r"(front|whole) (\d+) (\d+) ([0-9a-f]{64})")
 
@@ -27,7 +29,12 @@ class Rounds(Desk):
         status, output, errors = self.round()
         self.assertEqual((status, errors), (9, ""))
         wanted = {"market.json", "market.journal", "market.html", "market-public.html", "published"}
-        self.assertEqual(set(self.files()), wanted | {f"{name}-0.html" for name in NAMES})
+        files, kinds = self.files(), ("html", "statement")
+        self.assertEqual(set(files), wanted | {f"{name}-0.{kind}" for name in NAMES for kind in kinds})
+        for name in NAMES:
+            due = statement_of(str(self.folder / "market.journal"), name)
+            self.assertEqual((files[f"{name}-0.statement"], due[-9:]), (due, b"end open\n"))
+        self.assertIn("to send to each bidder: NAME-0.statement and NAME-0.html\n", output)
         self.assertIn("open: round 1: bids are awaited", output)
         self.assertIn("  price of arr-1830 117.5 (235/2)\n", output)
         self.assertIn("  regret 705\n", output)
