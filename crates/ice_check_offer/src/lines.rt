@@ -109,7 +109,7 @@ pub fn bid_of(name: &Name, lo: &[i32], hi: &[i32]) -> Bid
     requires { IsSubmission (record { name = name.now; lo = lo.now; hi = hi.now }) }
     ensures { result ≡ record { name = name.now; lo = lo.now; hi = hi.now } }
 {
-    Bid::new(name.copy(), &widened(lo), &widened(hi))
+    Bid::new(name.copy(), widened(lo), widened(hi))
 }
 
 /// The bid that the record states.

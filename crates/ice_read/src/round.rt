@@ -91,7 +91,7 @@ fn bid_at(value: &Value) -> Result<Bid, ReadFault>
     let bidder = bidder_in(value)?;
     let lo = values_in(value, "lo")?;
     let hi = values_in(value, "hi")?;
-    Ok(Bid::new(bidder, &lo, &hi))
+    Ok(Bid::new(bidder, lo, hi))
 }
 
 /// The list of at most 400 bids in a file.

@@ -55,7 +55,7 @@ fn bid_of(bidder: &Name, bounds: &Bounds) -> Bid
     let lo = lower_values(bounds);
     let hi = upper_values(bounds);
     let _nodes = bounds.len();
-    Bid::new(bidder.copy(), &lo, &hi)
+    Bid::new(bidder.copy(), lo, hi)
 }
 
 /// The true values of a bidder.

@@ -27,28 +27,14 @@ impl Model for Bid {
     ghost invariant = { λ b. IsBid (record { name = b.bidder; lo = b.lo.items; hi = b.hi.items }) };
 }
 
-/// The same values, kept in place.
-fn list_of(values: &[i64]) -> ArrayVec<i64, 200>
-    requires { AreValues values.now }
-    ensures { result.items ≡ values.now }
-{
-    let mut list = ArrayVec::new();
-    list.try_extend_from_slice(values).unwrap();
-    list
-}
-
 impl Bid {
     /// The bid of this bidder with these values. It takes no memory.
-    pub fn new(bidder: Name, lo: &[i64], hi: &[i64]) -> Bid
-        requires lo { AreValues lo.now }
-        requires hi { AreValues hi.now }
-        ensures { result ≡ record { name = bidder; lo = lo.now; hi = hi.now } }
+    pub fn new(bidder: Name, lo: ArrayVec<i64, 200>, hi: ArrayVec<i64, 200>) -> Bid
+        requires lo { AreValues lo.items }
+        requires hi { AreValues hi.items }
+        ensures { result ≡ record { name = bidder; lo = lo.items; hi = hi.items } }
     {
-        Bid {
-            bidder,
-            lo: list_of(lo),
-            hi: list_of(hi),
-        }
+        Bid { bidder, lo, hi }
     }
 
     /// The name of the bidder.

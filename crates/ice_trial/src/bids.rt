@@ -27,8 +27,7 @@ fn truth_bid(bidder: &Name, truth: &Bounds) -> Bid
     requires { IsExact truth.now }
     ensures { result ≡ record { name = bidder.now; lo = truth.now.lo; hi = truth.now.hi } }
 {
-    let values = lower_values(truth);
-    Bid::new(bidder.copy(), &values, &values)
+    Bid::new(bidder.copy(), lower_values(truth), lower_values(truth))
 }
 
 /// The bids of all bidders that state their true values, in order.
