@@ -21,6 +21,6 @@ mod write_session;
 pub use items::node_bits;
 pub use laws::{bytes_tell_journals, packed_journals_come_back, texts_tell_records};
 pub use line::{Change, EndWord, Kind, Line, LowestFraction, Version};
-pub use lines::{BadLine, LinesEnd, next_record, read_lines};
+pub use lines::{BadLine, next_record};
 pub use record::read_record;
 pub use write::write_record;
