@@ -5,9 +5,9 @@
 # A crate starts when those below it are done, the one with the longest chain of crates above it first. ICE_LANES=N says how
 # many are built side by side.
 #
-# `rt` holds a crate's folder, and those of all crates below it, while it works, so only one works in a checkout at a time.
-# Lane 0 is the checkout. Each further lane is a copy of the sources, in which the libraries below are links to those that
-# were built, and what it makes of a crate is moved to the checkout when the crate ends, is interrupted or fails.
+# A crate is proved from nothing, by `rattle build --statements`, as `rt ci` does it: the library that it leaves has what other
+# crates can cite, and no proof. So a crate above reads that alone, where a library of `rt lib` has all proofs. All libraries
+# lie in one folder, each beside the sum of what it was made from.
 
 : "${top:?}" "${program:?}"
 
@@ -33,18 +33,9 @@ crates_in_order() {
     ' "$top/crates.txt"
 }
 
-# Whether a crate seems to be proved already: its library, and those below it, are newer than their sources. rt decides that
-# by their contents; here it only tells how long a build takes.
-seems_built() {
-    local it made="$top/crates/$1/out/rlib/stamp"
-    [ -f "$made" ] || return 1
-    for it in ${below[$1]}; do [ "${weight[$it]}" = 1 ] || return 1; done
-    [ -z "$(find "$top/crates/$1/src" "$top/crates/$1/specs" "$top/crates/$1/proofs" -newer "$made" -print -quit 2>/dev/null)" ]
-}
-
-# Fills `crates`, those with the longest chain above them first, `below`, `weight`, and `chain`, the weight of the longest
-# chain that begins with a crate. A weight is about a second of one processor, told by the bytes of the code, and more for a
-# crate that stands on many.
+# Fills `crates`, those that are to be built, with the longest chain above them first, and for each crate `named`, those that its
+# line names, `below`, `sum`, `finished`, `weight`, and `chain`, the weight of the longest chain that begins with it. A weight is
+# about a second of one processor, told by the bytes of the code, and more for a crate that stands on many.
 plan() {
     local name it all under size path order=()
     local -A size_of=()
@@ -53,21 +44,31 @@ plan() {
         name=${name##*/}
         size_of[$name]=$((${size_of[$name]:-0} + size))
     done < <(find "$top"/crates/*/src -name '*.rt' -printf '%s %H\n')
+    while IFS=: read -r name all; do
+        named[$name]=$all
+    done < <(sed 's/#.*//; s/ *:/:/' "$top/crates.txt" | grep :)
     while read -r name all; do
         order+=("$name")
         below[$name]=$all
         read -ra under <<<"$all"
         weight[$name]=$(((1000 + 200 * ${#under[@]} + ${size_of[$name]:-0}) / 400))
-        ! seems_built "$name" || weight[$name]=1
+        sum_up "$name"
+        if is_built "$name"; then
+            finished[$name]=yes
+            begun[$name]=yes
+        else
+            rm -f "$libraries/$name.sum"
+        fi
     done < <(crates_in_order)
     for ((it = ${#order[@]} - 1; it >= 0; it--)); do
         name=${order[$it]}
+        [ -z "${finished[$name]:-}" ] || weight[$name]=0
         chain[$name]=$((${chain[$name]:-0} + ${weight[$name]}))
         for all in ${below[$name]}; do
             [ "${chain[$all]:-0}" -ge "${chain[$name]}" ] || chain[$all]=${chain[$name]}
         done
     done
-    mapfile -t crates < <(for name in "${order[@]}"; do echo "${chain[$name]} $name"; done | sort -s -k1,1nr | cut -d' ' -f2)
+    mapfile -t crates < <(for name in "${order[@]}"; do [ "${finished[$name]:-}" ] || echo "${chain[$name]} $name"; done | sort -s -k1,1nr | cut -d' ' -f2)
 }
 
 since() {
@@ -127,101 +128,66 @@ lanes_here() {
     echo "$processors"
 }
 
-# Makes the folder for the lanes' copies. Neither git nor rt walks into .git; where that is no folder here, as in a further work
-# tree, the copies lie below out/ of the program, which is built in the checkout and after all others.
-# What a launcher left that was killed is removed: this one holds the lock.
-make_room() {
-    local home="$top/.git"
-    [ -d "$home" ] && [ ! -L "$home" ] && [ -w "$home" ] || home="$top/crates/ice_cli/out"
-    ! command -v flock >/dev/null || rm -rf "$home"/ice-lanes-*
-    mkdir -p "$home" && room=$(mktemp -d "$home/ice-lanes-XXXXXX")
+# Sets `sum` of a crate: what its library is made from, with the toolchain and all libraries below.
+sum_up() {
+    local it
+    sum[$1]=$({
+        cat "$kit/WHAT"
+        echo "$1: ${named[$1]}"
+        cd "$top/crates/$1" && find src specs proofs -type f -print0 2>/dev/null | LC_ALL=C sort -z | xargs -0r sha256sum
+        for it in ${named[$1]}; do echo "${sum[$it]:-}"; done
+    } | sha256sum | cut -d' ' -f1)
 }
 
-remove_room() {
-    # what rt started may end a moment after rt
-    rm -rf "$room" 2>/dev/null || { sleep 1 && rm -rf "$room"; }
-}
-
-lane_folder() {
-    if [ "$1" = 0 ]; then echo "$top"; else echo "$room/lane-$1"; fi
-}
-
-# Copies the sources of the crates. A list names only crates whose folders are there.
-make_lane() {
-    local folder name part parts=()
-    folder=$(lane_folder "$1")
-    mkdir -p "$folder" || return
-    for name in "${crates[@]}"; do
-        for part in src specs proofs; do
-            [ ! -d "$top/crates/$name/$part" ] || parts+=("crates/$name/$part")
-        done
-    done
-    awk -v names="${crates[*]}" '
-        BEGIN { count = split(names, all, " "); for (i = 1; i <= count; i++) is_here[all[i]] = 1 }
-        { line = $0; sub(/#.*/, ""); split($0, part, /[: ]/) }
-        part[1] in is_here { print line }
-    ' "$top/crates.txt" >"$folder/crates.txt" || return
-    (cd "$top" && cp -pR --parents HANDLES "${parts[@]}" "$folder/")
-}
-
-# Links of a folder's files where both places are on one disk, and else copies. No rt writes into a file that it made: it makes
-# such a file anew.
-linked() {
-    mkdir -p "$(dirname "$2")" && { cp -al "$1" "$2" 2>/dev/null || { rm -rf "$2" && cp -pR "$1" "$2"; }; }
-}
-
-# Brings what a lane made of its crate to the checkout, whether or not it was proved: the next build begins with it. May be
-# called again where it was interrupted.
-bring_back() {
-    local name=${doing[$1]:-} made to
-    made="$(lane_folder "$1")/crates/$name/out"
-    to="$top/crates/$name/out"
-    [ "$1" != 0 ] && [ "$name" ] && [ -d "$made" ] || return 0
-    [ ! -d "$to" ] || mv "$to" "$room/old-$name" || return
-    mv "$made" "$to" && rm -rf "$room/old-$name"
+# Whether a crate was made from what is there now, and still is where it was put.
+is_built() {
+    [ "$(cat "$libraries/$1.sum" 2>/dev/null)" = "${sum[$1]}" ] || return
+    if [ "$1" = ice_cli ]; then [ -x "$program" ]; else [ -d "$libraries/$1.rlib" ]; fi
 }
 
 # Starts a crate in a lane with so many jobs.
 start() {
-    local lane=$1 jobs=$2 name=$3 folder it words
-    folder=$(lane_folder "$lane")
-    if [ "$lane" != 0 ]; then
-        [ -d "$folder" ] || make_lane "$lane" || return
-        for it in ${below[$name]}; do
-            [ -z "${brought[$lane/$it]:-}" ] || continue
-            linked "$top/crates/$it/out/rlib" "$folder/crates/$it/out/rlib" || return
-            brought[$lane/$it]=yes
-        done
-        [ ! -d "$top/crates/$name/out" ] || linked "$top/crates/$name/out" "$folder/crates/$name/out" || return
-    fi
-    number=$((number + 1))
-    echo "ice: $number of ${#crates[@]}, $name ($(since) so far, $(to_go) to go)" >&2
-    # Where nothing runs beside it, rt tells by itself how many jobs there is room for.
-    words=(--jobs "$jobs")
-    [ "$lanes" != 1 ] || words=()
-    # The program answers a journal in this run, since status 0 is then its own and no other end of rt has it.
+    local lane=$1 jobs=$2 name=$3 it words
+    words=(build --crate-name "$name" --antt-project "$kit/rattle/logic/antt-project.json" --logic-built "$kit/logic_built")
+    words+=(-L "dependency=$kit/rlibs" -L "dependency=$libraries" --extern "std=$kit/rlibs/std.rlib")
+    for it in ${named[$name]}; do
+        if [ "${sum[$it]:-}" ]; then words+=(--extern "$it=$libraries/$it.rlib"); else words+=(--extern "$it=$kit/rlibs/$it.rlib"); fi
+    done
+    words+=(--links "$name=" --jobs "$jobs")
     if [ "$name" = ice_cli ]; then
-        words=(run "${words[@]}" -- check "$top/examples/sample.journal")
+        words+=(--toolchain "$kit/toolchain" --backend llvm -o "$room/ice_cli.o" src/main.rt)
     else
-        words=(lib "${words[@]}")
+        words+=(--statements -o "$room/$name.rlib" src/lib.rt)
     fi
     (
         trap - EXIT HUP INT TERM
-        cd "$folder/crates/$name" && exec rt "${words[@]}"
+        cd "$top/crates/$name" && exec "$kit/bin/rattle" "${words[@]}"
     ) >"$room/log-$lane" 2>&1 </dev/null 9<&- &
     child[lane]=$!
     doing[lane]=$name
     begun_at[lane]=$SECONDS
 }
 
-# Ends what runs in the lanes, and brings what was made to the checkout.
+# Takes what was made of a crate, and notes what it was made from, unless that changed since.
+built() {
+    local was=${sum[$1]}
+    if [ "$1" = ice_cli ]; then
+        "$kit/bin/rattle-link" --target x86_64-unknown-linux-gnu --toolchain "$kit/toolchain" -o "$room/ice_cli" "$room/ice_cli.o" \
+            "$kit/c/libos_c.a" "$kit/c/liblibc_c.a" >"$room/log-link" 2>&1 || { cat "$room/log-link" >&2; return 1; }
+        mv -f "$room/ice_cli" "$program" || return
+    else
+        rm -rf "${libraries:?}/$1.rlib" && mv "$room/$1.rlib" "$libraries/" || return
+    fi
+    sum_up "$1"
+    [ "$was" != "${sum[$1]}" ] || echo "$was" >"$libraries/$1.sum"
+    sum[$1]=$was
+}
+
+# Ends what runs in the lanes.
 end_all() {
     local lane
     for lane in "${!child[@]}"; do kill "${child[$lane]}" 2>/dev/null; done
-    for lane in "${!doing[@]}"; do
-        [ -z "${child[$lane]:-}" ] || wait "${child[$lane]}" 2>/dev/null
-        bring_back "$lane"
-    done
+    for lane in "${!child[@]}"; do wait "${child[$lane]}" 2>/dev/null; done
 }
 
 interrupted() {
@@ -236,7 +202,7 @@ failed() {
     unset "child[$1]"
     end_all
     cat "$room/log-$1" >&2
-    echo "ice: ${doing[$1]} could not be built: rt ended with status $2, after the lines above; docs/troubleshooting.md says what to do at status 70" >&2
+    echo "ice: ${doing[$1]} could not be built: rattle ended with status $2, after the lines above; docs/troubleshooting.md says what to do at status 70" >&2
     exit 70
 }
 
@@ -249,9 +215,15 @@ await_one() {
         [[ $running != *" ${child[$lane]} "* ]] || continue
         wait "${child[$lane]}"
         status=$?
+        # 137 is a kill, most likely for want of memory: once more, with one job.
+        if [ "$status" = 137 ] && [ -z "${again[${doing[$lane]}]:-}" ]; then
+            again[${doing[$lane]}]=yes
+            start "$lane" 1 "${doing[$lane]}"
+            continue
+        fi
         [ "$status" = 0 ] || failed "$lane" "$status"
         unset "child[$lane]"
-        bring_back "$lane" || interrupted 70
+        built "${doing[$lane]}" || interrupted 70
         finished[${doing[$lane]}]=yes
         unset "doing[$lane]"
     done
@@ -273,24 +245,40 @@ start_ready() {
         [ "$jobs" -ge 1 ] || jobs=1
         [ "$jobs" -le 4 ] || jobs=4
         begun[$name]=yes
-        start "$lane" "$jobs" "$name" || {
-            echo "ice: the sources, or the libraries below $name, could not be copied to build $lanes crates at a time: see the line above" >&2
-            interrupted 70
-        }
+        number=$((number + 1))
+        echo "ice: $number of ${#crates[@]}, $name ($(since) so far, $(to_go) to go)" >&2
+        start "$lane" "$jobs" "$name"
         free=$((free - jobs))
     done
 }
 
+# Makes the folder of the libraries, and in it one for what is being made. Neither git nor rt walks into .git; where that is no
+# folder here, as in a further work tree, they lie below out/ of the program. What a launcher left that was killed is removed:
+# this one holds the lock, and what such a launcher's rattle may still write lands nowhere.
+make_room() {
+    libraries="$top/.git"
+    [ -d "$libraries" ] && [ ! -L "$libraries" ] && [ -w "$libraries" ] || libraries="$top/crates/ice_cli/out"
+    libraries+=/ice-libraries
+    ! command -v flock >/dev/null || rm -rf "$libraries"/new-*
+    mkdir -p "$libraries" "${program%/*}" && room=$(mktemp -d "$libraries/new-XXXXXX") && : >"$room/begun"
+}
+
+remove_room() {
+    # what was told to end may end a moment after it
+    rm -rf "$room" 2>/dev/null || { sleep 1 && rm -rf "$room"; }
+}
+
 build() {
-    if ! command -v rt >/dev/null; then
+    local crates=() number=0 started=$SECONDS lanes kit libraries room whole pace=1000
+    local -A named=() below=() sum=() weight=() chain=() begun=() finished=() again=()
+    local -a child=() doing=() begun_at=()
+    if ! kit=$(command -v rt); then
         echo "ice: the program isn't built yet, and the toolchain's command rt isn't on the PATH: see docs/troubleshooting.md, status 70" >&2
         exit 70
     fi
-    local crates=() number=0 started=$SECONDS lanes room whole pace=1000
-    local -A below=() weight=() chain=() brought=() begun=() finished=()
-    local -a child=() doing=() begun_at=()
+    kit=$(readlink -f "$kit")
+    kit=${kit%/bin/rt}
     make_room || exit 70
-    : >"$room/begun"
     trap remove_room EXIT
     trap 'interrupted 129' HUP
     trap 'interrupted 130' INT
@@ -298,8 +286,8 @@ build() {
     plan
     lanes=$(lanes_here)
     whole=$(weight_left)
-    echo "ice: proving and building the program's ${#crates[@]} crates, $lanes at a time: $(to_go); up to 4.5 GB of memory for each, 11 GB of disk; ./ice-unproved answers meanwhile" >&2
-    while [ "${#finished[@]}" -lt "${#crates[@]}" ]; do
+    echo "ice: proving and building the program's ${#crates[@]} crates, $lanes at a time: $(to_go); up to 4 GB of memory for each, 3 GB of disk; ./ice-unproved answers meanwhile" >&2
+    while [ "${#finished[@]}" -lt "${#below[@]}" ]; do
         start_ready
         await_one
     done

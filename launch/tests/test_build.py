@@ -1,4 +1,4 @@
-"""Tests of the launcher's build, in a repository of seven crates and with a stand-in for rt."""
+"""Tests of the launcher's build, in a repository of seven crates and with a stand-in for the toolchain."""
 from __future__ import annotations
 
 import os
@@ -24,6 +24,7 @@ ice_f: ice_e
 ice_e: ice_a # a comment
 ice_other: ice_a
 """
+LIBRARIES = ".git/ice-libraries"
 PROGRAM = "#!/bin/sh\necho answer \"$@\"\nexit 0\n"
 
 
@@ -52,7 +53,7 @@ class Build(unittest.TestCase):
         (self.top / "crates/ice_cli/src/main.rt").write_text(PROGRAM)
         subprocess.run(["git", "init", "-q", self.top], check=True)
         self.log = self.room / "log"
-        self.where = {**os.environ, "PATH": f"{TESTS}:{os.environ['PATH']}", "RT_LOG": str(self.log), "ICE_LANES": "3"}
+        self.where = {**os.environ, "PATH": f"{TESTS}/kit/bin:{os.environ['PATH']}", "RT_LOG": str(self.log), "ICE_LANES": "3"}
 
     def start(self, **settings: str) -> subprocess.Popen[str]:
         """Starts the launcher with these settings."""
@@ -73,7 +74,7 @@ class Build(unittest.TestCase):
         return started.returncode, out, err
 
     def await_crate(self, name: str, started: subprocess.Popen[str]) -> None:
-        """Waits until rt works in a crate."""
+        """Waits until rattle works in a crate."""
         for _ in range(400):
             if self.log.exists() and name in self.log.read_text():
                 return
@@ -84,19 +85,18 @@ class Build(unittest.TestCase):
         self.fail(f"{name} was not begun: {started.communicate()}")
 
     def runs(self) -> list[list[str]]:
-        """The crate, the checkout or lane, and the words, of each run of rt since this was last asked."""
+        """The crate and the jobs of each run of rattle since this was last asked."""
         lines = self.log.read_text().splitlines() if self.log.exists() else []
         self.log.unlink(missing_ok=True)
-        return [line.split(" ", 2) for line in lines]
+        return [line.split() for line in lines]
 
     def proved(self) -> set[str]:
         """The crates whose library the checkout has."""
-        return {made.parent.parent.parent.name for made in self.top.glob("crates/*/out/rlib/stamp")}
+        return {made.stem for made in self.top.glob(f"{LIBRARIES}/*.sum")}
 
     def is_clean(self) -> None:
-        """Nothing is left of the lanes."""
-        left = [*self.top.glob(".git/ice-*"), *self.top.glob("crates/ice_cli/out/ice-*")]
-        self.assertEqual(left, [])
+        """Nothing is left of what is being made."""
+        self.assertEqual([*self.top.rglob("new-*")], [])
 
     def test_builds_side_by_side(self) -> None:
         status, out, err = self.launch(RT_SECONDS="0.3")
@@ -104,20 +104,23 @@ class Build(unittest.TestCase):
         runs = self.runs()
         self.assertEqual({run[0] for run in runs}, {"ice_a", "ice_b", "ice_c", "ice_d", "ice_e", "ice_f", "ice_cli"})
         self.assertEqual(len(runs), 7)
-        self.assertGreater({run[1] for run in runs}, {"checkout"})
-        self.assertEqual([run[1] for run in runs if run[0] in ("ice_a", "ice_cli")], ["checkout"] * 2)
+        jobs = dict(runs)
+        self.assertEqual([jobs[name] for name in ("ice_a", "ice_b", "ice_e", "ice_cli")], ["3", "1", "2", "3"])
         self.assertEqual(len(re.findall(r"(?m)^ice: \d of 7, \w+ \(0 min \d\d s so far, .* to go\)$", err)), 7)
         self.assertRegex(err, r"\Aice: proving and building the program's 7 crates, 3 at a time: ")
+        self.assertNotIn("linked", err)
         self.assertRegex(err, r"\nice: built in 0 min \d\d s\n\Z")
         self.is_clean()
         self.assertEqual(self.launch()[2], "")
         self.assertEqual(self.runs(), [])
 
-    def test_one_lane_leaves_the_jobs_to_rt(self) -> None:
+    def test_one_lane_has_one_job(self) -> None:
         self.assertEqual(self.launch(ICE_LANES="1")[0], 0)
-        runs = self.runs()
-        self.assertEqual({run[1] for run in runs}, {"checkout"})
-        self.assertNotIn("--jobs", " ".join(run[2] for run in runs))
+        self.assertEqual({run[1] for run in self.runs()}, {"1"})
+
+    def test_what_was_killed_is_tried_once_more(self) -> None:
+        self.assertEqual(self.launch(RT_KILLED="ice_d")[0], 0)
+        self.assertEqual([run for run in self.runs() if run[0] == "ice_d"][-1], ["ice_d", "1"])
 
     def test_nothing_changed(self) -> None:
         self.launch()
@@ -127,26 +130,34 @@ class Build(unittest.TestCase):
         (self.top / "crates.txt").touch()
         status, out, _ = self.launch()
         self.assertEqual((status, out), (0, "answer one two words\n"))
-        self.assertEqual(len(self.runs()), 7)
+        self.assertEqual(self.runs(), [])
         self.assertEqual(program.stat().st_ino, was)
         self.assertEqual(self.launch()[2], "")
+        program.unlink()
+        self.assertEqual(self.launch()[:2], (0, "answer one two words\n"))
+        self.assertEqual([run[0] for run in self.runs()], ["ice_cli"])
+
+    def test_what_changed_and_what_is_above_it_is_built(self) -> None:
+        self.launch()
+        self.runs()
+        (self.top / "crates/ice_c/proofs/More.antt").write_text("a lemma")
+        self.assertEqual(self.launch()[0], 0)
+        self.assertEqual(sorted(run[0] for run in self.runs()), ["ice_c", "ice_cli", "ice_d"])
 
     def test_a_proof_fails_and_the_next_build_goes_on(self) -> None:
         status, out, err = self.launch(RT_FAIL="ice_d", RT_SECONDS="0.2")
         self.assertEqual((status, out), (70, ""))
-        self.assertIn("\nthis proof fails\nice: ice_d could not be built: rt ended with status 1, after the lines above; ", err)
+        self.assertIn("\nthis proof fails\nice: ice_d could not be built: rattle ended with status 1, after the lines above; ", err)
         self.is_clean()
         done = self.proved()
         self.assertGreaterEqual(done, {"ice_a", "ice_b", "ice_c"})
-        self.assertTrue((self.top / "crates/ice_d/out/incremental/kept").exists())
-        before = {name: (self.top / f"crates/{name}/out/rlib/stamp").stat().st_ino for name in done}
+        self.runs()
         self.assertEqual(self.launch()[0], 0)
-        for name, it in before.items():
-            self.assertEqual((self.top / f"crates/{name}/out/rlib/stamp").stat().st_ino, it, name)
+        self.assertEqual({run[0] for run in self.runs()} & done, set())
 
     def test_signals_end_it_and_keep_what_was_done(self) -> None:
         for number in (signal.SIGTERM, signal.SIGINT, signal.SIGHUP):
-            shutil.rmtree(self.top / "crates/ice_a/out", ignore_errors=True)
+            shutil.rmtree(self.top / LIBRARIES, ignore_errors=True)
             self.runs()
             started = self.start(RT_SLOW="ice_b ice_e")
             self.await_crate("ice_e", started)
@@ -159,9 +170,7 @@ class Build(unittest.TestCase):
             self.assertIn("ice_a", self.proved())
             time.sleep(0.2)
             beside = subprocess.run(["ps", "-eo", "args"], stdout=subprocess.PIPE, text=True, check=True).stdout
-            self.assertNotIn(f"{TESTS}/rt", beside)
-            for name in ("ice_b", "ice_e"):
-                shutil.rmtree(self.top / f"crates/{name}/out", ignore_errors=True)
+            self.assertNotIn(f"{TESTS}/kit/bin/rattle", beside)
         self.assertEqual(self.launch()[0], 0)
 
     def test_of_two_launchers_one_builds(self) -> None:
@@ -178,7 +187,7 @@ class Build(unittest.TestCase):
         self.await_crate("ice_e", started)
         started.kill()
         started.communicate()
-        self.assertNotEqual([*self.top.glob(".git/ice-lanes-*")], [])
+        self.assertNotEqual([*self.top.glob(f"{LIBRARIES}/new-*")], [])
         time.sleep(1.5)
         self.assertEqual(self.launch()[0], 0)
         self.is_clean()
@@ -186,6 +195,7 @@ class Build(unittest.TestCase):
     def test_without_a_git_folder(self) -> None:
         shutil.rmtree(self.top / ".git")
         self.assertEqual(self.launch()[0], 0)
+        self.assertTrue((self.top / "crates/ice_cli/out/ice-libraries/ice_a.sum").exists())
         self.is_clean()
 
     def test_what_changes_during_a_build_is_built_the_next_time(self) -> None:
