@@ -101,8 +101,9 @@ impl Groups {
         Ok(())
     }
 
-    /// The sets of a group are all there.
-    fn close(&mut self, group: Group) -> Result<(), Fault>
+    /// The sets of a group are all there: where they are balanced, its log begins, or an assignment
+    /// is complete.
+    fn end_sets(&mut self, group: Group) -> Result<(), Fault>
         requires kept { AreKept self.old }
         requires full { length self.old.stated.sets ≡ length (trees_of self.old.stated.exchange) }
         requires group { IsGroupAt self.old group }
@@ -121,8 +122,8 @@ impl Groups {
         }
     }
 
-    /// A satisfied set of the next bidder.
-    fn put(&mut self, group: Group, set: &NodeSet) -> Result<(), Fault>
+    /// The set of the next bidder is put; behind that of the last bidder the sets end.
+    fn put_set(&mut self, group: Group, set: &NodeSet) -> Result<(), Fault>
         requires next { self.old.next ≡ Next.Set group }
         requires kept { AreKept self.old }
         requires ready { IsReady self.old (Next.Set group) }
@@ -132,14 +133,14 @@ impl Groups {
     {
         self.stated.put(set);
         if self.stated.is_full() {
-            self.close(group)
+            self.end_sets(group)
         } else {
             Ok(())
         }
     }
 
-    /// A satisfied set of the next bidder, which may be left out.
-    fn put_whole(&mut self, group: Group, set: &NodeSet) -> Result<(), Fault>
+    /// A satisfied set of the next bidder is put, unless it trades for the bidder who is left out.
+    fn put_if_allowed(&mut self, group: Group, set: &NodeSet) -> Result<(), Fault>
         requires next { self.old.next ≡ Next.Set group }
         requires kept { AreKept self.old }
         requires ready { IsReady self.old (Next.Set group) }
@@ -149,11 +150,11 @@ impl Groups {
         if is_left_out(group, self.stated.taken(), set) {
             return Err(Fault::Here(Rule::Fixing));
         }
-        self.put(group, set)
+        self.put_set(group, set)
     }
 
-    /// A set of the next bidder.
-    fn put_any(&mut self, group: Group, set: &NodeSet) -> Result<(), Fault>
+    /// A set of the next bidder is put, if it is satisfied and allowed.
+    fn put_if_satisfied(&mut self, group: Group, set: &NodeSet) -> Result<(), Fault>
         requires next { self.old.next ≡ Next.Set group }
         requires kept { AreKept self.old }
         requires ready { IsReady self.old (Next.Set group) }
@@ -161,11 +162,11 @@ impl Groups {
     {
         match broken_rule(self.stated.tree(), set) {
             Some(rule) => Err(Fault::Here(rule)),
-            None => self.put_whole(group, set),
+            None => self.put_if_allowed(group, set),
         }
     }
 
-    /// A record while sets are stated.
+    /// A record where the set of the next bidder is due.
     pub(crate) fn take_set(&mut self, group: Group, line: &Line) -> Result<(), Fault>
         requires next { self.old.next ≡ Next.Set group }
         requires kept { AreKept self.old }
@@ -173,7 +174,7 @@ impl Groups {
         ensures { Takes (Next.Set group) self.old (record_of line.now) result self.new }
     {
         match set_in(line) {
-            Some(set) => self.put_any(group, set),
+            Some(set) => self.put_if_satisfied(group, set),
             None => Err(Fault::Here(Rule::Order)),
         }
     }

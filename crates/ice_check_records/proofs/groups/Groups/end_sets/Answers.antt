@@ -3,7 +3,7 @@ use Rattle.std.specs.Prelude.{Ok}
 use Rattle.ice_defs.specs.declared.Group.{Group}
 use Rattle.ice_check_records.specs.Taking.{are_short, Closes}
 use Rattle.ice_check_records.proofs.Grouped.{log_follows}
-use Rattle.ice_check_records.proofs.groups.Groups.close.Goals as goal
+use Rattle.ice_check_records.proofs.groups.Groups.end_sets.Goals as goal
 
 pub returns-then-not-are_balanced : goal.returns-then-not-are_balanced
 returns-then-not-are_balanced c = are_short c.if-not-are_balanced.ensures

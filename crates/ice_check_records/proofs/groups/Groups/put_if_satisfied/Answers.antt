@@ -3,7 +3,7 @@ use Rattle.std.specs.Prelude.{Some}
 use Rattle.ice_defs.specs.Tree.{Tree}
 use Rattle.ice_check_offer.specs.Broken.{IsBroken}
 use Rattle.ice_check_records.proofs.Grouped.{broken_set}
-use Rattle.ice_check_records.proofs.groups.Groups.put_any.Goals as goal
+use Rattle.ice_check_records.proofs.groups.Groups.put_if_satisfied.Goals as goal
 
 pub returns-in-Some : goal.returns-in-Some
 returns-in-Some c =
