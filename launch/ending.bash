@@ -6,14 +6,16 @@
 #   or 129.
 # - Where the launcher is killed outright, as by the time-out of a caller in Python, nothing of it runs any more. So a watcher
 #   reads from a pipe that the launcher alone holds open, and ends the program when that closes before the launcher said so.
-#   It removes the folder `leftover` then, where the launcher has one.
+#   It removes the files and folders of `leftover` then.
 
 child=
+leftover=()
 # Ends the program and the launcher, at a signal of this number.
 end_both() {
     trap '' HUP INT TERM
     [ -z "$child" ] || { kill "$child"; wait "$child"; } 2>/dev/null
     echo ended >&6
+    ! declare -F leave_output >/dev/null || leave_output
     exit "$((128 + $1))"
 }
 
@@ -24,19 +26,20 @@ watch_program() {
     read -r watched
     if ! read -r; then
         kill "$watched"
-        [ -z "${leftover:-}" ] || rm -rf "$leftover"
+        rm -rf "${leftover[@]}"
     fi
 }
 
-# Runs a program with its words to its end, and sets `status`. Descriptor 6 is the watcher's, and 5 is standard input, which
+# Runs a program with its words to its end, and sets `status`. Descriptor 6 is the watcher's, 4 and 7 are those of
+# launch/output.bash, and 5 is standard input, which
 # the shell would take from a program that it waits for in this way.
 run_program() {
-    exec 6> >(watch_program >/dev/null 2>&1)
+    exec 6> >(exec 4<&- 7>&- && watch_program >/dev/null 2>&1)
     { exec 5<&0; } 2>/dev/null || exec 5</dev/null
     trap 'end_both 1' HUP
     trap 'end_both 2' INT
     trap 'end_both 15' TERM
-    "$@" <&5 5<&- 6>&- &
+    "$@" <&5 4<&- 5<&- 6>&- 7>&- &
     child=$!
     echo "$child" >&6
     exec 5<&-

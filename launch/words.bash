@@ -1,85 +1,10 @@
 # shellcheck shell=bash
 # What an answer of the program says, in a line of words for whoever sits at the terminal. The launcher `ice` reads this file and
-# calls answer and describe; it gives `program`, and launch/ending.bash. Standard output is the program's own and stays as it is:
-#
-# - Where it is a file, the program writes into it, and its last records are read back from there when the program has ended.
-# - Where it is a terminal, a `tee` stands between, so that they are known here too.
-# - Where it is anything else, as a pipe, nothing stands between, and the words and the status alone are told.
+# calls describe; it gives `program`, and launch/output.bash, by which the answer's last records are known.
 
 : "${program:?}"
 # shellcheck source=launch/kinds.bash
 . "${BASH_SOURCE[0]%/*}/kinds.bash"
-
-# Of what is read, the last record of each kind that tells what the answer is, or how far a session came; and for what a search
-# was made that spent its branches, as the groups before it and the settings tell.
-summary() {
-    LC_ALL=C grep -a -E '^(settings|settle|final|rival|regret|provisional|without|spent|threshold|no|refused|unread) ' | LC_ALL=C awk '
-        function seeks() {
-            if (last == "final") return "rival"
-            if (last == "without") return "without " before + 1
-            if (last == "regret") return before <= close_regret || settled == rounds ? "without 0" : "provisional"
-            return "final"
-        }
-        $1 == "settings" { close_regret = $3; rounds = $6 }
-        $1 == "settle" { settled = $2 }
-        $1 == "spent" { kept["seeks"] = "seeks " seeks() }
-        { kept[$1] = substr($0, 1, 400); last = $1; before = $2 }
-        END { for (name in kept) print kept[name] }
-    '
-}
-
-# Sets `begin`, where the next byte goes in standard output, which is a file: at its end where it was opened to append.
-find_place() {
-    local name value
-    begin=0
-    while read -r name value; do
-        case $name in
-        pos:) begin=$value ;;
-        flags:) [ $((8#$value & 8#2000)) = 0 ] || begin=$(stat -Lc %s "/proc/$$/fd/1") ;;
-        esac
-    done <"/proc/$$/fdinfo/1"
-}
-
-# Runs the program on the words, and sets `status` and `said`, the summary of what it wrote.
-answer() {
-    local begin
-    said=
-    if [ -t 1 ]; then
-        on_terminal "$@"
-    elif [ -f /dev/fd/1 ] && [ -r "/proc/$$/fdinfo/1" ]; then
-        find_place
-        run_program "$program" "$@"
-        case $1:$status in
-        run:0 | simulate:0 | *:[234569]) said=$(tail -c "+$((begin + 1))" "/proc/$$/fd/1" 2>/dev/null | summary) ;;
-        esac
-    else
-        run_program "$program" "$@"
-    fi
-}
-
-# The same where standard output is a terminal: what is written goes through a `tee` beside, of which the summary comes back,
-# and its status, which isn't 0 where the terminal takes no more.
-on_terminal() {
-    local shown
-    exec 8>&1
-    coproc SHOWN {
-        tee /dev/fd/9 9>&1 >&8 2>/dev/null | summary
-        echo "shown ${PIPESTATUS[0]}"
-    }
-    exec 7>&"${SHOWN[1]}" 9<&"${SHOWN[0]}" 8>&-
-    eval "exec ${SHOWN[1]}>&- ${SHOWN[0]}<&-"
-    run_program "$program" "$@" >&7 7>&- 9<&-
-    exec 7>&-
-    said=$(cat <&9)
-    exec 9<&-
-    shown=$(field shown 2)
-    [ "$shown" = 0 ] || [ "$status" -ge 128 ] || status=7
-}
-
-# Field N of the last record of a name in what was said, or nothing.
-field() {
-    awk -v name="$1" -v n="$2" '$1 == name { print $n; exit }' <<<"$said"
-}
 
 # What launch/numbers has of the fault with a number: the name by which it is asked for here, or what is told of it in words.
 fault() {
@@ -260,13 +185,13 @@ closed() {
         return
     fi
     [ "${words[0]}" != run ] || beyond=("${words[@]:settle+2}")
-    echo "closed after round $settle: regret $regret, surplus $surplus${beyond[0]:+; not read:$(for it in "${beyond[@]}"; do echo -n " $(typed "$it")"; done)}"
+    echo "closed after round $settle: regret $regret, surplus $surplus$(totals)${beyond[0]:+; not read:$(for it in "${beyond[@]}"; do echo -n " $(typed "$it")"; done)}"
 }
 
 opened() {
     local round=$((${#words[@]} - 2)) regret
     regret=$(field regret 2)
-    echo "open after round $round${regret:+, regret $regret}: wants round $((round + 1))"
+    echo "open after round $round${regret:+, regret $regret}: wants round $((round + 1))$(totals)"
 }
 
 # How much more than a value may be possible, in tenths of a per cent rounded up; nothing where that says nothing.
@@ -285,12 +210,12 @@ spent() {
     local least most found regret
     least=$(field spent 2) most=$(field spent 3) regret=$(field regret 2)
     found="is worth $least, and nothing is worth more than $most"
-    case $(field seeks 2) in
+    case $(field spent_at 2) in
     '') found= ;;
     final) found="what was found $found$(gap "$least" "$most")" ;;
     rival) found="the final trade is worth $(field final 2), and none is worth more; its regret isn't known: the rival that was found $found" ;;
     provisional) found="the final trade and its regret $regret stand; the provisional trade that was found $found, in hundredths" ;;
-    without) found="the final trade and its regret $regret stand, and payments aren't known: what was found without bidder $(field seeks 3) $found" ;;
+    without) found="the final trade and its regret $regret stand, and payments aren't known: what was found without bidder $(field spent_at 3) $found" ;;
     esac
     echo "the branches of the settings are used up${found:+: $found; \`ice gap\` tests it}"
 }
@@ -312,13 +237,28 @@ stopped() {
     echo "right as far as it goes, to line $1: it closes nothing${last:+, and ends with \`$last\`}$([ "$last" != "end spent" ] || tested "${words[1]}")"
 }
 
+# What a session came to beside that: its total, the branches that its logs have, and the time. It is told where the answer goes to
+# a terminal or, by -o, to a file.
+totals() {
+    local total limit branches
+    : "${started:?}"
+    [ -n "$into$shown" ] || return 0
+    total=$(field final 2) limit=$(field settings 7) branches=$(field seen 7)
+    echo "${total:+, total $total}${limit:+, ${branches:-0} of $limit branches}, $((SECONDS - started)) s"
+}
+
 # The line of words for what the program answered: nothing where its own output says it all.
 describe() {
     local status=$1 line test other
     shift
     local words=("$@")
     case $status in
-    0) case ${words[0]} in run | simulate) closed ;; esac ;;
+    0)
+        case ${words[0]} in
+        run | simulate) closed ;;
+        regret) [ -z "$into$shown" ] || echo "regret $(field regret 2)$(totals)" ;;
+        esac
+        ;;
     1) wrong_words ;;
     2) refused ;;
     3)
@@ -335,12 +275,12 @@ describe() {
             echo "$(name_of 1 | tr -d '\n'), line $line: $(rule "$test")"
         fi
         ;;
-    4) spent ;;
+    4) echo "$(spent)$(totals)" ;;
     5)
         if [ "${words[0]}" = fair ]; then
             echo "the search for fair prices came to a limit: none are told"
         else
-            echo "the pricing came to a limit: no prices are offered"
+            echo "the pricing came to a limit: no prices are offered$(totals)"
         fi
         ;;
     6) unread ;;
