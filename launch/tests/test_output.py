@@ -115,7 +115,7 @@ class Output(unittest.TestCase):
             (self.top / "goes_on").unlink(missing_ok=True)
             status, shown = self.on_terminal(*words, until="of 100 branches", kill=signal.SIGTERM)
             self.assertEqual(status, 143)
-            self.assertTrue(shown.endswith("\r"), shown)
+            self.assertEqual(self.left(shown), "" if "-o" in words else f"{BEGUN}rival")  # what was written is all shown
             self.assertEqual(((self.top / "kept").read_text(), list(self.top.glob(".ice-*"))), ("before\n", []))
 
     def test_what_is_quiet_says_nothing(self):

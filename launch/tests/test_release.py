@@ -1,0 +1,87 @@
+"""Tests of the folder that is handed on, and of completion, with a stand-in for the program and bare tools."""
+from __future__ import annotations
+
+import os
+import pathlib
+import shutil
+import subprocess
+import tempfile
+import unittest
+
+TOP = pathlib.Path(__file__).resolve().parent.parent.parent
+TOOLS = "bash cat chmod cut dirname grep head mktemp mv printf readlink rm sed stat stty tail tr awk wc"
+
+
+class HandedOn(unittest.TestCase):
+    """Each test has such a folder, and a PATH with bash, coreutils, grep, awk and sed alone."""
+
+    def setUp(self):
+        self.top = pathlib.Path(tempfile.mkdtemp(prefix="launch-"))
+        self.addCleanup(shutil.rmtree, self.top)
+        shutil.copy(TOP / "ice", self.top)
+        shutil.copytree(TOP / "launch", self.top / "launch", ignore=shutil.ignore_patterns("tests", "build.bash"))
+        (self.top / "COMMIT").write_text("0123abc\n")
+        (self.top / "KIT").write_text("rattle-kit-13f\n")
+        self.program('#!/bin/sh\necho "refused 1 13 bidders.0"\nexit 2\n')
+        (self.top / "bin").mkdir()
+        for tool in TOOLS.split():
+            (self.top / "bin" / tool).symlink_to(shutil.which(tool) or "/absent")
+        self.where = {"PATH": str(self.top / "bin"), "TMPDIR": str(self.top), "LC_ALL": "C.UTF-8"}
+
+    def program(self, text: str) -> None:
+        """Puts this program beside the launcher."""
+        (self.top / "ice_cli").write_text(text)
+        (self.top / "ice_cli").chmod(0o755)
+
+    def run_it(self, *words: str) -> tuple[int, str, str]:
+        """The status and what is written, where standard output is a file."""
+        with open(self.top / "out", "w", encoding="ascii") as out:
+            ran = subprocess.run([self.top / "bin/bash", "./ice", *words], cwd=self.top, env=self.where, stdout=out, stderr=subprocess.PIPE, text=True, check=False)
+        return ran.returncode, (self.top / "out").read_text(), ran.stderr
+
+    def test_words_help_and_version(self):
+        self.assertEqual(self.run_it("--version"), (0, "ice 0.1, commit 0123abc, kit rattle-kit-13f; reads files of versions 1 and 2\n", ""))
+        status, said, _ = self.run_it("--help")
+        self.assertEqual((status, "usage: ice run" in said, "ice-unproved" in said), (0, True, False))
+        self.assertIn("usage: ice gap JOURNAL", self.run_it("gap", "--help")[1])
+        status, said, words = self.run_it("run", "m.json")
+        self.assertEqual((status, said, words), (2, "refused 1 13 bidders.0\n", "ice: m.json is refused: bidders.0: not a lawful name: 1 to 32 of A-Z a-z 0-9 _ - . (number 13)\n"))
+        status, said, _ = self.run_it("run", "m.json", "-o", "kept")
+        self.assertEqual((status, said, (self.top / "kept").exists()), (2, "refused 1 13 bidders.0\n", False))
+
+    def test_a_program_that_does_not_run(self):
+        self.program("#!/absent/program\n")
+        status, said, words = self.run_it("check", "j")
+        self.assertEqual((status, said, "can't be run here" in words), (70, "", True))
+        (self.top / "ice_cli").unlink()
+        status, said, words = self.run_it("check", "j")
+        self.assertEqual((status, said, "doesn't stand beside" in words), (70, "", True))
+
+    def completed(self, *words: str) -> list[str]:
+        """What is offered for the last of these words."""
+        script = '. launch/complete.bash; COMP_WORDS=("$@"); COMP_CWORD=$(($# - 1)); _ice; printf "%s\\n" "${COMPREPLY[@]}"'
+        ran = subprocess.run([self.top / "bin/bash", "-c", script, "bash", "./ice", *words], cwd=self.top, env=self.where, capture_output=True, text=True, check=False)
+        return sorted(ran.stdout.split())
+
+    def test_completion(self):
+        texts = {"a.json": '{"bids": []}', "a.journal": "ice 2 session\nbidder Anna 1\nbidder Otto 1\nsettle 0\nsettle 1\n", "a.statement": "statement a\nsettings 1\n", "a.market": '{"goods": []}'}
+        for name, text in texts.items():
+            (self.top / name).write_text(text)
+        for words, offered in {
+            ("re",): ["regret", "replay"],
+            ("check", "a"): ["a.journal"],
+            ("audit", "a"): ["a.statement"],
+            ("run", "a"): ["a.market"],
+            ("run", "a.market", "a"): ["a.json"],
+            ("--quiet", "run", "-o", "x", "a.market", "a"): ["a.json"],
+            ("best", "a.market", "a"): sorted(texts),
+            ("statement", "a.journal", ""): ["Anna", "Otto"],
+            ("statement", "a.journal", "O"): ["Otto"],
+            ("replay", "a.journal", ""): ["0", "1"],
+            ("check", "--q"): ["--quiet"],
+        }.items():
+            self.assertEqual(self.completed(*words), offered, words)
+
+
+if __name__ == "__main__":
+    unittest.main()
