@@ -19,6 +19,18 @@ _ice_files() {
     if [ "${#found[@]}" -gt 0 ]; then COMPREPLY=("${found[@]}" "${folders[@]}"); else mapfile -t COMPREPLY < <(compgen -f -- "$1"); fi
 }
 
+# What stands behind a word in the records of a journal, up to the first record that begins with another word.
+_ice_behind() {
+    local lines=() line LC_ALL=C
+    [ -f "$1" ] && [ -r "$1" ] || return 0
+    while mapfile -t -n 4096 lines && [ "${#lines[@]}" -gt 0 ]; do
+        for line in "${lines[@]}"; do
+            [ "${line%% *}" != "$3" ] || return 0
+            [[ ! $line =~ ^$2\ ([A-Za-z0-9_.-]+)(\ |$) ]] || echo "${BASH_REMATCH[1]}"
+        done
+    done <"$1"
+}
+
 _ice() {
     local word=${COMP_WORDS[COMP_CWORD]} words=() it kinds
     COMPREPLY=()
@@ -38,8 +50,8 @@ _ice() {
         mapfile -t COMPREPLY < <(compgen -W "run simulate check replay statement audit fair gap best regret migrate xor gen" -- "$word")
     else
         case ${words[0]}:${#words[@]} in
-        statement:2) mapfile -t COMPREPLY < <(compgen -W "$(sed -n 's/^bidder \([A-Za-z0-9_.-]*\) .*/\1/p; /^settle /q' -- "${words[1]}" 2>/dev/null)" -- "$word") ;;
-        replay:2) mapfile -t COMPREPLY < <(compgen -W "$(sed -n 's/^settle \([0-9]*\)$/\1/p' -- "${words[1]}" 2>/dev/null)" -- "$word") ;;
+        statement:2) mapfile -t COMPREPLY < <(compgen -W "$(_ice_behind "${words[1]}" bidder settle)" -- "$word") ;;
+        replay:2) mapfile -t COMPREPLY < <(compgen -W "$(_ice_behind "${words[1]}" settle threshold)" -- "$word") ;;
         *)
             kinds=$(ice_takes "${words[0]}" "${#words[@]}")
             [ -z "$kinds" ] || _ice_files "$word" "$kinds"

@@ -4,8 +4,15 @@
 
 : "${top:?}"
 
+# Prints what it reads, by bash alone.
+print() {
+    local text
+    IFS= read -r -d '' text
+    printf '%s' "$text"
+}
+
 usage() {
-    cat <<'TEXT'
+    print <<'TEXT'
 usage: ice run EXCHANGE ROUND..     the journal of a session, with up to 20 rounds of bids
        ice simulate EXCHANGE TRUTHS the journal of a session in which proxies bid for true values
        ice check JOURNAL            whether a journal passes every test
@@ -41,8 +48,8 @@ version() {
     if is_checkout; then
         commit=$(git -C "$top" describe --always --dirty --exclude='*' 2>/dev/null) || commit=unknown
     else
-        commit=$(cat "$top/COMMIT" 2>/dev/null) || commit=unknown
-        kit=$(cat "$top/KIT" 2>/dev/null) || kit=unknown
+        { read -r commit <"$top/COMMIT"; } 2>/dev/null || commit=unknown
+        { read -r kit <"$top/KIT"; } 2>/dev/null || kit=unknown
         kit=", kit $kit"
     fi
     echo "ice 0.1, commit $commit$kit; reads files of versions 1 and 2"
@@ -53,7 +60,7 @@ version() {
 help_of() {
     case $1 in
     run)
-        cat <<'TEXT'
+        print <<'TEXT'
 usage: ice run EXCHANGE ROUND..
 
 Runs a session, and writes its journal.
@@ -76,7 +83,7 @@ status   0  closed: `end closed`               6  a file can't be read: `unread 
 TEXT
         ;;
     simulate)
-        cat <<'TEXT'
+        print <<'TEXT'
 usage: ice simulate EXCHANGE TRUTHS
 
 Plays a session in which each bidder has a proxy, which knows its true values and tells as little
@@ -98,7 +105,7 @@ status   0  closed: `end closed`               6  a file can't be read: `unread 
 TEXT
         ;;
     check)
-        cat <<'TEXT'
+        print <<'TEXT'
 usage: ice check JOURNAL
 
 Tests a journal, and trusts nothing that stands in it.
@@ -117,7 +124,7 @@ status   0  yes                                6  the file can't be read: `unrea
 TEXT
         ;;
     replay)
-        cat <<'TEXT'
+        print <<'TEXT'
 usage: ice replay JOURNAL N
 
 Shows one settlement of a session, once its journal has passed every test.
@@ -136,7 +143,7 @@ status   0  written: `end replay`              6  the file can't be read: `unrea
 TEXT
         ;;
     statement)
-        cat <<'TEXT'
+        print <<'TEXT'
 usage: ice statement JOURNAL NAME
 
 Writes what a session that closed says to one of its bidders, and nothing of the others.
@@ -156,7 +163,7 @@ status   0  written: `end statement`           6  the file can't be read: `unrea
 TEXT
         ;;
     audit)
-        cat <<'TEXT'
+        print <<'TEXT'
 usage: ice audit FILE
 
 Tests a bidder's statement, with no journal.
@@ -174,7 +181,7 @@ status   0  yes                                6  the file can't be read: `unrea
 TEXT
         ;;
     fair)
-        cat <<'TEXT'
+        print <<'TEXT'
 usage: ice fair JOURNAL
 
 Looks for prices that come as near to the payments of a closed session as accurate prices can.
@@ -195,7 +202,7 @@ status   0  written: `end fair`                5  the search's limit: `end limit
 TEXT
         ;;
     gap)
-        cat <<'TEXT'
+        print <<'TEXT'
 usage: ice gap JOURNAL
 
 Tests what a journal states where its branches are used up, which `check` doesn't read.
@@ -214,7 +221,7 @@ status   0  the gap                            6  the file can't be read: `unrea
 TEXT
         ;;
     best)
-        cat <<'TEXT'
+        print <<'TEXT'
 usage: ice best EXCHANGE PRICES
 
 Finds the best set of each bidder at prices.
@@ -237,7 +244,7 @@ status   0  written: `end best`                6  a file can't be read: `unread 
 TEXT
         ;;
     regret)
-        cat <<'TEXT'
+        print <<'TEXT'
 usage: ice regret EXCHANGE
 
 Finds the best assignment at lower values, and its regret: by how much another one may be better.
@@ -256,7 +263,7 @@ status   0  whole: `end regret`                6  the file can't be read: `unrea
 TEXT
         ;;
     migrate)
-        cat <<'TEXT'
+        print <<'TEXT'
 usage: ice migrate JOURNAL
 
 Writes a journal of version 1 in version 2, once it has passed every test.
@@ -276,7 +283,7 @@ status   0  written                            6  the file can't be read: `unrea
 TEXT
         ;;
     xor)
-        cat <<'TEXT'
+        print <<'TEXT'
 usage: ice xor FILE
 
 Makes an exchange of flat bids: packages with prices, of which a bidder gets at most one or any.
@@ -295,7 +302,7 @@ status   0  written                            6  the file can't be read: `unrea
 TEXT
         ;;
     gen)
-        cat <<'TEXT'
+        print <<'TEXT'
 usage: ice gen NUMBER
 
 Runs a session of the generated exchange of a number, to try the program and its searches.

@@ -8,12 +8,13 @@
 
 # What launch/numbers has of the fault with a number: the name by which it is asked for here, or what is told of it in words.
 fault() {
-    LC_ALL=C awk -F'\t' -v number="$1" -v wanted="$2" '
-        $1 != number { next }
-        wanted == "name" { print $2; exit }
-        $4 == "" { sub(/^[^:]*: /, "", $3); $4 = $3 }
-        { print $4; exit }
-    ' "${BASH_SOURCE[0]%/*}/numbers"
+    local number name text told
+    while IFS=$'\t' read -r number name text told; do
+        [ "$number" = "$1" ] || continue
+        [ -n "$told" ] || told=${text#*: }
+        if [ "$2" = name ]; then echo "$name"; else echo "$told"; fi
+        return
+    done <"${BASH_SOURCE[0]%/*}/numbers"
 }
 
 # The test of a journal that failed, in words.
@@ -50,16 +51,32 @@ rule() {
 # A word as it was typed. What turns the order of characters round counts as printable, so it is spelled here.
 typed() {
     local turns=$'\xe2\x80[\x8b-\x8f\xa8-\xae]|\xe2\x81[\xa0-\xaf]|\xd8\x9c|\xef\xbb\xbf'
-    if LC_ALL=C grep -qE -e "$turns" <<<"$1"; then LC_ALL=C printf %q "$1"; else printf %q "$1"; fi
+    if (LC_ALL=C && [[ $1 =~ $turns ]]); then LC_ALL=C printf %q "$1"; else printf %q "$1"; fi
 }
 
 # The name of file N of the words.
 name_of() {
     case ${words[$1]} in
-    /dev/stdin | /dev/fd/0 | /proc/self/fd/0) echo "standard input" ;;
+    /dev/stdin | /dev/fd/0 | /proc/self/fd/0) echo -n "standard input" ;;
     *) typed "${words[$1]}" ;;
     esac
-    [ "${words[0]}" != run ] || [ "$1" -lt 2 ] || echo " (round $(($1 - 1)))"
+    [ "${words[0]}" != run ] || [ "$1" -lt 2 ] || echo -n " (round $(($1 - 1)))"
+}
+
+# Line N of a file that can be read again, or nothing.
+line_of() {
+    local it=()
+    [ ! -f "$1" ] || mapfile -t -s "$(($2 - 1))" -n 1 it 2>/dev/null <"$1"
+    printf '%s\n' "${it[0]-}"
+}
+
+# The front of a line, with each byte spelled that isn't a printed character.
+printed() {
+    local LC_ALL=C text=${1:0:60} byte it
+    for ((it = 0; it < ${#text}; it++)); do
+        byte=${text:it:1}
+        if [[ $byte == [[:print:]] ]]; then printf %s "$byte"; else printf '\\x%02x' "$(($(printf %d "'$byte") & 255))"; fi
+    done
 }
 
 # What stands at a place of a file, cut to a part of a line: a line of it, or a value in JSON where Python 3 is there.
@@ -67,8 +84,8 @@ what_stands() {
     local file=$1 number=$2 place=$3 text=
     [ -f "$file" ] || return 0
     if [[ $place =~ ^[0-9]+$ ]]; then
-        text=$(sed -n "${place}{p;q}" "$file" 2>/dev/null | cut -c1-60 | cat -v)
-        [ -z "$text" ] || printf " \`%s\`" "$text"
+        text=$(line_of "$file" "$place")
+        [ -z "$text" ] || printf " \`%s\`" "$(printed "$text")"
     elif command -v python3 >/dev/null; then
         python3 -I "${BASH_SOURCE[0]%/*}/value_at" "$file" "$(fault "$number" name)" "$place" "${words[0]}" 2>/dev/null
     fi
@@ -101,7 +118,7 @@ refused() {
         echo "a file is refused: the last line of the output says which, its fault, and where"
         return
     fi
-    name=$(name_of "$file" | tr -d '\n')
+    name=$(name_of "$file")
     stands=$(what_stands "${words[$file]}" "$number" "$place")
     words_of=$(fault "$number" words)
     words_of=${words_of:-refused}
@@ -128,7 +145,7 @@ unread() {
         echo "a file could not be read: the last line of the output has its number"
         return
     fi
-    name=$(name_of "$file" | tr -d '\n')
+    name=$(name_of "$file")
     if [ -d "${words[$file]}" ]; then
         why="it is a folder"
     elif [ ! -e "${words[$file]}" ]; then
@@ -196,13 +213,10 @@ opened() {
 
 # How much more than a value may be possible, in tenths of a per cent rounded up; nothing where that says nothing.
 gap() {
-    LC_ALL=C awk -v least="$1" -v most="$2" 'BEGIN {
-        if (least <= 0) exit
-        tenths = 1000 * (most - least) / least
-        whole = int(tenths)
-        if (whole < tenths) whole++
-        printf ", a gap of %.1f %%", whole / 10
-    }'
+    local tenths
+    [ "$1" -gt 0 ] || return 0
+    tenths=$(((1000 * ($2 - $1) + $1 - 1) / $1))
+    printf ', a gap of %d.%d %%' "$((tenths / 10))" "$((tenths % 10))"
 }
 
 # What stands where a search spent its branches, as the journal states it.
@@ -220,21 +234,34 @@ spent() {
     echo "the branches of the settings are used up${found:+: $found; \`ice gap\` tests it}"
 }
 
-# What `gap` says of a journal that stops so, where it can be read again.
-tested() {
-    local found
-    found=$("$program" gap "$1" 2>/dev/null)
-    case $found in
-    "gap "*) echo "; what was found there passes every test: \`$found\`" ;;
-    "no "*) echo "; what was found there fails a test: \`$found\`" ;;
-    esac
+# Asks the program's `gap`, where `check` passed a journal up to a search that spent its branches, and keeps its answer in
+# `gap_said`. It runs as the program itself does, so that a signal ends it too.
+ask_gap() {
+    local checked=$status
+    gap_said=
+    [ "${words[0]-}:$status:$(field no 3)" = check:3:closed ] && [[ $(line_of "${words[1]}" "$(field no 2)") = "spent "* ]] || return 0
+    coproc ASKED { read -r && echo "$REPLY"; }
+    exec 7>&"${ASKED[1]}" 4<&"${ASKED[0]}"
+    eval "exec ${ASKED[1]}>&- ${ASKED[0]}<&-"
+    run_program "$program" gap "${words[1]}" >&7 2>/dev/null
+    exec 7>&-
+    read -r gap_said <&4
+    exec 4<&-
+    # shellcheck disable=SC2034 # the launcher ends with it
+    status=$checked
 }
 
-# What a journal that isn't closed came to, by its last line.
+# What a journal that isn't closed came to, by its stop's record and its last line.
 stopped() {
-    local last=
-    [ ! -f "${words[1]}" ] || last=$(tail -c 400 "${words[1]}" | tail -n 1 | tr -cd ' -~')
-    echo "right as far as it goes, to line $1: it closes nothing${last:+, and ends with \`$last\`}$([ "$last" != "end spent" ] || tested "${words[1]}")"
+    local rest=() told=''
+    [ ! -f "${words[1]}" ] || mapfile -t -s "$(($1 - 1))" rest 2>/dev/null <"${words[1]}"
+    [ "${#rest[@]}" = 0 ] || told=", and ends with \`$(printed "${rest[-1]}")\`"
+    case ${words[0]}:${rest[0]-}:$gap_said in
+    "check:spent "*:"gap "*) told="$told; the gap is checked: \`$gap_said\`" ;;
+    "check:spent "*:"no "*) told="$told; the gap is not what the journal states: \`ice gap\` says \`$gap_said\`" ;;
+    *:"spent "*) told="$told; the gap isn't checked: \`ice gap\` tests it" ;;
+    esac
+    echo "right as far as it goes, to line $1: it closes nothing$told"
 }
 
 # What a session came to beside that: its total, the branches that its logs have, and the time. It is told where the answer goes to
@@ -242,21 +269,19 @@ stopped() {
 totals() {
     local total limit branches
     : "${started:?}"
-    [ -n "$into$shown" ] || return 0
+    [ -n "$into$shown$draws" ] || return 0
     total=$(field final 2) limit=$(field settings 7) branches=$(field seen 7)
     echo "${total:+, total $total}${limit:+, ${branches:-0} of $limit branches}, $((SECONDS - started)) s"
 }
 
 # The line of words for what the program answered: nothing where its own output says it all.
 describe() {
-    local status=$1 line test other
-    shift
-    local words=("$@")
+    local line test other
     case $status in
     0)
         case ${words[0]} in
         run | simulate) closed ;;
-        regret) [ -z "$into$shown" ] || echo "regret $(field regret 2)$(totals)" ;;
+        regret) [ -z "$into$shown$draws" ] || echo "regret $(field regret 2)$(totals)" ;;
         esac
         ;;
     1) wrong_words ;;
@@ -266,13 +291,13 @@ describe() {
         if [ -z "$test" ]; then
             echo "no: the answer has the line of the first test that failed, and its name"
         elif [ "$test" = closed ]; then
-            echo "$(name_of 1 | tr -d '\n') is $(stopped "$line")"
+            echo "$(name_of 1) is $(stopped "$line")"
         elif [ "$line" = 1 ] && other=$(other_kind 1) && [ -n "$other" ]; then
-            echo "$(name_of 1 | tr -d '\n'), line 1: $other"
-        elif [ "${words[0]}:$test" = audit:order ] && [ -f "${words[1]}" ] && [ "$(sed -n "${line}{p;q}" "${words[1]}" 2>/dev/null)" = "end open" ]; then
-            echo "$(name_of 1 | tr -d '\n') is right as far as it goes, to line $line: it is a statement of a session that is open"
+            echo "$(name_of 1), line 1: $other"
+        elif [ "${words[0]}:$test" = audit:order ] && [ -f "${words[1]}" ] && [ "$(line_of "${words[1]}" "$line")" = "end open" ]; then
+            echo "$(name_of 1) is right as far as it goes, to line $line: it is a statement of a session that is open"
         else
-            echo "$(name_of 1 | tr -d '\n'), line $line: $(rule "$test")"
+            echo "$(name_of 1), line $line: $(rule "$test")"
         fi
         ;;
     4) echo "$(spent)$(totals)" ;;

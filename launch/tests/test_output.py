@@ -12,6 +12,7 @@ import subprocess
 import tempfile
 import time
 import unittest
+from typing import Callable
 
 TESTS = pathlib.Path(__file__).resolve().parent
 TOP = TESTS.parent.parent
@@ -31,7 +32,7 @@ exit "$STATUS"
 class Output(unittest.TestCase):
     """Each test has a checkout with a program that counts as built."""
 
-    def setUp(self):
+    def setUp(self) -> None:
         self.top = pathlib.Path(tempfile.mkdtemp(prefix="launch-"))
         self.addCleanup(shutil.rmtree, self.top)
         for name in ("ice", "ice-unproved"):
@@ -93,7 +94,7 @@ class Output(unittest.TestCase):
         """What is left on a terminal when its line has been written over."""
         return re.sub(r"(\r[^\r\n]+)+\r(?!\n)", "", shown).replace("\r\n", "\n")
 
-    def test_a_terminal_gets_the_journal_the_line_and_the_totals(self):
+    def test_a_terminal_gets_the_journal_the_line_and_the_totals(self) -> None:
         self.program(SLOW)
         status, shown = self.on_terminal("run", "m", "r1", until="of 100 branches")
         self.assertEqual(status, 0)
@@ -101,14 +102,14 @@ class Output(unittest.TestCase):
         self.assertNotIn("rival\r\n", shown)  # a part of a line is never shown alone
         self.assertRegex(self.left(shown), f"^{re.escape(CLOSED)}ice: closed after round 1: regret 0, surplus 1/3, {TOTALS}[0-9]+ s\n$")
 
-    def test_a_file_gets_the_journal_and_the_terminal_the_line(self):
+    def test_a_file_gets_the_journal_and_the_terminal_the_line(self) -> None:
         self.program(SLOW)
         status, shown = self.on_terminal("run", "m", "r1", until="of 100 branches", to="out")
         self.assertEqual((status, (self.top / "out").read_text()), (0, CLOSED))
         self.assertIn("settlement 1, rival, 2 of 100 branches", shown)
-        self.assertEqual(self.left(shown), "ice: closed after round 1: regret 0, surplus 1/3\n")
+        self.assertRegex(self.left(shown), f"^ice: closed after round 1: regret 0, surplus 1/3, {TOTALS}[0-9]+ s\n$")
 
-    def test_an_interrupt_takes_the_line_away(self):
+    def test_an_interrupt_takes_the_line_away(self) -> None:
         self.program(SLOW)
         for words in (("run", "m"), ("run", "m", "-o", "kept")):
             (self.top / "kept").write_text("before\n")
@@ -118,7 +119,7 @@ class Output(unittest.TestCase):
             self.assertEqual(self.left(shown), "" if "-o" in words else f"{BEGUN}rival")  # what was written is all shown
             self.assertEqual(((self.top / "kept").read_text(), list(self.top.glob(".ice-*"))), ("before\n", []))
 
-    def test_what_is_quiet_says_nothing(self):
+    def test_what_is_quiet_says_nothing(self) -> None:
         self.program(SLOW)
         (self.top / "goes_on").touch()
         status, shown = self.on_terminal("--quiet", "run", "m", "r1")
@@ -127,7 +128,7 @@ class Output(unittest.TestCase):
         self.assertEqual(self.run_it("run", "m", "--quiet", status=9), (9, CLOSED, ""))
         self.assertEqual(self.run_it("chek", "--quiet", status=1, answer="words refused\n"), (1, "words refused\n", ""))
 
-    def test_a_file_of_its_own(self):
+    def test_a_file_of_its_own(self) -> None:
         status, out, err = self.run_it("run", "m", "r1", "-o", "kept")
         self.assertEqual((status, out, (self.top / "kept").read_text()), (0, "", CLOSED))
         self.assertRegex(err, f"^ice: closed after round 1: regret 0, surplus 1/3, {TOTALS}[0-9]+ s\n$")
@@ -145,18 +146,18 @@ class Output(unittest.TestCase):
         self.assertEqual(self.run_it("run", "m", "-o", "kept", status=8, answer=BEGUN)[:2], (8, ""))
         self.assertEqual((self.top / "kept").read_text(), CLOSED)
 
-    def test_a_file_that_cannot_be(self):
+    def test_a_file_that_cannot_be(self) -> None:
         self.assertEqual(self.run_it("run", "m", "-o", "absent/kept"), (7, "", "ice: absent/kept could not be written\n"))
         self.assertEqual(self.run_it("run", "m", "-o", "launch"), (7, "", "ice: launch could not be written\n"))
         self.assertEqual(self.run_it("run", "m", "-o"), (1, "", "ice: -o takes the name of a file\n"))
         self.assertEqual(self.run_it("run", "m", "-o", "/dev/null")[:2], (0, ""))
 
-    def test_words_behind_two_dashes(self):
+    def test_words_behind_two_dashes(self) -> None:
         self.program('#!/bin/sh\nprintf "%s\\n" "$@"\n')
         self.assertEqual(self.run_it("statement", "j", "--", "-o", "--quiet")[1], "statement\nj\n-o\n--quiet\n")
         self.assertEqual(self.run_it("--quiet", "statement", "j", "a")[1], "statement\nj\na\n")
 
-    def test_a_caller_that_kills_leaves_no_file(self):
+    def test_a_caller_that_kills_leaves_no_file(self) -> None:
         self.program(SLOW)
         with subprocess.Popen(["./ice", "run", "m", "-o", "kept"], cwd=self.top, env=self.where, stderr=subprocess.DEVNULL) as launcher:
             self.wait_for((self.top / "runs").exists)
@@ -164,14 +165,14 @@ class Output(unittest.TestCase):
         self.wait_for(lambda: not list(self.top.glob(".ice-*")))
         self.assertFalse((self.top / "kept").exists())
 
-    def test_what_is_not_proved_takes_them_too(self):
+    def test_what_is_not_proved_takes_them_too(self) -> None:
         (self.top / "rt").write_text('#!/bin/sh\necho "yes 0"\necho "run=ended status=0 proved=no" >&2\n')
         (self.top / "rt").chmod(0o755)
         where = {**self.where, "PATH": f"{self.top}:{os.environ['PATH']}"}
         ran = subprocess.run(["./ice-unproved", "check", "j", "-o", "kept", "--quiet"], cwd=self.top, env=where, capture_output=True, text=True, check=False)
         self.assertEqual((ran.returncode, ran.stdout, ran.stderr, (self.top / "kept").read_text()), (0, "", "", "yes 0\n"))
 
-    def wait_for(self, test) -> None:
+    def wait_for(self, test: Callable[[], bool]) -> None:
         """Waits until a test holds, for up to a minute."""
         for _ in range(1200):
             if test():

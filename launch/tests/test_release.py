@@ -1,7 +1,6 @@
-"""Tests of the folder that is handed on, and of completion, with a stand-in for the program and bare tools."""
+"""Tests of the folder that is handed on, and of completion, with a stand-in for the program and with bash alone."""
 from __future__ import annotations
 
-import os
 import pathlib
 import shutil
 import subprocess
@@ -9,13 +8,13 @@ import tempfile
 import unittest
 
 TOP = pathlib.Path(__file__).resolve().parent.parent.parent
-TOOLS = "bash cat chmod cut dirname grep head mktemp mv printf readlink rm sed stat stty tail tr awk wc"
+TOOLS = "chmod mktemp mv readlink rm"  # what -o wants
 
 
 class HandedOn(unittest.TestCase):
-    """Each test has such a folder, and a PATH with bash, coreutils, grep, awk and sed alone."""
+    """Each test has such a folder, and a PATH with bash alone."""
 
-    def setUp(self):
+    def setUp(self) -> None:
         self.top = pathlib.Path(tempfile.mkdtemp(prefix="launch-"))
         self.addCleanup(shutil.rmtree, self.top)
         shutil.copy(TOP / "ice", self.top)
@@ -24,9 +23,12 @@ class HandedOn(unittest.TestCase):
         (self.top / "KIT").write_text("rattle-kit-13f\n")
         self.program('#!/bin/sh\necho "refused 1 13 bidders.0"\nexit 2\n')
         (self.top / "bin").mkdir()
-        for tool in TOOLS.split():
-            (self.top / "bin" / tool).symlink_to(shutil.which(tool) or "/absent")
+        self.tool("bash")
         self.where = {"PATH": str(self.top / "bin"), "TMPDIR": str(self.top), "LC_ALL": "C.UTF-8"}
+
+    def tool(self, name: str) -> None:
+        """Puts this tool on the PATH."""
+        (self.top / "bin" / name).symlink_to(shutil.which(name) or "/absent")
 
     def program(self, text: str) -> None:
         """Puts this program beside the launcher."""
@@ -39,17 +41,32 @@ class HandedOn(unittest.TestCase):
             ran = subprocess.run([self.top / "bin/bash", "./ice", *words], cwd=self.top, env=self.where, stdout=out, stderr=subprocess.PIPE, text=True, check=False)
         return ran.returncode, (self.top / "out").read_text(), ran.stderr
 
-    def test_words_help_and_version(self):
+    def test_words_help_and_version(self) -> None:
         self.assertEqual(self.run_it("--version"), (0, "ice 0.1, commit 0123abc, kit rattle-kit-13f; reads files of versions 1 and 2\n", ""))
         status, said, _ = self.run_it("--help")
         self.assertEqual((status, "usage: ice run" in said, "ice-unproved" in said), (0, True, False))
         self.assertIn("usage: ice gap JOURNAL", self.run_it("gap", "--help")[1])
         status, said, words = self.run_it("run", "m.json")
         self.assertEqual((status, said, words), (2, "refused 1 13 bidders.0\n", "ice: m.json is refused: bidders.0: not a lawful name: 1 to 32 of A-Z a-z 0-9 _ - . (number 13)\n"))
-        status, said, _ = self.run_it("run", "m.json", "-o", "kept")
-        self.assertEqual((status, said, (self.top / "kept").exists()), (2, "refused 1 13 bidders.0\n", False))
+        self.program('#!/bin/sh\necho "settle 2"\necho "regret 0"\necho "threshold 5/2 1/3"\necho "end closed"\n')
+        self.assertEqual(self.run_it("run", "m.json", "r")[2], "ice: closed after round 2: regret 0, surplus 1/3\n")
+        (self.top / "s.journal").write_text("settle 0\nspent 50 65\nend spent\n")
+        self.program('#!/bin/sh\n[ "$1" != gap ] || { echo "gap final 50 65"; exit 0; }\necho "no 2 closed"\nexit 3\n')
+        status, said, words = self.run_it("check", "s.journal")
+        self.assertEqual((status, said), (3, "no 2 closed\n"))
+        self.assertEqual(words, "ice: s.journal is right as far as it goes, to line 2: it closes nothing, and ends with `end spent`; the gap is checked: `gap final 50 65`\n")
+        self.program("#!/bin/sh\nkill -9 $$\n")
+        self.assertEqual(self.run_it("check", "j")[0], 137)
 
-    def test_a_program_that_does_not_run(self):
+    def test_a_file_of_its_own_wants_tools(self) -> None:
+        self.program("#!/bin/sh\necho yes 0\n")
+        self.assertEqual(self.run_it("check", "j", "-o", "kept"), (7, "", "ice: kept could not be written\n"))
+        for name in TOOLS.split():
+            self.tool(name)
+        self.assertEqual(self.run_it("check", "j", "-o", "kept"), (0, "", ""))
+        self.assertEqual((self.top / "kept").read_text(), "yes 0\n")
+
+    def test_a_program_that_does_not_run(self) -> None:
         self.program("#!/absent/program\n")
         status, said, words = self.run_it("check", "j")
         self.assertEqual((status, said, "can't be run here" in words), (70, "", True))
@@ -63,8 +80,8 @@ class HandedOn(unittest.TestCase):
         ran = subprocess.run([self.top / "bin/bash", "-c", script, "bash", "./ice", *words], cwd=self.top, env=self.where, capture_output=True, text=True, check=False)
         return sorted(ran.stdout.split())
 
-    def test_completion(self):
-        texts = {"a.json": '{"bids": []}', "a.journal": "ice 2 session\nbidder Anna 1\nbidder Otto 1\nsettle 0\nsettle 1\n", "a.statement": "statement a\nsettings 1\n", "a.market": '{"goods": []}'}
+    def test_completion(self) -> None:
+        texts = {"a.json": '{"bids": []}', "a.journal": "ice 2 session\nbidder Anna 1\nbidder Otto 1\nsettle 0\nbidder Eve 1\nsettle 1\n", "a.statement": "statement a\nsettings 1\n", "a.market": '{"goods": []}'}
         for name, text in texts.items():
             (self.top / name).write_text(text)
         for words, offered in {

@@ -96,15 +96,19 @@ class Words(unittest.TestCase):
 
     def test_a_gap_that_is_tested(self) -> None:
         (self.top / "spent.journal").write_text("settle 0\nspent 50 65\nset 1\nend spent\n")
+        begins = "spent.journal is right as far as it goes, to line 2: it closes nothing, and ends with `end spent`; the gap is"
         for said, end in (
-            ("gap final 50 65", "; what was found there passes every test: `gap final 50 65`"),
-            ("no 9 above", "; what was found there fails a test: `no 9 above`"),
-            ("refused 1 50 9", "and ends with `end spent`"),
+            ("gap final 50 65", " checked: `gap final 50 65`"),
+            ("no 9 above", " not what the journal states: `ice gap` says `no 9 above`"),
+            ("refused 1 50 9", "n't checked: `ice gap` tests it"),
         ):
             with unittest.mock.patch.dict(os.environ, {"GAP": said}):
-                told = self.told("no 2 closed\n", 3, "check", "spent.journal")
-            self.assertIn("it closes nothing, and ends with `end spent`", told)
-            self.assertTrue(told.endswith(end), told)
+                self.assertEqual(self.told("no 2 closed\n", 3, "check", "spent.journal"), f"{begins}{end}")
+                self.assertEqual(self.told("no 2 closed\n", 3, "statement", "spent.journal", "a"), f"{begins}n't checked: `ice gap` tests it")
+        (self.top / "open.journal").write_text("settle 0\nregret 9\nend open\n")
+        with unittest.mock.patch.dict(os.environ, {"GAP": "gap final 50 65"}):
+            self.assertTrue(self.told("no 3 closed\n", 3, "check", "open.journal").endswith("and ends with `end open`"))
+            self.assertEqual(self.told("no 2 closed\n", 3, "check", "absent"), "absent is right as far as it goes, to line 2: it closes nothing")
 
     def test_gaps(self) -> None:
         self.assertEqual(self.told("gap final 50 65\n", 0, "gap", "m"), "")
@@ -173,7 +177,7 @@ class Words(unittest.TestCase):
 
     def test_lines_at_fault(self) -> None:
         (self.top / "j").write_text("ice 1 assign\nsettings 1\ngood a\x07 \n")
-        self.assertEqual(self.refused(50, "3", "check", "j"), "j is refused: line 3 `good a^G `: no record, or one that may not stand here, or one is missing (number 50)")
+        self.assertEqual(self.refused(50, "3", "check", "j"), r"j is refused: line 3 `good a\x07 `: no record, or one that may not stand here, or one is missing (number 50)")
         self.assertEqual(self.refused(51, "9", "check", "/dev/stdin"), "standard input is refused: line 9: the last line has no newline: the file may have been cut off (number 51)")
         (self.top / "j").write_text("good a\n")
         self.assertEqual(self.refused(53, "-", "migrate", "j"), "j is refused: not a journal of a kind that `migrate` takes (number 53)")
