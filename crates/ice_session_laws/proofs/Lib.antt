@@ -16,6 +16,8 @@ pub mod Rounds
 pub mod Sessions
 -- what the journal of a session is in a round, and where it stops there
 pub mod RoundStops
+-- a journal that stops at a search that spent its branches states a gap
+pub mod Gaps
 -- a settlement that stops at a search that spent its branches: where it had come, and the journal
 pub mod Spending
 -- what a limit of the pricing may be written with

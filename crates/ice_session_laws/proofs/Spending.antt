@@ -50,6 +50,7 @@ use Rattle.ice_session_laws.specs.Written.{run_records, IsSpentJournal}
 use Rattle.ice_session_laws.proofs.Worth.{worth_is_total}
 use Rattle.ice_session_laws.proofs.Found.{found_shown, found_worth, found_writable, spent_worth, spent_writable, spent_whole}
 use Rattle.ice_session_laws.proofs.Settling.{settlement_shown, settlement_earned, final_may_be_written, regret_may_be_written}
+use Rattle.ice_session_laws.proofs.Gaps.{session_gives_gap}
 use Rattle.ice_session_laws.proofs.Closings.{withouts_shown, withouts_may_be_written}
 use Rattle.ice_session_laws.proofs.Sessions.{run_are}
 
@@ -245,4 +246,6 @@ module _ (going : List Going) (s : SessionAt) (run : IsRunning going s) (at : Po
       subst (λ (rs : List Record). IsSpentJournal (run_records s.exchange going ++ rs ++ spent_records s.exchange spent)) (sym number_is) (record {
         so_far = spent_so_far (subst (λ (rs : List Record). AllByRecursion IsRecord (run_records s.exchange going ++ rs ++ spent_records s.exchange spent)) number_is all);
         spent = is_spent;
+        gap = session_gives_gap (section_records s.exchange ++ goings ++ position (length going)) (proved_spent spent) spent.bound s.exchange (length going) (bounds_after_rounds s.exchange (opening_bounds s.exchange) going) at run.exchange awaits shown
+            stops.whole.counts (subst (λ (b : List Bounds). carried.IsSpentAt s.exchange b at (proved_spent spent) spent.bound) (sym run.bounds) stops.search);
       })

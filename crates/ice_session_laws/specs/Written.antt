@@ -14,6 +14,9 @@ use Rattle.ice_journal_laws.specs.Theorems.{Says}
 use Rattle.ice_journal_laws.specs.SoFar.{IsSoFar, IsUnstopped}
 use Rattle.ice_journal_laws.specs.ShowingSession.{going_in, goings_in}
 use Rattle.ice_journal_laws.specs.Stops.{IsSpent}
+use Rattle.ice_gap_laws.specs.declared.answer.GapAnswer.TheVariants as answer
+use Rattle.ice_gap_laws.specs.Gap.{Gap}
+use Rattle.ice_gap_laws.specs.Answers.{GivesGap}
 use Rattle.ice_round.specs.SessionAt.{SessionAt}
 use Rattle.ice_settled.specs.Shown.{closed_of}
 use Rattle.ice_settled.specs.declared.settled.Closing.{Closing}
@@ -54,9 +57,14 @@ pub record IsOpenJournal (journal : List Record) (x : OpenSession) : Type 0 wher
   pub so_far : IsSoFar session_kind journal
   pub right : IsRightOpen x
 
+-- `gap` has a gap for it
+abbrev pub HasGapAnswer : List Record → Type 0
+HasGapAnswer journal = (gap : Gap) × GivesGap journal (answer.Gap gap.group gap.value gap.bound)
+
 pub record IsSpentJournal (journal : List Record) : Type 0 where
   pub so_far : IsSoFar session_kind journal
   pub spent : IsSpent session_kind journal
+  pub gap : HasGapAnswer journal
 
 pub record IsLimitedJournal (journal : List Record) : Type 0 where
   pub so_far : IsSoFar session_kind journal
