@@ -5,7 +5,7 @@ pub mod Coming
 -- what one record more makes of what is known of a settlement
 pub mod Following
 -- what is known behind all records
-pub mod Searched
+pub mod Knowing
 -- what is answered where the records end
 pub mod Answering
 -- the names and the bounds of the bidders, one more at a time

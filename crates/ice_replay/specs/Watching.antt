@@ -10,7 +10,7 @@ use Rattle.ice_journal_laws.specs.Progress.{Progress, nothing, passing, failed, 
 use Rattle.ice_check_records.specs.declared.due.DueRegret.{DueRegret}
 use Rattle.ice_check_records.specs.Checking.{Checking, HasCome, ComesTo}
 use Rattle.ice_check_records.specs.Due.{TellsDue}
-use Rattle.ice_replay.specs.declared.search.Search.{Search}
+use Rattle.ice_replay.specs.declared.tests.WatchedTests.{WatchedTests}
 use Rattle.ice_replay.specs.declared.settlement.Replay.{Replay}
 use Rattle.ice_replay.specs.declared.watch.Watch.{Watch}
 use Rattle.ice_replay.specs.declared.watch.Watch.TheVariants as watch
@@ -70,7 +70,7 @@ WatchesOn number w c r after =
     → IsWatched number w p records → IsWatched number after q (records ++ r ∷ [])
 
 -- a record takes the tests on, and makes more known of the settlement
-pub record SearchesOn (s : Search) (r : Record) (t : Search) : Type 0 where
+pub record TestsOn (s : WatchedTests) (r : Record) (t : WatchedTests) : Type 0 where
   pub number : t.number ≡ s.number
   pub takes : (p : Progress) → HasCome s.checker p → ComesTo p r t.checker
   pub watches : WatchesOn s.number s.watch s.checker r t.watch

@@ -9,8 +9,8 @@ mod lines;
 mod putting;
 mod reading;
 mod records;
-mod search;
 mod settlement;
+mod tests;
 mod watch;
 
 pub use ice_reading::{CheckEnd, JournalEnd, Rule};

@@ -2,8 +2,8 @@
 ghost use Rattle.ice_replay.specs.Replays.{ReplaysBytes};
 
 use crate::ending::conclude;
-use crate::search::Search;
 use crate::settlement::{Replay, ReplayEnd};
+use crate::tests::WatchedTests;
 use crate::watch::Watch;
 use ice_check_records::Checker;
 use ice_reading::{JournalEnd, read_journal};
@@ -21,20 +21,20 @@ use std::alloc::Global;
 pub fn replay(alloc: Global, bytes: &[u8], number: u8) -> Result<Replay, ReplayEnd>
     ensures { ReplaysBytes bytes.now number result }
 {
-    let mut search = Search {
+    let mut tests = WatchedTests {
         alloc,
         number,
         checker: Checker::new(alloc),
         watch: Watch::Start,
     };
-    match read_journal(bytes, &mut search) {
+    match read_journal(bytes, &mut tests) {
         Ok(()) => {
-            let Search {
+            let WatchedTests {
                 alloc: _,
                 number: _,
                 checker,
                 watch,
-            } = search;
+            } = tests;
             conclude(watch, checker.finish())
         }
         Err(end) => Err(ReplayEnd::Journal(JournalEnd::Unjudged(end))),

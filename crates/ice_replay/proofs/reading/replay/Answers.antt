@@ -1,8 +1,8 @@
 use Rattle.std.proofs.Common.{refl}
 use Rattle.ice_reading.proofs.Unjudged.{read_unjudged}
 use Rattle.ice_replay.specs.Settlements.{IsSession}
-use Rattle.ice_replay.specs.Watching.{SearchesOn}
-use Rattle.ice_replay.proofs.Searched.{all_known}
+use Rattle.ice_replay.specs.Watching.{TestsOn}
+use Rattle.ice_replay.proofs.Knowing.{all_known}
 use Rattle.ice_replay.proofs.reading.replay.Goals as goal
 
 pub returns-in-Ok : goal.returns-in-Ok
@@ -12,4 +12,4 @@ returns-in-Ok c =
     c.conclude.ensures c.args.bytes.now c.args.number read.journal known.progress read.spelled known.leads (c.finish.ensures known.progress known.come) known.watched
 
 pub returns-in-Err : goal.returns-in-Err
-returns-in-Err c = read_unjudged SearchesOn (λ journal. ¬ IsSession journal) c.args.bytes.now c.read_journal.new.reader c.in-Err.end c.in-Err.ensures
+returns-in-Err c = read_unjudged TestsOn (λ journal. ¬ IsSession journal) c.args.bytes.now c.read_journal.new.reader c.in-Err.end c.in-Err.ensures

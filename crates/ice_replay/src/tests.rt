@@ -9,19 +9,19 @@ use std::mem;
 /// What is known while the records of a journal are read: how far its tests have come, and what it
 /// says of the settlement with this number.
 #[derive(Drop)]
-pub(crate) struct Search {
+pub(crate) struct WatchedTests {
     pub(crate) alloc: Global,
     pub(crate) number: u8,
     pub(crate) checker: Checker,
     pub(crate) watch: Watch,
 }
 
-impl Reader for Search {
-    ghost use Rattle.ice_replay.specs.Watching.{SearchesOn};
+impl Reader for WatchedTests {
+    ghost use Rattle.ice_replay.specs.Watching.{TestsOn};
 
-    ghost line = { λ search. search.checker.line };
+    ghost line = { λ tests. tests.checker.line };
 
-    ghost step = { SearchesOn };
+    ghost step = { TestsOn };
 
     fn take(&mut self, next: &Line) -> Result<(), AllocError> {
         let watch = mem::replace(&mut self.watch, Watch::Start);

@@ -2,7 +2,7 @@ use Rattle.std.proofs.Common.{refl, subst}
 use Rattle.ice_journal.specs.Lines.{record_of}
 use Rattle.ice_replay.specs.declared.watch.Watch.{Watch}
 use Rattle.ice_replay.specs.Watching.{WatchesOn}
-use Rattle.ice_replay.proofs.search.SearchReader.take.Goals as goal
+use Rattle.ice_replay.proofs.tests.WatchedTestsReader.take.Goals as goal
 
 pub returns-clause-step : goal.returns-clause-step
 returns-clause-step c =
