@@ -1,1 +1,2 @@
 pub mod Regretted
+pub mod Ties

@@ -1,4 +1,6 @@
 //! The regret of an assignment, and what shows it.
+ghost use Rattle.std.specs.Prelude.{◌≡◌};
+
 use ice_refute::Log;
 use ice_tree::Assignment;
 
@@ -25,5 +27,20 @@ impl Drop for Regret {
             rival: _,
             log: _,
         } = self;
+    }
+}
+
+impl Regret {
+    /// The rival alone.
+    pub(crate) fn into_rival(self) -> Assignment
+        ensures { result ≡ self.rival }
+    {
+        let Regret {
+            amount: _,
+            value: _,
+            rival,
+            log: _,
+        } = self;
+        rival
     }
 }

@@ -5,7 +5,9 @@
 mod lead;
 mod lower;
 mod rival;
+mod ties;
 
 pub use lead::Regret;
 pub use lower::best_at_lower_values;
 pub use rival::regret;
+pub use ties::regret_among_ties;
