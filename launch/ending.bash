@@ -21,10 +21,20 @@ heed_signals() {
 end_both() {
     trap '' HUP INT TERM
     [ -z "$before" ] || [ "$!" = "$before" ] || child=$!
-    [ -z "$child" ] || { kill "$child"; wait "$child"; } 2>/dev/null
+    [ -z "$child" ] || { kill "$child" && wait_ended; } 2>/dev/null
     { echo ended >&6; } 2>/dev/null
     ! declare -F leave_output >/dev/null || leave_output
     exit "$((128 + $1))"
+}
+
+# Waits until the program has ended, for up to ten seconds. A `wait` inside a trap that broke off another may wait for ever.
+wait_ended() {
+    local turn state
+    for ((turn = 0; turn < 500; turn++)); do
+        kill -0 "$child" || return 0
+        ! read -r state <"/proc/$child/stat" || [[ ${state##*) } != Z* ]] || return 0
+        read -r -t 0.02 <> <(:)
+    done
 }
 
 # Reads the program's number, and then a line when it has ended by itself.

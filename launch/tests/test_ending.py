@@ -102,6 +102,18 @@ class Ending(unittest.TestCase):
             self.wait_for(partial(self.is_gone, program))
             self.wait_for(lambda: not list((self.top / "temporary").iterdir()))
 
+    def test_a_gap_that_is_asked_ends_too(self) -> None:
+        (self.top / "j").write_text("settle 0\nspent 50 65\nend spent\n")
+        file = self.top / "crates/ice_cli/out/ice_cli"
+        file.write_text(PROGRAM.replace("\n", '\n[ "$1" = gap ] || { echo "no 2 closed"; exit 3; }\n', 1))
+        for number in (signal.SIGTERM, signal.SIGKILL):
+            with open(self.top / "out", "w", encoding="ascii") as out:
+                with subprocess.Popen(["./ice", "check", "j"], cwd=self.top, env=self.where, preexec_fn=heeded, stdout=out) as launcher:
+                    program = self.started()
+                    launcher.send_signal(number)
+                    self.assertEqual(launcher.wait(30), STATUSES.get(number, -number))
+            self.wait_for(partial(self.is_gone, program))
+
     def test_an_interrupt_at_a_terminal(self) -> None:
         child, terminal = pty.fork()
         if child == 0:
