@@ -99,7 +99,7 @@ class Output(unittest.TestCase):
         status, shown = self.on_terminal("run", "m", "r1", until="of 100 branches")
         self.assertEqual(status, 0)
         self.assertRegex(shown, r"\rice: run: settlement 1, rival, 2 of 100 branches, [0-9]+ s")
-        self.assertNotIn("rival\r\n", shown)  # a part of a line is never shown alone
+        self.assertIn("branch 0 2\r\n\rice: run: settlement 1", shown)  # a part of a line is never shown alone
         self.assertRegex(self.left(shown), f"^{re.escape(CLOSED)}ice: closed after round 1: regret 0, surplus 1/3, {TOTALS}[0-9]+ s\n$")
 
     def test_a_file_gets_the_journal_and_the_terminal_the_line(self) -> None:
