@@ -21,8 +21,6 @@ pub fn gap(alloc: Global, bytes: &[u8]) -> Result<GapAnswer, CheckEnd>
     let mut tests = GapTests {
         checker: GapChecker::new(alloc),
     };
-    match read_journal(bytes, &mut tests) {
-        Ok(()) => tests.checker.answer(),
-        Err(end) => Err(end),
-    }
+    read_journal(bytes, &mut tests)?;
+    tests.checker.answer()
 }

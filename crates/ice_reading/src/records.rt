@@ -58,6 +58,7 @@ impl<'a> Records<'a> {
         self.rest = after;
         Some(line)
     }
+
     /// The next record and its line with the newline, where one is left.
     pub fn next_with_line(&mut self) -> Option<(Line, &'a [u8])>
         ensures next { (left : List Record) → IsJournal self.old left
@@ -68,9 +69,7 @@ impl<'a> Records<'a> {
         let (text, after) = split_line(self.rest)?;
         let line = &self.rest[..text.len() + 1];
         self.rest = after;
-        let Some(record) = read_record(text) else {
-            return None;
-        };
+        let record = read_record(text)?;
         Some((record, line))
     }
 }
