@@ -117,6 +117,7 @@ module _ (call : Call) (name : List ℕ) (files : List (List ℕ)) where
               (once_so_far has.rounds s.number (position ++ spent_records s.exchange spent) (settles_more s.number position (spent_records s.exchange spent) (position_settles version_2 (length (exact_of s.exchange)) s.number at) (spent_other s.exchange spent))
               (subst (IsSoFar session_kind) grouped is.so_far));
           spent = is.spent;
+          gap = is.gap;
           few = told_also (call.before.holds name) file_limit (λ bytes. IsExchangeOf bytes (Ok s.exchange)) _ (λ bytes exchange. (s.exchange, exchange, fewer)) told;
         }
 

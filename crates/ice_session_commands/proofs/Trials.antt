@@ -38,7 +38,7 @@ use Rattle.ice_write.proofs.Loops.{bytes_flat}
 use Rattle.ice_write_session.proofs.Lawful.{halt_are_records, spent_are_records, limit_are_records}
 use Rattle.ice_session_laws.specs.Laws.{sought_records}
 use Rattle.ice_session_laws.specs.Stops.{IsLimited}
-use Rattle.ice_session_laws.specs.Written.{begun_records, run_records}
+use Rattle.ice_session_laws.specs.Written.{begun_records, run_records, HasGapAnswer}
 use Rattle.ice_session_laws.proofs.Ends.{spends, is_limited, spent_may_be_written, limit_may_be_written}
 use Rattle.ice_gen.specs.Generated.{generated_exchange, truths}
 use Rattle.ice_trial.specs.declared.summary.Summary.{Summary}
@@ -172,6 +172,7 @@ module _ (number : ℕ) (first : Option TruthRound) (s : SessionAt) (trial : IsT
         stops behind (settles_more s.number position (spent_records s.exchange spent) (position_settles version_2 (length (exact_of s.exchange)) s.number at) (spent_other s.exchange spent)) text
             (subst (IsSoFar session_kind) grouped ended.so_far) spelled,
         subst (IsSpent session_kind) (grouped ∙ ap (λ (rs : List Record). rs ++ behind) (sym begun_are)) ended.spent,
+        subst HasGapAnswer (grouped ∙ ap (λ (rs : List Record). rs ++ behind) (sym begun_are)) ended.gap,
       )
 
 module _ (number : ℕ) (s : SessionAt) (trial : IsTrial (generated_exchange number) (truths number) None s) where

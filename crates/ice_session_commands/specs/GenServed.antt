@@ -13,7 +13,7 @@ use Rattle.ice_journal.specs.Spelling.{fraction_text}
 use Rattle.ice_journal_laws.specs.Stops.{IsSpent}
 use Rattle.ice_journal_laws.specs.SoFar.{IsSoFar}
 use Rattle.ice_session_laws.specs.Stops.{IsLimited}
-use Rattle.ice_session_laws.specs.Written.{begun_records}
+use Rattle.ice_session_laws.specs.Written.{begun_records, HasGapAnswer}
 use Rattle.ice_gen.specs.Generated.{generated_exchange, truths}
 use Rattle.ice_trial.specs.Truths.{truth_bids}
 use Rattle.ice_trial.specs.declared.summary.Summary.{Summary}
@@ -68,7 +68,7 @@ pub record GenStops (text : List ℕ) (number : ℕ) (journal : List Record) : T
 
 abbrev pub GenAnswers : List ℕ → ℕ → Status → Type 0
 GenAnswers text number Done = GenEnds text number
-GenAnswers text number Spent = (journal : List Record) × GenStops text number journal × IsSpent session_kind journal
+GenAnswers text number Spent = (journal : List Record) × GenStops text number journal × IsSpent session_kind journal × HasGapAnswer journal
 GenAnswers text number Limit = (journal : List Record) × GenStops text number journal × (rounds_in journal ≡ [] ∷ []) × IsLimited journal
 GenAnswers text number NoMemory = text ≡ []
 GenAnswers text number other = ⊥

@@ -15,6 +15,7 @@ use Rattle.ice_journal_laws.specs.Theorems.{Says}
 use Rattle.ice_journal_laws.specs.Stops.{IsSpent}
 use Rattle.ice_journal_laws.specs.SoFar.{IsUnstopped}
 use Rattle.ice_session_laws.specs.Stops.{IsLimited, OpenSession, open_records, IsRightOpen}
+use Rattle.ice_session_laws.specs.Written.{HasGapAnswer}
 use Rattle.ice_session_laws.specs.Branches.{enough_for_session}
 use Rattle.ice_command_parts.specs.Call.{Call, FaultRose, file_limit, OfFile, IsRefused}
 use Rattle.ice_command_parts.specs.Files.{IsExchangeOf, IsExchangeFault, IsRoundFault}
@@ -69,12 +70,13 @@ pub data IsRunText (call : Call) (exchange : List ℕ) (rounds : List (List ℕ)
   of_journal : {journal : List Record} (run : IsRunSoFar call exchange rounds session_kind journal) → IsUnstopped run.so_far.end
       → IsRunText call exchange rounds (bytes_of journal)
 
--- a search was spent, of fewer branches than would be enough
+-- a search was spent, of fewer branches than would be enough; `gap` has a gap for the journal
 pub record RunSpends (call : Call) (exchange : List ℕ) (rounds : List (List ℕ)) : Type 0 where
   pub journal : List Record
   pub written : IsJournal call.text journal
   pub so_far : IsRunSoFar call exchange rounds session_kind journal
   pub spent : IsSpent session_kind journal
+  pub gap : HasGapAnswer journal
   pub few : HasFewerThan call exchange enough_for_session
 
 -- a pricing ended at a limit, of a settlement that a round was to follow

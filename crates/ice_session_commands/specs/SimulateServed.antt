@@ -17,6 +17,7 @@ use Rattle.ice_journal_laws.specs.Theorems.{Says}
 use Rattle.ice_journal_laws.specs.Stops.{IsSpent}
 use Rattle.ice_journal_laws.specs.SoFar.{IsSoFar, IsUnstopped}
 use Rattle.ice_session_laws.specs.Stops.{IsLimited}
+use Rattle.ice_session_laws.specs.Written.{HasGapAnswer}
 use Rattle.ice_session_laws.specs.Branches.{enough_for_session}
 use Rattle.ice_proxy.specs.Sessions.{IsProxySession, HoldThroughout, AreAccepted}
 use Rattle.ice_proxy.specs.Laws.{NoTradeBeatsAtTruths}
@@ -65,12 +66,13 @@ pub record SimulateCloses (call : Call) (exchange truths : List ℕ) : Type 0 wh
   pub checks : Checks journal
   pub headline : Headline session
 
--- a search was spent, of fewer branches than would be enough
+-- a search was spent, of fewer branches than would be enough; `gap` has a gap for the journal
 pub record SimulateSpends (call : Call) (exchange truths : List ℕ) : Type 0 where
   pub journal : List Record
   pub written : IsJournal call.text journal
   pub so_far : IsSimulatedSoFar call exchange truths journal
   pub spent : IsSpent session_kind journal
+  pub gap : HasGapAnswer journal
   pub few : HasFewerThan call exchange enough_for_session
 
 -- a pricing ended at a limit, of a settlement that a round was to follow
