@@ -65,6 +65,7 @@ use Rattle.ice_write_session.specs.Writable.{IsWritable, IsWritableRegret}
 use Rattle.ice_session_laws.proofs.Worth.{IsWorth, worth_is, worth_is_total}
 use Rattle.ice_session_laws.specs.Branches.{enough_for_regret}
 use Rattle.ice_session_laws.specs.BranchLaws.{FinalIsSpent, RivalIsSpent}
+use Rattle.ice_session_laws.proofs.Gaps.{final_gives_gap, rival_gives_gap}
 use Rattle.ice_session_laws.proofs.BranchRegrets.{spent_regret_has_few}
 use Rattle.ice_command_parts.specs.Call.{Call, file_limit, OfFile}
 use Rattle.ice_command_parts.specs.Files.{IsExchangeOf}
@@ -225,6 +226,7 @@ module _ (ex : Exchange) (lawful : IsExchange ex) where
         so_far = record { so_far = first_so_far; exchange_is = has_exchange (begun_records ex ++ spent_records ex s) (spent_records ex s) refl };
         stop = first_stop;
         spent = final_is_spent described_are_taken ex lawful (proved_spent s) s.bound is.written.counts is.spent is.branches;
+        gap = final_gives_gap ex lawful (proved_spent s) s.bound is.written.counts is.spent;
         few = fewer (inl (s, is));
       }
 
@@ -274,6 +276,7 @@ module _ (ex : Exchange) (lawful : IsExchange ex) where
           stop = second_stop;
           spent = subst (IsSpent regret_kind) (sym (append_assoc (begun_records ex) (final_records ex f) (spent_records ex s)))
               (rival_is_spent described_are_taken ex lawful (proved_spent s) s.bound is.written.counts (proved_found f) (shown_final left f final) final.found.found.earned is.spent (omega (arith, final.branches, is.branches)));
+          gap = rival_gives_gap ex lawful (proved_spent s) s.bound is.written.counts (proved_found f) (shown_final left f final) final.found.found.earned is.spent;
           few = fewer (inr (left, f, s, final.found, final.branches, is));
         }
 

@@ -13,6 +13,7 @@ use Rattle.ice_journal_laws.specs.Theorems.{Says, IsRightRegret}
 use Rattle.ice_journal_laws.specs.Stops.{IsSpent}
 use Rattle.ice_journal_laws.specs.SoFar.{IsUnstopped, IsSoFar}
 use Rattle.ice_session_laws.specs.Branches.{enough_for_regret}
+use Rattle.ice_session_laws.specs.Written.{HasGapAnswer}
 use Rattle.ice_command_parts.specs.Call.{Call, FaultRose, file_limit, OfFile, IsRefused}
 use Rattle.ice_command_parts.specs.Files.{IsExchangeOf, IsExchangeFault}
 use Rattle.ice_command_parts.specs.Lines.{refused_line, unread_line}
@@ -35,13 +36,14 @@ pub record RegretEnds (call : Call) (exchange : List ℕ) : Type 0 where
   pub checks : Checks journal
 
 -- one that stops at a search whose branches are spent: that it stops is
--- its first failed test, and more branches would have been enough
+-- its first failed test, `gap` has a gap for it, and more branches would have been enough
 pub record RegretSpends (call : Call) (exchange : List ℕ) : Type 0 where
   pub journal : List Record
   pub written : IsJournal call.text journal
   pub so_far : IsRegretSoFar call exchange journal
   pub stop : (place : ℕ) × FirstFailure journal (Some (record { line = place; rule = rule.Closed }))
   pub spent : IsSpent regret_kind journal
+  pub gap : HasGapAnswer journal
   pub few : HasFewerThan call exchange enough_for_regret
 
 -- whole lines: nothing, or its journal as far as it goes, which ends early and without a stop
