@@ -14,7 +14,7 @@ use crate::payments::pay;
 use crate::session::Session;
 use crate::settled::Settled;
 use ice_price::{PriceEnd, price};
-use ice_regret::{Regret, best_at_lower_values, regret};
+use ice_regret::{Regret, best_at_lower_values, regret_among_ties};
 use ice_search::{Found, SearchEnd, search_anew};
 use ice_settled::{Closing, Halt, Opening};
 use ice_tree::AllWeights;
@@ -194,23 +194,22 @@ impl Session {
         }
     }
 
-    /// A settlement: the final sets, their regret and the close test, and then what closes the
-    /// session or opens a round.
+    /// A settlement: the final sets with their regret, by ties too, and the close test, and then
+    /// what closes the session or opens a round.
     pub(crate) fn settle(self) -> Settled
         requires { IsKept self }
         ensures { IsSettledAs (session_at self) result }
     {
         let mut left = self.branches;
-        let best = match self.final_sets(&mut left) {
+        let mut best = match self.final_sets(&mut left) {
             Ok(best) => best,
             Err(end) => return self.stop(end, None, None),
         };
-        let regret = match regret(
+        let regret = match regret_among_ties(
             self.alloc,
             &self.exchange,
             self.judge.bounds(),
-            &best.best,
-            Some(&best.log),
+            &mut best,
             &mut left,
         ) {
             Ok(regret) => regret,
