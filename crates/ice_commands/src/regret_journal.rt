@@ -1,10 +1,11 @@
 //! The journal of a regret, put line by line as it is found.
-ghost use Rattle.std.specs.Prelude.{◌≡◌, ◌≤◌, ◌++◌, [], length};
-ghost use Rattle.ice_defs.specs.Exchange.{exact_of};
+ghost use Rattle.std.specs.Prelude.{◌≡◌, ◌≤◌, [], length};
+ghost use Rattle.ice_defs.specs.Exchange.{exact_of, opening_bounds};
 ghost use Rattle.ice_defs.specs.Lawful.{IsExchange};
 ghost use Rattle.ice_edge.specs.Puts.{IsPut};
 ghost use Rattle.ice_journal.specs.Journal.{bytes_of};
-ghost use Rattle.ice_write_session.specs.Records.{final_records};
+ghost use Rattle.ice_regret.specs.Regretted.{IsRegretOf, rival_search};
+ghost use Rattle.ice_search.specs.Results.{IsSpentBy};
 ghost use Rattle.ice_write_session.specs.Writable.{IsWritableRegret};
 ghost use Rattle.ice_command_parts.specs.Journals.{WritesBehind};
 ghost use Rattle.ice_commands.specs.RegretJournal.{begun_records, ending_records, IsFinal, IsRegretJournal};
@@ -12,8 +13,8 @@ ghost use Rattle.ice_commands.specs.RegretJournal.{begun_records, ending_records
 use ice_command_parts::ended;
 use ice_edge::{Sink, SinkFault, Status};
 use ice_journal::{EndWord, Kind, Line, Version};
-use ice_regret::{Regret, best_at_lower_values, regret};
-use ice_search::{Found, SearchEnd};
+use ice_regret::{Regret, best_at_lower_values, regret_among_ties};
+use ice_search::{Found, SearchEnd, Spent};
 use ice_trade::Exchange;
 use ice_write::{put_record, put_section};
 use ice_write_session::{put_final, put_regret, put_spent};
@@ -42,50 +43,68 @@ fn put_ending<K: Sink>(exchange: &Exchange, regret: &Regret, out: &mut K) -> Res
     put_record(&Line::End(EndWord::Regret), out)
 }
 
-/// Writes what comes behind the final group: the rival and the regret, or what was found where the
-/// branches were spent.
-fn write_rival<K: Sink>(
-    alloc: Global,
-    exchange: &Exchange,
-    found: &Found,
-    mut branches: u32,
-    out: &mut K,
-) -> Status
-    requires lawful { IsExchange exchange.now }
-    requires found { IsFinal exchange.now branches found.now }
-    ensures { WritesBehind (begun_records exchange.now ++ final_records exchange.now found.now)
-        (IsRegretJournal exchange.now) (K.taken out.old) (K.taken out.new) result }
-{
-    match regret(
-        alloc,
-        exchange,
-        exchange.bounds(),
-        &found.best,
-        Some(&found.log),
-        &mut branches,
-    ) {
-        Ok(rival) => ended(put_ending(exchange, &rival, out), Status::Done),
-        Err(SearchEnd::Spent(spent)) => ended(put_spent(exchange, &spent, out), Status::Spent),
-        Err(SearchEnd::NoMemory) => Status::NoMemory,
-    }
-}
-
-/// Writes the final group, and what comes behind it.
-fn write_found<K: Sink>(
-    alloc: Global,
+/// Writes the final group, and behind it the rival, the regret and the end.
+fn write_whole<K: Sink>(
     exchange: &Exchange,
     found: &Found,
     branches: u32,
+    regret: &Regret,
     out: &mut K,
 ) -> Status
     requires lawful { IsExchange exchange.now }
     requires found { IsFinal exchange.now branches found.now }
+    requires regret { IsRegretOf exchange.now (opening_bounds exchange.now) found.now.best
+        regret.now }
     ensures { WritesBehind (begun_records exchange.now) (IsRegretJournal exchange.now)
         (K.taken out.old) (K.taken out.new) result }
 {
     match put_final(exchange, found, out) {
-        Ok(()) => write_rival(alloc, exchange, found, branches, out),
+        Ok(()) => ended(put_ending(exchange, regret, out), Status::Done),
         Err(SinkFault::Failed) => Status::WriteFault,
+    }
+}
+
+/// Writes the final group, and behind it what was found of its rival where the branches were spent.
+fn write_rival_spent<K: Sink>(
+    exchange: &Exchange,
+    found: &Found,
+    branches: u32,
+    spent: &Spent,
+    out: &mut K,
+) -> Status
+    requires lawful { IsExchange exchange.now }
+    requires found { IsFinal exchange.now branches found.now }
+    requires spent { IsSpentBy
+        (rival_search exchange.now (opening_bounds exchange.now) found.now.best) branches
+        spent.now }
+    ensures { WritesBehind (begun_records exchange.now) (IsRegretJournal exchange.now)
+        (K.taken out.old) (K.taken out.new) result }
+{
+    match put_final(exchange, found, out) {
+        Ok(()) => ended(put_spent(exchange, spent, out), Status::Spent),
+        Err(SinkFault::Failed) => Status::WriteFault,
+    }
+}
+
+/// Writes what comes behind the exchange, where the best assignment was found: which of the best
+/// ones is final is known with its regret.
+fn write_found<K: Sink>(
+    alloc: Global,
+    exchange: &Exchange,
+    mut found: Found,
+    branches: u32,
+    out: &mut K,
+) -> Status
+    requires lawful { IsExchange exchange.now }
+    requires found { IsFinal exchange.now branches found }
+    ensures { WritesBehind (begun_records exchange.now) (IsRegretJournal exchange.now)
+        (K.taken out.old) (K.taken out.new) result }
+{
+    let mut left = branches;
+    match regret_among_ties(alloc, exchange, exchange.bounds(), &mut found, &mut left) {
+        Ok(regret) => write_whole(exchange, &found, branches, &regret, out),
+        Err(SearchEnd::Spent(spent)) => write_rival_spent(exchange, &found, branches, &spent, out),
+        Err(SearchEnd::NoMemory) => Status::NoMemory,
     }
 }
 
@@ -105,14 +124,15 @@ fn write_final<K: Sink>(alloc: Global, exchange: &Exchange, out: &mut K) -> Stat
 {
     let mut branches = branches_of(exchange);
     match best_at_lower_values(alloc, exchange, exchange.bounds(), &mut branches) {
-        Ok(found) => write_found(alloc, exchange, &found, branches, out),
+        Ok(found) => write_found(alloc, exchange, found, branches, out),
         Err(SearchEnd::Spent(spent)) => ended(put_spent(exchange, &spent, out), Status::Spent),
         Err(SearchEnd::NoMemory) => Status::NoMemory,
     }
 }
 
 /// Writes the journal: the exchange, the best assignment at lower values, its rival and the regret.
-/// Each line is put as soon as it is known. Where a search spends its branches, the journal says so
+/// Of best ones that are worth the same, a settlement's is shown. Each line is put as soon as it is
+/// known. Where a search spends its branches, the journal says so
 /// and ends.
 pub fn write_regret<K: Sink>(alloc: Global, exchange: &Exchange, out: &mut K) -> Status
     ensures journal { WritesBehind [] (IsRegretJournal exchange.now)

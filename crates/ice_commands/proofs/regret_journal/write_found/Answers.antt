@@ -1,20 +1,44 @@
+use Rattle.std.proofs.Common.{ap, sym, subst, arith, List}
 use Rattle.ice_edge.specs.declared.status.Status.TheVariants.{NoMemory}
-use Rattle.ice_write_session.specs.Records.{final_records}
-use Rattle.ice_commands.specs.RegretJournal.{begun_records, IsRegretJournal, has_final}
-use Rattle.ice_commands.proofs.RegretJournal.{final_writable}
-use Rattle.ice_command_parts.proofs.Writing.{failed_piece, piece_then}
+use Rattle.ice_defs.specs.Bounds.{Bounds}
+use Rattle.ice_defs.specs.Steps.{branch_count}
+use Rattle.ice_defs.specs.Exchange.{trees_of}
+use Rattle.ice_defs.specs.Conditions.{AreBoundsOf}
+use Rattle.ice_bound.proofs.Living.{opening_are_bounds}
+use Rattle.ice_search.specs.Results.{IsFoundBy, IsSpentBy}
+use Rattle.ice_regret.specs.Regretted.{lower_search, rival_search, IsRegretOf}
+use Rattle.ice_commands.specs.RegretJournal.{begun_records, IsRegretJournal, begins}
+use Rattle.ice_command_parts.proofs.Writing.{nothing_more}
 use Rattle.ice_commands.proofs.regret_journal.write_found.Goals as goal
 
-pub put_final-requires : goal.put_final-requires
-put_final-requires g c = final_writable c.args.exchange.now c.requires.lawful c.args.branches c.args.found.now c.requires.found
+pub regret_among_ties-requires-clause-bounds : goal.regret_among_ties-requires-clause-bounds
+regret_among_ties-requires-clause-bounds g c = subst (AreBoundsOf (trees_of c.args.exchange.now)) (sym c.bounds.ensures.value) (opening_are_bounds c.args.exchange.now c.requires.lawful)
 
-pub returns-in-Ok : goal.returns-in-Ok
-returns-in-Ok g c =
-    let ex = c.args.exchange.now in
-    piece_then (begun_records ex) (IsRegretJournal ex) (final_records ex c.args.found.now) c.write_rival.result (g.K.Sink.taken c.args.out.now) (g.K.Sink.taken c.put_final.new.out) (g.K.Sink.taken c.write_rival.new.out) c.in-Ok.ensures c.write_rival.ensures
+pub regret_among_ties-requires-clause-found : goal.regret_among_ties-requires-clause-found
+regret_among_ties-requires-clause-found g c = subst (λ (b : List Bounds). IsFoundBy (lower_search c.args.exchange.now b) c.args.found) (sym c.bounds.ensures.value) c.requires.found.found
 
-pub returns-in-Err-Failed : goal.returns-in-Err-Failed
-returns-in-Err-Failed g c =
+pub write_whole-requires-clause-found : goal.write_whole-requires-clause-found
+write_whole-requires-clause-found g c = record {
+  found = subst (λ (b : List Bounds). IsFoundBy (lower_search c.args.exchange.now b) c.regret_among_ties.new.best) c.bounds.ensures.value c.in-Ok.ensures.found;
+  branches = omega (arith, ap branch_count c.in-Ok.ensures.log, c.requires.found.branches);
+}
+
+pub write_whole-requires-clause-regret : goal.write_whole-requires-clause-regret
+write_whole-requires-clause-regret g c =
+    subst (λ (b : List Bounds). IsRegretOf c.args.exchange.now b c.regret_among_ties.new.best.best c.in-Ok.regret) c.bounds.ensures.value c.in-Ok.ensures.regret
+
+pub write_rival_spent-requires-clause-found : goal.write_rival_spent-requires-clause-found
+write_rival_spent-requires-clause-found g c = record {
+  found = subst (λ (b : List Bounds). IsFoundBy (lower_search c.args.exchange.now b) c.regret_among_ties.new.best) c.bounds.ensures.value c.in-Err-Spent.ensures.found;
+  branches = omega (arith, ap branch_count c.in-Err-Spent.ensures.log, c.requires.found.branches);
+}
+
+pub write_rival_spent-requires-clause-spent : goal.write_rival_spent-requires-clause-spent
+write_rival_spent-requires-clause-spent g c =
+    let end = rw c.in-Err-Spent.field-0-is at c.in-Err-Spent.ensures.end in
+    subst (λ (b : List Bounds). IsSpentBy (rival_search c.args.exchange.now b c.regret_among_ties.new.best.best) c.args.branches c.in-Err-Spent.spent) c.bounds.ensures.value end.0
+
+pub returns : goal.returns
+returns g c =
     let ex = c.args.exchange.now in
-    failed_piece (begun_records ex) (IsRegretJournal ex) (final_records ex c.args.found.now) NoMemory (g.K.Sink.taken c.args.out.now) (g.K.Sink.taken c.put_final.new.out)
-    (has_final c.args.branches c.args.found.now c.requires.found) c.in-Err-Failed.ensures
+    nothing_more (begun_records ex) (IsRegretJournal ex) (g.K.Sink.taken c.args.out.now) NoMemory begins
