@@ -92,15 +92,6 @@ pub record HasFed (piece rest : List ℕ) (old new : Checking) : Type 0 where
   pub stands : (bytes : List ℕ) → StandsFor old bytes → StandsFor new (bytes ++ taken)
   pub ready : IsTrue (is_ready_at old) → IsTrue (is_ready_at new)
 
-pub nothing_fed : (piece : List ℕ) (c : Checking) → HasFed piece piece c c
-nothing_fed piece c = record {
-  taken = [];
-  parts = refl;
-  count = omega arith;
-  stands = λ bytes h. subst (λ (b : List ℕ). StandsFor c b) (sym (append-nil bytes)) h;
-  ready = λ is. is;
-}
-
 -- more bytes of it are taken
 pub more_fed : (piece rest more after : List ℕ) (old new last : Checking) → HasFed piece rest old new → rest ≡ more ++ after → last.count ≡ new.count + length more
     → ((bytes : List ℕ) → StandsFor new bytes → StandsFor last (bytes ++ more)) → (IsTrue (is_ready_at new) → IsTrue (is_ready_at last)) → HasFed piece after old last
@@ -111,9 +102,6 @@ more_fed piece rest more after old new last h cut count stands ready = record {
   stands = λ bytes is. subst (λ (b : List ℕ). StandsFor last b) (append_assoc bytes h.taken more) (stands (bytes ++ h.taken) (h.stands bytes is));
   ready = λ is. ready (h.ready is);
 }
-
-pub few_left : (piece rest : List ℕ) (old new : Checking) → HasFed piece rest old new → new.count + length rest ≡ old.count + length piece
-few_left piece rest old new h = omega (arith, h.count, ap length h.parts, length-append h.taken rest)
 
 -- ---- the answer
 

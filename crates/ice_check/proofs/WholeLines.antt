@@ -1,15 +1,15 @@
 -- What one more line makes of the whole lines.
-use Rattle.std.proofs.Common.{◌≡◌, ◌<◌, ◌≤◌, ◌+◌, ℕ, suc, Bool, true, false, List, [], ◌∷◌, ◌++◌, length, Contains, refl, sym, ◌∙◌, ap, subst, arith, append_assoc, append-nil, add-one, inr}
+use Rattle.std.proofs.Common.{◌≡◌, ◌<◌, ◌≤◌, ◌+◌, ℕ, suc, List, [], ◌∷◌, ◌++◌, length, Contains, refl, sym, ◌∙◌, ap, subst, arith, append_assoc, append-nil, add-one}
 use Rattle.ice_journal.specs.Records.{Record}
 use Rattle.ice_journal.specs.Ranges.{IsRecord}
 use Rattle.ice_journal.specs.Spelling.{line_of}
 use Rattle.ice_journal.specs.Journal.{bytes_of, IsNoRecord, grammar, unended, IsLinesFault}
-use Rattle.ice_journal_laws.specs.Progress.{Progress, nothing, is_ready, Leads}
+use Rattle.ice_journal_laws.specs.Progress.{Progress, nothing, Leads}
 use Rattle.ice_journal_laws.proofs.Leading.{leads_more}
 use Rattle.ice_check_records.specs.Checking.{Checking, HasCome, ComesTo}
 use Rattle.ice_reading.proofs.SoFar.{HasRead, one_read, grammar_fault, unended_fault, all_read}
-use Rattle.ice_check.specs.Standing.{AreTaken, AreReadiness, ReadsOn, IsWithin}
-use Rattle.std.specs.Prelude.{Option, Some, None, Result, Ok, Err, OnOk, OnErr}
+use Rattle.ice_check.specs.Standing.{AreTaken, ReadsOn, IsWithin}
+use Rattle.std.specs.Prelude.{Option, Some, Result, Ok, Err, OnOk, OnErr}
 use Rattle.ice_check.specs.declared.lines.Lines.{Lines}
 use Rattle.ice_check.specs.declared.lines.Lines.TheVariants as known
 
@@ -74,11 +74,6 @@ fault_stays whole more n (text, after, comes, none) = (
   none,
 )
 
--- whether the next lines want no memory
-pub taken_readiness : (c : Checking) (whole : List ℕ) (ready : Bool) → AreTaken c whole → ((p : Progress) → HasCome c p → ready ≡ is_ready p) → AreReadiness whole ready
-taken_readiness c whole true h is = inr (h.progress, (h.journal, h.spelled, h.leads), sym (is h.progress h.come))
-taken_readiness c whole false h is = (h.progress, (h.journal, h.spelled, h.leads), sym (is h.progress h.come))
-
 -- ---- a line more
 
 -- that of a record
@@ -86,10 +81,6 @@ pub record_reads_on : {E : Type 0} (result : Result (Unit {0}) E) (c d : Checkin
     → OnOk result (ReadsOn (known.Records c) (Some r) (known.Records d))
 record_reads_on (Ok unit) c d r is takes line = λ whole text taken one_line reads. subst (λ (t : List ℕ). AreTaken d (whole ++ (t ++ 10 ∷ []))) (sym reads.1) (one_more c d whole r taken is takes line)
 record_reads_on (Err error) c d r is takes line = tt
-
--- that of none
-pub none_reads_on : (c : Checking) → ReadsOn (known.Records c) None (known.Grammar c.line)
-none_reads_on c = λ whole text taken one_line reads. at_fault c whole text taken one_line reads
 
 -- behind a line that is none
 pub fault_reads_on : (n : ℕ) (found : Option Record) → ReadsOn (known.Grammar n) found (known.Grammar n)

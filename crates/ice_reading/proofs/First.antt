@@ -1,10 +1,9 @@
 -- The first line of the bytes of a journal is the text of its first record.
-use Rattle.std.proofs.Common.{◌≡◌, ℕ, List, [], ◌∷◌, ◌++◌, Contains, length, take, ◌+◌, refl, sym, ap, subst, ◌∙◌, append_assoc, arith}
+use Rattle.std.proofs.Common.{◌≡◌, ℕ, List, [], ◌∷◌, ◌++◌, Contains, length, take, ◌+◌, sym, ap, ◌∙◌, append_assoc}
 use Rattle.std.specs.Prelude.{Option, Some, None, IfSome, option_map}
 use Rattle.std.specs.Borrow.{Bor}
 use Rattle.std.proofs.Math.Seq.{take-append-add}
 use Rattle.std.proofs.lemmas.List.Concat.{flat_map-cons}
-use Rattle.std.proofs.lemmas.List.Elements.{Contains-append_right}
 use Rattle.ice_line.specs.Reading.{Reads}
 use Rattle.ice_journal.specs.declared.line.Line.{Line}
 use Rattle.ice_journal.specs.Records.{Record}
@@ -29,11 +28,6 @@ starts bytes text after found parts one reads [] is = absurd (some_line text aft
 starts bytes text after found parts one reads (r ∷ rest) is =
     let both = first_line text (text_of r) after (bytes_of rest) (one_line text one) (record_line r is.lawful.0) (sym parts ∙ opened bytes r rest is) in
     spelled r text found is.lawful.0 both.0 reads after rest (record { lawful = is.lawful.1; spelled = both.1 })
-
--- no line is there
-pub starts_none : (bytes : List ℕ) → ¬ Contains bytes 10 → (left : List Record) → IsJournal bytes left → Starts left None bytes
-starts_none bytes none [] is = is
-starts_none bytes none (r ∷ rest) is = none (subst (λ (l : List ℕ). Contains l 10) (sym (opened bytes r rest is)) (Contains-append_right (text_of r) (10 ∷ bytes_of rest) 10 (0, omega arith, refl)))
 
 -- a line is there, with its newline
 pub has_line : (bytes text after : List ℕ) (found : Bor (List ℕ)) → bytes ≡ text ++ 10 ∷ after → ¬ Contains text 10 → found.now ≡ text ++ 10 ∷ []
