@@ -4,7 +4,7 @@ use Rattle.std.specs.Borrow.{Bor}
 use Rattle.std.proofs.lemmas.List.Concat.{flat_map-cons, flat_map-append}
 use Rattle.ice_edge.specs.declared.sink.SinkFault.{SinkFault}
 use Rattle.ice_edge.specs.Puts.{Takes, FailsIn, IsPut, TakesAllBut}
-use Rattle.ice_edge.proofs.Puts.{all_left, less_left, fails_next, none_left}
+use Rattle.ice_edge.proofs.Puts.{less_left, fails_next, none_left}
 use Rattle.ice_edge.specs.Taken.{Taken}
 use Rattle.ice_journal.specs.declared.line.Line.{Line}
 use Rattle.ice_journal.specs.Records.{Record}
@@ -20,9 +20,6 @@ pub record HasPut (start g : Gathering) (rest : List ℕ) (journal : List Record
   pub left : List Record
   pub is : IsJournal rest left
   pub all : TakesAllBut (bytes_of_lines (lines_gathered g left)) (bytes_of_lines (lines_gathered start journal)) old now
-
-pub none_put : (g : Gathering) (bytes : List ℕ) (journal : List Record) (old : Taken) → IsJournal bytes journal → HasPut g g bytes journal old old
-none_put g bytes journal old is = record { left = journal; is = is; all = all_left (bytes_of_lines (lines_gathered g journal)) old }
 
 parts : (g : Gathering) (r : Record) (more : List Record) → bytes_of_lines (lines_gathered g (r ∷ more)) ≡ bytes_of_lines (lines_at g r) ++ bytes_of_lines (lines_gathered (gathering_after g r) more)
 parts g r more = flat_map-append line_text (lines_at g r) (lines_gathered (gathering_after g r) more)

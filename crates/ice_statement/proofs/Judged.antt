@@ -1,6 +1,6 @@
 -- What is found of the bytes of a session journal.
 use Rattle.std.proofs.Common.{◌≡◌, ◌≢◌, ◌∙◌, refl, ap, sym, subst, ℕ, Bool, true, false, List, [], ◌∷◌}
-use Rattle.std.specs.Prelude.{Option, Some, None, Result, Ok, Err}
+use Rattle.std.specs.Prelude.{Option, Some, None}
 use Rattle.std.proofs.lemmas.Bool.{false≢true}
 use Rattle.ice_journal.specs.declared.line.Line.{Line}
 use Rattle.ice_journal.specs.Records.{Record, version_1, version_2, session_kind}
@@ -14,10 +14,7 @@ use Rattle.ice_journal_laws.specs.Answers.{AnswersJournal}
 use Rattle.ice_journal_laws.specs.Theorems.{HasKind}
 use Rattle.ice_journal_laws.proofs.SessionRight.{checked_is_right}
 use Rattle.ice_reading.specs.Records.{Starts}
-use Rattle.ice_reading.specs.declared.end.JournalEnd.TheVariants.{Unjudged, FailsTest}
-use Rattle.ice_statement.specs.declared.judging.StatementEnd.{StatementEnd}
-use Rattle.ice_statement.specs.declared.judging.StatementEnd.TheVariants.{Journal, NoBidder}
-use Rattle.ice_statement.specs.Judging.{is_session, end_at, answer_or, has_bidder, HasStatement, HasNoBidder, MayState, Finds}
+use Rattle.ice_statement.specs.Judging.{is_session, end_at, answer_or, has_bidder, HasStatement, HasNoBidder}
 use Rattle.ice_statement.proofs.Named.{has_own, has_none}
 
 -- ---- the first record
@@ -84,12 +81,6 @@ has_statement bytes name journal is session checks found =
 
 pub has_no_bidder : (name : List ℕ) (journal : List Record) → is_session journal ≡ true → Checks journal → has_bidder name journal ≡ false → HasNoBidder name journal
 has_no_bidder name journal session checks none = record { session = session; checks = checks; none = λ own. has_none journal name own none }
-
-pub found_may_state : (bytes name : List ℕ) (journal : List Record) (result : Result (Unit {0}) StatementEnd) → IsJournal bytes journal → Finds name journal result → MayState bytes name result
-found_may_state bytes name journal (Ok unit) is f = (journal, is, f)
-found_may_state bytes name journal (Err (Journal (FailsTest place test))) is f = (journal, is, f)
-found_may_state bytes name journal (Err (Journal (Unjudged end))) is f = absurd f
-found_may_state bytes name journal (Err NoBidder) is f = (journal, is, f)
 
 -- ---- no answer
 
