@@ -286,7 +286,7 @@ build() {
     plan
     lanes=$(lanes_here)
     whole=$(weight_left)
-    echo "ice: proving and building the program's ${#crates[@]} crates, $lanes at a time: $(to_go); up to 4 GB of memory for each, 3 GB of disk; ./ice-unproved answers meanwhile" >&2
+    echo "ice: proving and building the program's ${#crates[@]} crates, $lanes at a time: $(to_go); up to 4 GB of memory for each, 5 GB of disk; ./ice-unproved answers meanwhile" >&2
     while [ "${#finished[@]}" -lt "${#below[@]}" ]; do
         start_ready
         await_one
