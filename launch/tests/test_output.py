@@ -84,7 +84,8 @@ class Output(unittest.TestCase):
                 until = ""
                 if kill:
                     os.kill(child, kill)
-                (self.top / "goes_on").touch()
+                else:
+                    (self.top / "goes_on").touch()
         ended = os.waitpid(child, 0)[1]
         os.close(terminal)
         self.assertEqual(list((self.top / "temporary").iterdir()), [])
