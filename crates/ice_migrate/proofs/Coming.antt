@@ -103,6 +103,3 @@ pub one_counted : (bytes next : List ℕ) (n m all : ℕ) (text : Bor (List ℕ)
 one_counted bytes next n m all text h starts more =
     let x = has_next text next h.0 (starts h.0 h.1) in
     (x.rest, x.journal, omega (arith, h.2, more x.first x.text_is, ap goods_in x.is, goods_more (x.first ∷ []) x.rest))
-
-pub counted_goods : (bytes next : List ℕ) (n all : ℕ) → GoodsLeft bytes n all → ((left : List Record) → IsJournal bytes left → HasLine left None next) → n ≡ all
-counted_goods bytes next n all h starts = omega (arith, h.2, ap goods_in (no_next next h.0 (starts h.0 h.1)))

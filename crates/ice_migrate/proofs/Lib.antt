@@ -20,8 +20,6 @@ pub mod Puts
 pub mod Changes
 -- the line of a stop, and what stands before and behind it
 pub mod Located
--- the head of an old journal
-pub mod Heads
 -- a text that is gathered piece by piece, and put in long ones
 pub mod Gathering
 -- but for want of memory, bytes are judged in one way

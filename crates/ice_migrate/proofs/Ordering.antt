@@ -5,7 +5,6 @@ use Rattle.ice_journal.specs.declared.line.Line.{Line}
 use Rattle.ice_journal.specs.Records.{Record}
 use Rattle.ice_journal.specs.Journal.{IsJournal}
 use Rattle.ice_journal.specs.Lines.{record_of}
-use Rattle.ice_journal_laws.specs.declared.rule.Rule.TheVariants as rule
 use Rattle.ice_journal_laws.specs.State.{State}
 use Rattle.ice_journal_laws.specs.State as state
 use Rattle.ice_journal_laws.specs.Next.{next, next_at, go_to, to_line}
@@ -14,7 +13,6 @@ use Rattle.ice_migrate.specs.Order.{short_unless, order_or, order_from}
 use Rattle.ice_reading.specs.Records.{Starts}
 use Rattle.ice_migrate.specs.Stopped.{place_of, HasCounts, StandsAt}
 use Rattle.ice_migrate.specs.declared.place.Place.{Place}
-use Rattle.ice_migrate.specs.declared.place.Place.TheVariants.{Sets, Log, Pool, End, Done}
 use Rattle.ice_migrate.specs.declared.counts.Counts.{Counts}
 use Rattle.ice_migrate.proofs.Coming.{Opens, opens, none_left}
 
@@ -25,9 +23,6 @@ pub record Comes (bytes : List ℕ) (c : Counts) (place : Place) (number : ℕ) 
   pub journal : IsJournal bytes left
   pub stands : StandsAt at c place number
   pub same : whole ≡ order_from at left
-
-pub comes_first : (bytes : List ℕ) (c : Counts) (place : Place) (number : ℕ) (s : State) (left : List Record) → IsJournal bytes left → StandsAt s c place number → Comes bytes c place number (order_from s left)
-comes_first bytes c place number s left is stands = record { at = s; left = left; journal = is; stands = stands; same = refl }
 
 -- what the record of the next line makes of the state
 module _ (bytes after : List ℕ) (c : Counts) (place : Place) (number : ℕ) (whole : Option Failure) (found : Line) (to : Option Place) (x : Comes bytes c place number whole)
@@ -60,27 +55,7 @@ comes_more bytes after c place number whole found p x starts leads =
       same = whole_is bytes after c place number whole found (Some p) x starts leads;
     }
 
--- it may not stand there
-pub comes_out : (bytes after : List ℕ) (c : Counts) (place : Place) (number : ℕ) (whole : Option Failure) (found : Line) → Comes bytes c place number whole
-    → ((left : List Record) → IsJournal bytes left → Starts left (Some found) after)
-    → ((s : State) → HasCounts s c → s.place ≡ place_of place → next_at s (place_of place) (record_of found) ≡ None) → whole ≡ Some (record { line = number; rule = rule.Order })
-comes_out bytes after c place number whole found x starts leads =
-    whole_is bytes after c place number whole found None x starts leads ∙ ap (λ (n : ℕ). let y : Option Failure = Some (record { line = n; rule = rule.Order }) in y) x.stands.line_is
-
 -- nothing is left
 module _ (bytes after : List ℕ) (c : Counts) (place : Place) (number : ℕ) (whole : Option Failure) (x : Comes bytes c place number whole) (starts : (left : List Record) → IsJournal bytes left → Starts left None after) where
   end_is : whole ≡ short_unless x.at (place_of place)
   end_is = x.same ∙ ap (order_from x.at) (none_left after x.left (starts x.left x.journal)) ∙ ap (short_unless x.at) x.stands.place_is
-
-  pub comes_done : place ≡ Done → whole ≡ None
-  comes_done is = end_is ∙ ap (λ (p : Place). short_unless x.at (place_of p)) is
-
-  pub comes_short : (place ≡ Done → ⊥) → whole ≡ Some (record { line = number; rule = rule.Short })
-  comes_short not_done = end_is ∙ by place not_done ∙ ap (λ (n : ℕ). let y : Option Failure = Some (record { line = n; rule = rule.Short }) in y) x.stands.line_is
-    where
-      by : (p : Place) → (p ≡ Done → ⊥) → short_unless x.at (place_of p) ≡ Some (record { line = x.at.line; rule = rule.Short })
-      by Done not = absurd (not refl)
-      by (Sets taken) not = refl
-      by (Log sides) not = refl
-      by Pool not = refl
-      by End not = refl

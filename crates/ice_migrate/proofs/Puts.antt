@@ -6,7 +6,6 @@ use Rattle.std.proofs.lemmas.List.{append-nil}
 use Rattle.std.proofs.lemmas.Bool.{false≢true}
 use Rattle.ice_edge.specs.declared.sink.SinkFault.{SinkFault}
 use Rattle.ice_edge.specs.Puts.{Takes, FailsIn, IsPut, TakesAllBut}
-use Rattle.ice_edge.proofs.Puts.{all_left}
 use Rattle.ice_edge.specs.Taken.{Taken}
 use Rattle.ice_defs.specs.Bound.{Multipliers}
 use Rattle.ice_defs.specs.Steps.{branch, leaf, dead}
@@ -45,16 +44,6 @@ packed_cons goods m (line.step (dead b)) rest = refl
 packed_cons goods m other rest = refl
 
 -- ---- one after another
-
-pub nothing_put : (goods : ℕ) (p : Packing) (gathered bytes : List ℕ) (all : List Record) (old : Taken) → before_of p ≡ all_zero goods → gathered ≡ [] → IsJournal bytes all → IsPutSoFar goods p gathered bytes all old old
-nothing_put goods p gathered bytes all old zero none is =
-    let whole = bytes_of (packed_records goods (all_zero goods) all) in
-    let same : gathered ++ bytes_of (packed_records goods (before_of p) all) ≡ whole = rw (none, zero) refl in
-    record {
-      rest = all;
-      journal = is;
-      left = subst (λ (t : List ℕ). TakesAllBut t whole old old) (sym same) (all_left whole old);
-    }
 
 module _ (goods : ℕ) (p q : Packing) (gathered bytes after : List ℕ) (text : Bor (List ℕ)) (all : List Record) (old mid new : Taken) (x : IsPutSoFar goods p gathered bytes all old mid)
     (starts : (left : List Record) → IsJournal bytes left → HasLine left (Some text) after) (same : p.goods ≡ goods)
