@@ -57,6 +57,11 @@ pub record InSection (x : OwnSection) (s : AuditState) : Type 0 where
   pub name : s.name ≡ x.name
   pub section : s.section ≡ x.section
 
+-- whether the settlements have begun
+abbrev pub is_opened : Auditor → Bool
+is_opened (so_far.Settlements x) = true
+is_opened other = false
+
 abbrev pub IsKeptBy : Auditor → Type 0
 IsKeptBy so_far.Name = Unit {0}
 IsKeptBy (so_far.Section x) = IsOwnSection x.name x.section

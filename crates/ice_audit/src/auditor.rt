@@ -9,7 +9,7 @@ ghost use Rattle.ice_statement_laws.specs.Statement.{shown};
 ghost use Rattle.ice_statement_laws.specs.Texts.{IsLine};
 ghost use Rattle.ice_audit.specs.Lines.{line_of};
 ghost use Rattle.ice_audit.specs.Standing.{IsKept};
-ghost use Rattle.ice_audit.specs.Auditing.{is_named_by, is_first_settlement, section_stop, IsKeptBy, end_of, Begins, EndsSection, TakesOwn, TakesFurther};
+ghost use Rattle.ice_audit.specs.Auditing.{is_named_by, is_first_settlement, section_stop, is_opened, IsKeptBy, end_of, Begins, EndsSection, TakesOwn, TakesFurther};
 
 use crate::line::StatementLine;
 use crate::settlements::Settlements;
@@ -189,9 +189,11 @@ fn settle(settlements: &mut Settlements, line: &StatementLine) -> Result<(), Sto
 }
 
 impl Auditor {
-    /// Takes the next line, or tells the first test that fails; then it is of no more use. Memory
-    /// is wanted up to the first settlement alone.
-    pub(crate) fn take(&mut self, alloc: Global, line: &StatementLine) -> Result<(), Stop>
+    /// Takes a line up to the first settlement. Never inlined, since each line behind it would pay
+    /// for the size of its locals.
+    #[inline(never)]
+    fn open(&mut self, alloc: Global, line: &StatementLine) -> Result<(), Stop>
+        requires before { is_opened self.old ≡ false }
         requires kept { IsKeptBy self.old }
         requires lawful { IsLine (line_of line.now) }
         ensures { TakesFurther self.old (line_of line.now) result self.new }
@@ -205,9 +207,22 @@ impl Auditor {
                     *self = Auditor::Settlements(settlements);
                 }
             }
-            Auditor::Settlements(settlements) => settle(settlements, line)?,
+            Auditor::Settlements(_) => unreachable!(),
         }
         Ok(())
+    }
+
+    /// Takes the next line, or tells the first test that fails; then it is of no more use. Memory
+    /// is wanted up to the first settlement alone.
+    pub(crate) fn take(&mut self, alloc: Global, line: &StatementLine) -> Result<(), Stop>
+        requires kept { IsKeptBy self.old }
+        requires lawful { IsLine (line_of line.now) }
+        ensures { TakesFurther self.old (line_of line.now) result self.new }
+    {
+        match self {
+            Auditor::Settlements(settlements) => settle(settlements, line),
+            Auditor::Name | Auditor::Section(_) => self.open(alloc, line),
+        }
     }
 
     /// The payment, where no line is wanted any more.
