@@ -24,12 +24,15 @@ use Rattle.ice_session_laws.specs.Running.{IsRunning}
 use Rattle.ice_session_laws.specs.Written.{begun_records, run_records, round_records}
 use Rattle.ice_session_laws.proofs.Rounds.{run_begins, round_ends, goings_more}
 use Rattle.ice_command_parts.specs.Journals.{WritesBehind}
+use Rattle.ice_command_parts.specs.Parts.{IsSaid}
 use Rattle.ice_command_parts.proofs.Writing.{nothing_more, failed_piece, piece_then}
+use Rattle.ice_session_commands.specs.declared.source.NoBids.{NoBids}
 use Rattle.ice_session_commands.specs.declared.source.Source.{Source}
+use Rattle.ice_session_commands.specs.NoBids.{stop_records, stop_status}
 use Rattle.ice_session_commands.specs.SessionEnds.{EndsSettling, without_memory}
 use Rattle.ice_session_commands.specs.Sources.{LeadsTo, MayBegin, IsLeft, MayGive, Gives}
 use Rattle.ice_session_commands.specs.SessionSteps.{OpensRound, EndsHere, EndsRound, FailsInRound, EndsInRound, Plays}
-use Rattle.ice_session_commands.proofs.Putting.{writes_also}
+use Rattle.ice_session_commands.proofs.Putting.{said_piece, writes_also}
 use Rattle.ice_session_commands.proofs.Sources.{settling_leads, leads_sooner, round_leads, may_give, next_left, begins_left}
 
 -- the records of a round with more submissions
@@ -58,11 +61,11 @@ module _ (source : Source) (s : SessionAt) (before after : Told) where
 
   module _ (r : RoundAt) (old mid : Taken) (opened : OpensRound s r old mid) where
     -- there are no bids for the round
-    pub plays_in_round : (new : Taken) (result : Status) → EndsInRound source r before after mid new result → Plays source s before after old new result
-    plays_in_round new result ends whole going run so_far =
+    pub plays_in_round : (given : NoBids) (new : Taken) (result : Status) → EndsInRound source r before after given → IsSaid (bytes_of (stop_records given)) (stop_status given) mid new result → Plays source s before after old new result
+    plays_in_round given new result ends said whole going run so_far =
         let (last, round, none, takes) = opened going run in
         piece_then (run_records s.exchange going) (LeadsTo whole s.exchange before after) (going_in version_2 (length (exact_of s.exchange)) s.number last) result old mid new takes
-        (ends whole going s last round none so_far)
+        (said_piece (round_records s going last) (LeadsTo whole s.exchange before after) (stop_records given) (stop_status given) result mid new (ends whole going s last round none so_far) said)
 
     module _ (bids : List Submission) (left : Source) (gives : Gives source before r bids left) where
       -- the sink fails in the round
@@ -104,6 +107,14 @@ module _ (source : Source) (s : SessionAt) (before after : Told) where
 -- it runs behind settlements whose rounds the source gave
 abbrev pub IsPlayed : Told → Source → SessionAt → Type 0
 IsPlayed shelf source s = (whole : Source) × (going : List Going) × IsRunning going s × IsLeft shelf whole going s source
+
+-- it came from the first session and source to these, and with what puts the rest of these it puts
+-- the rest of the first
+pub record ComesOn (first : Source) (start : SessionAt) (begun : Told) (old : Taken) (source : Source) (s : SessionAt) (shelf : Told) (now : Taken) : Type 0 where
+  pub played : IsPlayed shelf source s
+  pub on : (after : Told) (new : Taken) (result : Status) → Plays source s shelf after now new result → Plays first start begun after old new result
+  pub kept : shelf ≡ begun
+  pub later : IsLater begun shelf
 
 module _ (source : Source) (s : SessionAt) (r : RoundAt) (before : Told) (played : IsPlayed before source s) (old mid : Taken) (opened : OpensRound s r old mid) where
   pub round_may : MayGive source r

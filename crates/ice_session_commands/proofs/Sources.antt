@@ -4,15 +4,15 @@ use Rattle.std.specs.Prelude.{string_bytes, slice_get}
 use Rattle.std.proofs.lemmas.List.{append-nil}
 use Rattle.ice_edge.specs.Told.{Told, IsLater}
 use Rattle.ice_edge.specs.declared.status.Status.{Status}
-use Rattle.ice_edge.specs.declared.status.Status.TheVariants.{Input, ReadFault, NoMemory, StillOpen}
+use Rattle.ice_edge.specs.declared.status.Status.TheVariants.{Input, ReadFault, NoMemory}
 use Rattle.ice_edge.specs.Taken.{Taken}
 use Rattle.ice_defs.specs.Bounds.{Bounds}
 use Rattle.ice_defs.specs.Round.{Submission, Judged}
 use Rattle.ice_defs.specs.Exchange.{Exchange, opening_bounds}
 use Rattle.ice_defs.specs.Session.{Going, standings}
-use Rattle.ice_journal.specs.Records.{Record, open_end}
+use Rattle.ice_journal.specs.Records.{Record}
 use Rattle.ice_journal.specs.Records as line
-use Rattle.ice_journal.specs.Spelling.{line_of}
+use Rattle.ice_journal.specs.Journal.{bytes_of}
 use Rattle.ice_round.specs.SessionAt.{SessionAt, RoundAt, session_after}
 use Rattle.ice_round.proofs.GoingOn.{more_rounds}
 use Rattle.ice_session_laws.specs.Running.{IsRunning, IsInRound}
@@ -27,11 +27,11 @@ use Rattle.ice_command_parts.specs.declared.refusal.Refusal.{Refusal}
 use Rattle.ice_command_parts.specs.declared.refusal.Refusal.TheVariants as refusal
 use Rattle.ice_command_parts.specs.Call.{Call, file_limit, OfTold, IsPrefix}
 use Rattle.ice_command_parts.specs.Files.{IsRoundFault, HoldsBids}
-use Rattle.ice_command_parts.specs.Journals.{WritesBehind}
 use Rattle.ice_command_parts.specs.Parts.{HasPart, IsSaid}
 use Rattle.ice_command_parts.specs.Refusals.{fault_of, refusal_text, refusal_status, Refuses}
 use Rattle.ice_command_parts.proofs.Parts.{later_part, told_in_call, told_also}
-use Rattle.ice_command_parts.proofs.Writing.{nothing_more}
+use Rattle.ice_session_commands.specs.declared.source.NoBids.{NoBids}
+use Rattle.ice_session_commands.specs.declared.source.NoBids.TheVariants.{NoFile, Refused}
 use Rattle.ice_session_commands.specs.declared.source.Source.{Source}
 use Rattle.ice_session_commands.specs.declared.source.Source.TheVariants.{Files, Proxies}
 use Rattle.ice_session_commands.specs.Rounds.{OfBids, BeginsRound, submissions_of, AreRoundsOf}
@@ -39,9 +39,10 @@ use Rattle.ice_session_commands.specs.SessionEnds.{EndsSettling}
 use Rattle.ice_session_commands.specs.RunJournal.{IsRunJournal, in_round, stays_open, refuses, fails_to_read, RunsTo}
 use Rattle.ice_session_commands.specs.RunJournal as run
 use Rattle.ice_session_commands.specs.SimulateJournal as simulated
+use Rattle.ice_session_commands.specs.NoBids.{stop_records, stop_status}
 use Rattle.ice_session_commands.specs.Sources.{LeadsTo, MayBegin, AreHeld, IsLeft, MayGive, Gives}
 use Rattle.ice_session_commands.specs.SessionSteps.{LacksFile, EndsInRound}
-use Rattle.ice_session_commands.proofs.Putting.{said_piece, one_line}
+use Rattle.ice_session_commands.proofs.Putting.{one_line}
 use Rattle.ice_session_commands.proofs.RunRounds.{begins_none, longer_rounds}
 
 -- ---- the files
@@ -193,38 +194,29 @@ begins_left shelf (Proxies truths) ex s is may = (refl, tt, subst (λ (x : Sessi
 -- ---- no bids for a round
 
 -- the file that stands next isn't had
-pub refusal_lacks : (r : RoundAt) (name : List ℕ) (later : List (List ℕ)) (before after : Told) (given : Refusal) (old new : Taken) (result : Status) → Refuses (r.number + 2) name file_limit IsRoundFault before after given
-    → IsSaid (refusal_text given) (refusal_status given) old new result → LacksFile (name ∷ later) r before after old new result
-refusal_lacks r name later before after (refusal.File file fault) old new result is said going s last done round none same played =
+pub refusal_lacks : (r : RoundAt) (name : List ℕ) (later : List (List ℕ)) (before after : Told) (given : Refusal) → Refuses (r.number + 2) name file_limit IsRoundFault before after given → LacksFile (name ∷ later) r before after (Refused given)
+refusal_lacks r name later before after (refusal.File file fault) is going s last done round none same played call part =
     let there : slice_get (done ++ name ∷ later) (length going) ≡ Some name = subst (λ (n : ℕ). slice_get (done ++ name ∷ later) n ≡ Some name) same (file_there done later name) in
     let number : r.number + 2 ≡ length going + 2 = omega (arith, round.number, round.running.number) in
-    said_piece (round_records s going last) (RunsTo s.exchange (done ++ name ∷ later) before after) (line.refused file (fault_of fault).number (fault_of fault).place ∷ []) Input result old new
-    (λ call part. let h = is call part in
+    let h = is call part in
     subst (λ (n : ℕ). IsRunJournal call (done ++ name ∷ later) s.exchange (round_records s going last ++ line.refused n (fault_of fault).number (fault_of fault).place ∷ []) Input) (sym (h.0 ∙ number))
-    (refuses going s last r name (fault_of fault) (record { in_round = round; none = none; rounds = longer_rounds call done (name ∷ later) going (held_rounds call before after part done going played) }) there h.1))
-    (one_line (line.refused file (fault_of fault).number (fault_of fault).place) Input result old new said)
-refusal_lacks r name later before after (refusal.Unread file) old new result is said going s last done round none same played =
+    (refuses going s last r name (fault_of fault) (record { in_round = round; none = none; rounds = longer_rounds call done (name ∷ later) going (held_rounds call before after part done going played) }) there h.1)
+refusal_lacks r name later before after (refusal.Unread file) is going s last done round none same played call part =
     let there : slice_get (done ++ name ∷ later) (length going) ≡ Some name = subst (λ (n : ℕ). slice_get (done ++ name ∷ later) n ≡ Some name) same (file_there done later name) in
     let number : r.number + 2 ≡ length going + 2 = omega (arith, round.number, round.running.number) in
-    said_piece (round_records s going last) (RunsTo s.exchange (done ++ name ∷ later) before after) (line.unread file ∷ []) ReadFault result old new
-    (λ call part. let h = is call part in
+    let h = is call part in
     subst (λ (n : ℕ). IsRunJournal call (done ++ name ∷ later) s.exchange (round_records s going last ++ line.unread n ∷ []) ReadFault) (sym (h.0 ∙ number))
-    (fails_to_read going s last r name (record { in_round = round; none = none; rounds = longer_rounds call done (name ∷ later) going (held_rounds call before after part done going played) }) there h.1))
-    (one_line (line.unread file) ReadFault result old new said)
-refusal_lacks r name later before after refusal.NoMemory old new result is said going s last done round none same played =
-    said_piece (round_records s going last) (RunsTo s.exchange (done ++ name ∷ later) before after) [] NoMemory result old new
-    (λ call part. subst (λ (rs : List Record). IsRunJournal call (done ++ name ∷ later) s.exchange rs NoMemory) (sym (append-nil (round_records s going last)))
+    (fails_to_read going s last r name (record { in_round = round; none = none; rounds = longer_rounds call done (name ∷ later) going (held_rounds call before after part done going played) }) there h.1)
+refusal_lacks r name later before after refusal.NoMemory is going s last done round none same played call part =
+    subst (λ (rs : List Record). IsRunJournal call (done ++ name ∷ later) s.exchange rs NoMemory) (sym (append-nil (round_records s going last)))
     (in_round going s last r round (longer_rounds call done (name ∷ later) going (held_rounds call before after part done going played))
-    (subst (BeginsRound call (drop (length going) (done ++ name ∷ later))) (sym (ap submissions_in none)) (begins_none call (drop (length going) (done ++ name ∷ later))))))
-    said
+    (subst (BeginsRound call (drop (length going) (done ++ name ∷ later))) (sym (ap submissions_in none)) (begins_none call (drop (length going) (done ++ name ∷ later)))))
 
 -- no file is left
-pub open_lacks : (r : RoundAt) (before after : Told) (old new : Taken) (result : Status) → IsSaid (line_of (line.end open_end)) StillOpen old new result → LacksFile [] r before after old new result
-open_lacks r before after old new result said going s last done round none same played =
+pub open_lacks : (r : RoundAt) (before after : Told) → LacksFile [] r before after NoFile
+open_lacks r before after going s last done round none same played call part =
     let all : done ++ [] ≡ done = append-nil done in
-    said_piece (round_records s going last) (RunsTo s.exchange (done ++ []) before after) (line.end open_end ∷ []) StillOpen result old new
-    (λ call part. stays_open going s last r (record { in_round = round; none = none; rounds = longer_rounds call done [] going (held_rounds call before after part done going played) }) (sym same ∙ ap length (sym all)))
-    (one_line (line.end open_end) StillOpen result old new said)
+    stays_open going s last r (record { in_round = round; none = none; rounds = longer_rounds call done [] going (held_rounds call before after part done going played) }) (sym same ∙ ap length (sym all))
 
 -- the source is files of these names, or proxies
 abbrev pub HasFiles : Source → List (List ℕ) → Type 0
@@ -235,26 +227,33 @@ abbrev pub HasProxies : Source → Type 0
 HasProxies (Files names) = ⊥
 HasProxies (Proxies truths) = Unit {0}
 
-pub lacks_ends : (source : Source) (files : List (List ℕ)) (r : RoundAt) (before after : Told) (old new : Taken) (result : Status) → HasFiles source files → LacksFile files r before after old new result
-    → EndsInRound source r before after old new result
-lacks_ends source files r before after old new result has lacks = λ whole going s last round none so_far. by source whole going s last has round none so_far
+pub lacks_ends : (source : Source) (files : List (List ℕ)) (r : RoundAt) (before after : Told) (given : NoBids) → HasFiles source files → LacksFile files r before after given → EndsInRound source r before after given
+lacks_ends source files r before after given has lacks = λ whole going s last round none so_far. by source whole going s last has round none so_far
   where
     by : (source whole : Source) (going : List Going) (s : SessionAt) (last : Going) → HasFiles source files → IsInRound going s last r → last.judged ≡ [] → IsLeft before whole going s source
-        → WritesBehind (round_records s going last) (LeadsTo whole s.exchange before after) old new result
+        → LeadsTo whole s.exchange before after (round_records s going last ++ stop_records given) (stop_status given)
     by (Proxies truths) whole going s last has round none so_far = absurd has
     by (Files now) (Proxies truths) going s last has round none so_far = absurd so_far
     by (Files now) (Files names) going s last has round none (done, all, count, held) =
         let same : map string_bytes names.now ≡ done ++ files = all ∙ ap (λ (fs : List (List ℕ)). done ++ fs) has in
-        subst (λ (fs : List (List ℕ)). WritesBehind (round_records s going last) (RunsTo s.exchange fs before after) old new result) (sym same) (lacks going s last done round none count held)
+        subst (λ (fs : List (List ℕ)). RunsTo s.exchange fs before after (round_records s going last ++ stop_records given) (stop_status given)) (sym same) (lacks going s last done round none count held)
 
 -- proxies have no memory for them
-pub proxies_end : (source : Source) (r : RoundAt) (before after : Told) (old : Taken) → HasProxies source → EndsInRound source r before after old old NoMemory
-proxies_end source r before after old has = λ whole going s last round none so_far. nothing_more (round_records s going last) (LeadsTo whole s.exchange before after) old NoMemory (alone source whole going s last has round none so_far)
+pub proxies_end : (source : Source) (r : RoundAt) (before after : Told) → HasProxies source → EndsInRound source r before after (Refused refusal.NoMemory)
+proxies_end source r before after has = λ whole going s last round none so_far. by source whole going s last has round none so_far
   where
-    alone : (source whole : Source) (going : List Going) (s : SessionAt) (last : Going) → HasProxies source → IsInRound going s last r → last.judged ≡ [] → IsLeft before whole going s source
-        → LeadsTo whole s.exchange before after (round_records s going last) NoMemory
-    alone (Files now) whole going s last has round none so_far = absurd has
-    alone (Proxies now) (Files names) going s last has round none so_far = absurd so_far
-    alone (Proxies now) (Proxies truths) going s last has round none (e, proxies, hold) =
-        simulated.in_round going s last r round proxies
-        (subst (IsProxyFront last.prices s.exchange.settings.improve (standings s.exchange s.bounds last.provisional.sets) (truth_lists s.exchange.bidders truths.now)) (sym none) tt)
+    by : (source whole : Source) (going : List Going) (s : SessionAt) (last : Going) → HasProxies source → IsInRound going s last r → last.judged ≡ [] → IsLeft before whole going s source
+        → LeadsTo whole s.exchange before after (round_records s going last ++ []) NoMemory
+    by (Files now) whole going s last has round none so_far = absurd has
+    by (Proxies now) (Files names) going s last has round none so_far = absurd so_far
+    by (Proxies now) (Proxies truths) going s last has round none (e, proxies, hold) =
+        subst (λ (rs : List Record). LeadsTo (Proxies truths) s.exchange before after rs NoMemory) (sym (append-nil (round_records s going last)))
+        (simulated.in_round going s last r round proxies
+        (subst (IsProxyFront last.prices s.exchange.settings.improve (standings s.exchange s.bounds last.provisional.sets) (truth_lists s.exchange.bidders truths.now)) (sym none) tt))
+
+-- ---- what is said then
+
+pub said_refusal : (given : Refusal) (result : Status) (old new : Taken) → IsSaid (refusal_text given) (refusal_status given) old new result → IsSaid (bytes_of (stop_records (Refused given))) (refusal_status given) old new result
+said_refusal (refusal.File file fault) result old new said = one_line (line.refused file (fault_of fault).number (fault_of fault).place) Input result old new said
+said_refusal (refusal.Unread file) result old new said = one_line (line.unread file) ReadFault result old new said
+said_refusal refusal.NoMemory result old new said = said

@@ -3,6 +3,7 @@ pub mod RunServed
 pub mod SessionEnds
 pub mod RunJournal
 pub mod SimulateJournal
+pub mod NoBids
 pub mod Sources
 pub mod SessionSteps
 pub mod TruthParts

@@ -20,9 +20,11 @@ use Rattle.ice_session_laws.specs.Written.{run_records, round_records}
 use Rattle.ice_trial.specs.Rounds.{submissions_in, GoesOnBy}
 use Rattle.ice_command_parts.specs.Call.{IsPrefix}
 use Rattle.ice_command_parts.specs.Journals.{WritesBehind}
+use Rattle.ice_session_commands.specs.declared.source.NoBids.{NoBids}
 use Rattle.ice_session_commands.specs.declared.source.Source.{Source}
 use Rattle.ice_session_commands.specs.SessionEnds.{EndsSettling}
 use Rattle.ice_session_commands.specs.RunJournal.{RunsTo}
+use Rattle.ice_session_commands.specs.NoBids.{stop_records, stop_status}
 use Rattle.ice_session_commands.specs.Sources.{LeadsTo, AreHeld, IsLeft}
 
 -- the first bids are judged, and put
@@ -61,19 +63,19 @@ abbrev pub FailsInRound : RoundAt → List Submission → Taken → Taken → St
 FailsInRound r bids old new result =
     (result ≡ WriteFault) × ((after : RoundAt) × (fault : SinkFault) × Judges r after bids (Err fault) old new)
 
--- no file is left for the round, or the next one isn't had, and the journal ends in it
-abbrev pub LacksFile : List (List ℕ) → RoundAt → Told → Told → Taken → Taken → Status → Type 0
-LacksFile files r before after old new result =
+-- no file is left for the round, or the next one isn't had, and so the journal ends in it
+abbrev pub LacksFile : List (List ℕ) → RoundAt → Told → Told → NoBids → Type 0
+LacksFile files r before after none =
     (going : List Going) (s : SessionAt) (last : Going) (done : List (List ℕ)) → IsInRound going s last r → last.judged ≡ []
     → length done ≡ length going → AreHeld before done going
-    → WritesBehind (round_records s going last) (RunsTo s.exchange (done ++ files) before after) old new result
+    → RunsTo s.exchange (done ++ files) before after (round_records s going last ++ stop_records none) (stop_status none)
 
--- the source has no bids for the round, and the journal ends in it
-abbrev pub EndsInRound : Source → RoundAt → Told → Told → Taken → Taken → Status → Type 0
-EndsInRound source r before after old new result =
+-- the source has no bids for the round, and so the journal ends in it
+abbrev pub EndsInRound : Source → RoundAt → Told → Told → NoBids → Type 0
+EndsInRound source r before after none =
     (whole : Source) (going : List Going) (s : SessionAt) (last : Going) → IsInRound going s last r → last.judged ≡ []
     → IsLeft before whole going s source
-    → WritesBehind (round_records s going last) (LeadsTo whole s.exchange before after) old new result
+    → LeadsTo whole s.exchange before after (round_records s going last ++ stop_records none) (stop_status none)
 
 -- the rest of the session is put, with the bids of what is left of its source
 abbrev pub Plays : Source → SessionAt → Told → Told → Taken → Taken → Status → Type 0

@@ -48,17 +48,24 @@ fn hold_rounds<H: Shelf, K: Sink>(
     ensures kept { KeepsTold (H.told shelf.old) (H.told shelf.new) result }
     ensures later { IsLater (H.told shelf.old) (H.told shelf.new) }
 {
-    let round = match settled_round(ready, out) {
-        Ok(round) => round,
-        Err(status) => return status,
-    };
-    let (bids, left) = match round_bids(alloc, source, &round, shelf, out) {
-        Ok(two) => two,
-        Err(status) => return status,
-    };
-    match hold_round(round, &bids, out) {
-        Ok(next) => hold_rounds(alloc, next, left, shelf, out),
-        Err(status) => status,
+    let mut ready = ready;
+    let mut source = source;
+    'rounds: loop {
+        let round = match settled_round(ready, out) {
+            Ok(round) => round,
+            Err(status) => return status,
+        };
+        let (bids, left) = match round_bids(alloc, source, &round, shelf) {
+            Ok(two) => two,
+            Err(none) => return none.say(out),
+        };
+        match hold_round(round, &bids, out) {
+            Ok(next) => {
+                ready = next;
+                source = left;
+            }
+            Err(status) => return status,
+        }
     }
 }
 

@@ -4,13 +4,15 @@ ghost use Rattle.ice_edge.specs.Told.{IsLater};
 ghost use Rattle.ice_journal.specs.Records as line;
 ghost use Rattle.ice_journal.specs.Records.{open_end};
 ghost use Rattle.ice_journal.specs.Spelling.{line_of};
+ghost use Rattle.ice_journal.specs.Journal.{bytes_of};
 ghost use Rattle.ice_command_parts.specs.Files.{HoldsBids};
 ghost use Rattle.ice_command_parts.specs.Keeping.{KeepsTold};
 ghost use Rattle.ice_command_parts.specs.Parts.{IsSaid};
+ghost use Rattle.ice_session_commands.specs.NoBids.{stop_records, stop_status};
 ghost use Rattle.ice_session_commands.specs.Sources.{MayGive, Gives};
 ghost use Rattle.ice_session_commands.specs.SessionSteps.{EndsInRound, LacksFile};
 
-use ice_command_parts::{ended, read_round};
+use ice_command_parts::{Refusal, ended, read_round};
 use ice_edge::{Shelf, Sink, Status};
 use ice_journal::{EndWord, Line};
 use ice_round::InRound;
@@ -28,6 +30,15 @@ pub enum Source<'a> {
     Proxies(&'a [Bid]),
 }
 
+/// Why a source has no bids for a round.
+#[derive(Drop)]
+pub enum NoBids {
+    /// No file is left for it.
+    NoFile,
+    /// The file that stands next isn't had, or memory ran out.
+    Refused(Refusal),
+}
+
 /// Puts that no further round file is there.
 fn stay_open<K: Sink>(out: &mut K) -> Status
     ensures { IsSaid (line_of (line.end open_end)) Status.StillOpen
@@ -39,65 +50,75 @@ fn stay_open<K: Sink>(out: &mut K) -> Status
     )
 }
 
-/// The bids of the file that stands next, and the files behind it; or how the call ends where there
-/// is none, or it isn't had.
+impl NoBids {
+    /// Puts the record that ends the journal in the round, and ends with its status, or with
+    /// `WriteFault` where the sink fails. At want of memory nothing is put.
+    pub fn say<K: Sink>(&self, out: &mut K) -> Status
+        ensures { IsSaid (bytes_of (stop_records self.now)) (stop_status self.now)
+            (K.taken out.old) (K.taken out.new) result }
+    {
+        match self {
+            NoBids::NoFile => stay_open(out),
+            NoBids::Refused(refusal) => refusal.say(out),
+        }
+    }
+}
+
+/// The bids of the file that stands next, and the files behind it; or why there are none.
 #[tactic(none)]
-fn file_bids<'a, H: Shelf, K: Sink>(
+fn file_bids<'a, H: Shelf>(
     alloc: Global,
     names: &'a [String],
     round: &InRound,
     shelf: &mut H,
-    out: &mut K,
-) -> Result<(Vec<Bid>, &'a [String]), Status>
+) -> Result<(Vec<Bid>, &'a [String]), NoBids>
     requires { round.now.number ≤ 19 }
     ensures bids { IfOk result (λ two. (name : List ℕ)
         × (map string_bytes names.now ≡ name ∷ map string_bytes two.1.now)
         × HoldsBids (H.told shelf.old) name two.0.items) }
-    ensures unwritten { OnOk result (K.taken out.new ≡ K.taken out.old) }
-    ensures ended { IfErr result (λ status. LacksFile (map string_bytes names.now) round.now
-        (H.told shelf.old) (H.told shelf.new) (K.taken out.old) (K.taken out.new) status) }
+    ensures ended { IfErr result
+        (LacksFile (map string_bytes names.now) round.now (H.told shelf.old) (H.told shelf.new)) }
     ensures kept { OnOk result (H.told shelf.new ≡ H.told shelf.old) }
-    ensures kept_at_end { IfErr result (KeepsTold (H.told shelf.old) (H.told shelf.new)) }
+    ensures kept_at_end { IfErr result (λ none.
+        KeepsTold (H.told shelf.old) (H.told shelf.new) (stop_status none)) }
     ensures later { IsLater (H.told shelf.old) (H.told shelf.new) }
 {
     let (name, left) = match names.split_first() {
         Some(two) => two,
-        None => return Err(stay_open(out)),
+        None => return Err(NoBids::NoFile),
     };
     match read_round(alloc, round.number() + 2, name.as_str(), shelf) {
         Ok(bids) => Ok((bids, left)),
-        Err(refusal) => Err(refusal.say(out)),
+        Err(refusal) => Err(NoBids::Refused(refusal)),
     }
 }
 
-/// The bids that the source gives for the round, and what is left of it then; or how the call ends
-/// where it gives none.
+/// The bids that the source gives for the round, and what is left of it then; or why it gives none.
 #[tactic(none)]
-pub fn round_bids<'a, H: Shelf, K: Sink>(
+pub fn round_bids<'a, H: Shelf>(
     alloc: Global,
     source: Source<'a>,
     round: &InRound,
     shelf: &mut H,
-    out: &mut K,
-) -> Result<(Vec<Bid>, Source<'a>), Status>
+) -> Result<(Vec<Bid>, Source<'a>), NoBids>
     requires { MayGive source round.now }
     ensures bids { IfOk result (λ two.
         Gives source.entry (H.told shelf.old) round.now two.0.items two.1) }
-    ensures unwritten { OnOk result (K.taken out.new ≡ K.taken out.old) }
-    ensures ended { IfErr result (λ status. EndsInRound source.entry round.now
-        (H.told shelf.old) (H.told shelf.new) (K.taken out.old) (K.taken out.new) status) }
+    ensures ended { IfErr result
+        (EndsInRound source.entry round.now (H.told shelf.old) (H.told shelf.new)) }
     ensures kept { OnOk result (H.told shelf.new ≡ H.told shelf.old) }
-    ensures kept_at_end { IfErr result (KeepsTold (H.told shelf.old) (H.told shelf.new)) }
+    ensures kept_at_end { IfErr result (λ none.
+        KeepsTold (H.told shelf.old) (H.told shelf.new) (stop_status none)) }
     ensures later { IsLater (H.told shelf.old) (H.told shelf.new) }
 {
     match source {
-        Source::Files(names) => match file_bids(alloc, names, round, shelf, out) {
+        Source::Files(names) => match file_bids(alloc, names, round, shelf) {
             Ok(two) => Ok((two.0, Source::Files(two.1))),
-            Err(status) => Err(status),
+            Err(none) => Err(none),
         },
         Source::Proxies(truths) => match proxy_bids(alloc, round, truths) {
             Ok(bids) => Ok((bids, source)),
-            Err(_) => Err(Status::NoMemory),
+            Err(_) => Err(NoBids::Refused(Refusal::NoMemory)),
         },
     }
 }

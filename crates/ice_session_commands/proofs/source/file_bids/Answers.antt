@@ -5,7 +5,7 @@ use Rattle.ice_command_parts.specs.Call.{file_limit}
 use Rattle.ice_command_parts.specs.Files.{IsRoundFault}
 use Rattle.ice_command_parts.specs.Refusals.{Refuses}
 use Rattle.ice_command_parts.proofs.Parts.{later_refl}
-use Rattle.ice_command_parts.proofs.Keeping.{refusal_keeps}
+use Rattle.ice_session_commands.specs.declared.source.NoBids.TheVariants.{NoFile, Refused}
 use Rattle.ice_session_commands.specs.SessionSteps.{LacksFile}
 use Rattle.ice_session_commands.proofs.Sources.{open_lacks, refusal_lacks}
 use Rattle.ice_session_commands.proofs.source.file_bids.Goals as goal
@@ -16,11 +16,8 @@ overflow_add-number g c = search rules
 pub returns-in-None-clause-ended : goal.returns-in-None-clause-ended
 returns-in-None-clause-ended g c =
     let shelf = g.H.Shelf.told c.args.shelf.now in
-    let old = g.K.Sink.taken c.args.out.now in
-    let new = g.K.Sink.taken c.stay_open.new.out in
-    let result = c.stay_open.result in
-    subst (λ (fs : List (List ℕ)). LacksFile fs c.args.round.now shelf shelf old new result) (sym (ap (map string_bytes) (nil_from_length c.args.names.now c.in-None.ensures.cases)))
-    (open_lacks c.args.round.now shelf shelf old new result c.stay_open.ensures)
+    subst (λ (fs : List (List ℕ)). LacksFile fs c.args.round.now shelf shelf NoFile) (sym (ap (map string_bytes) (nil_from_length c.args.names.now c.in-None.ensures.cases)))
+    (open_lacks c.args.round.now shelf shelf)
 
 pub returns-in-None-clause-kept_at_end : goal.returns-in-None-clause-kept_at_end
 returns-in-None-clause-kept_at_end g c = λ no_file. refl
@@ -35,9 +32,6 @@ returns-in-Ok-clause-bids g c = (
   c.in-Ok.ensures.bids,
 )
 
-pub returns-in-Ok-clause-unwritten : goal.returns-in-Ok-clause-unwritten
-returns-in-Ok-clause-unwritten g c = refl
-
 pub returns-in-Ok-clause-kept : goal.returns-in-Ok-clause-kept
 returns-in-Ok-clause-kept g c = c.in-Ok.ensures.kept
 
@@ -48,22 +42,16 @@ pub returns-in-Err-clause-ended : goal.returns-in-Err-clause-ended
 returns-in-Err-clause-ended g c =
     let before = g.H.Shelf.told c.args.shelf.now in
     let after = g.H.Shelf.told c.read_round.new.shelf in
-    let old = g.K.Sink.taken c.args.out.now in
-    let new = g.K.Sink.taken c.say.new.out in
     let left = map string_bytes c.in-Some.two.1.now in
     let name = c.as_str.result.now in
-    let result = c.say.result in
     let refusal = c.in-Err.refusal in
-    subst (λ (fs : List (List ℕ)). LacksFile fs c.args.round.now before after old new result)
+    subst (λ (fs : List (List ℕ)). LacksFile fs c.args.round.now before after (Refused refusal))
     (sym (ap (map string_bytes) c.in-Some.ensures.cases.0 ∙ ap (λ (first : List ℕ). first ∷ map string_bytes c.in-Some.two.1.now) (sym c.as_str.ensures.value)))
-    (refusal_lacks c.args.round.now name left before after refusal old new result
-    (subst (λ (n : ℕ). Refuses (n + 2) name file_limit IsRoundFault before after refusal) c.number.ensures c.in-Err.ensures.refusal) c.say.ensures)
+    (refusal_lacks c.args.round.now name left before after refusal
+    (subst (λ (n : ℕ). Refuses (n + 2) name file_limit IsRoundFault before after refusal) c.number.ensures c.in-Err.ensures.refusal))
 
 pub returns-in-Err-clause-kept_at_end : goal.returns-in-Err-clause-kept_at_end
-returns-in-Err-clause-kept_at_end g c =
-    refusal_keeps (g.H.Shelf.told c.args.shelf.now) (g.H.Shelf.told c.read_round.new.shelf) c.in-Err.refusal
-    (g.K.Sink.taken c.args.out.now) (g.K.Sink.taken c.say.new.out) c.say.result
-    c.in-Err.ensures.kept_at_refusal c.say.ensures
+returns-in-Err-clause-kept_at_end g c = c.in-Err.ensures.kept_at_refusal
 
 pub returns-in-Err-clause-later : goal.returns-in-Err-clause-later
 returns-in-Err-clause-later g c = c.read_round.ensures.later

@@ -25,9 +25,6 @@ returns-in-Ok-clause-bids g c =
     let two = c.in-Ok.two in
     subst (λ (x : Source). Gives x shelf r two.0.items (Files two.1)) (sym c.in-Files.is) c.in-Ok.ensures.bids
 
-pub returns-in-Ok-clause-unwritten : goal.returns-in-Ok-clause-unwritten
-returns-in-Ok-clause-unwritten g c = c.in-Ok.ensures.unwritten
-
 pub returns-in-Ok-clause-kept : goal.returns-in-Ok-clause-kept
 returns-in-Ok-clause-kept g c = c.in-Ok.ensures.kept
 
@@ -37,8 +34,7 @@ returns-in-Ok-clause-later g c = c.file_bids.ensures.later
 pub returns-in-Err-clause-ended : goal.returns-in-Err-clause-ended
 returns-in-Err-clause-ended g c =
     let files = map string_bytes c.in-Files.names.now in
-    lacks_ends c.args.source files c.args.round.now (g.H.Shelf.told c.args.shelf.now) (g.H.Shelf.told c.file_bids.new.shelf)
-    (g.K.Sink.taken c.args.out.now) (g.K.Sink.taken c.file_bids.new.out) c.in-Err.status
+    lacks_ends c.args.source files c.args.round.now (g.H.Shelf.told c.args.shelf.now) (g.H.Shelf.told c.file_bids.new.shelf) c.in-Err.none
     (subst (λ (x : Source). HasFiles x files) (sym c.in-Files.is) refl) c.in-Err.ensures.ended
 
 pub returns-in-Err-clause-kept_at_end : goal.returns-in-Err-clause-kept_at_end
@@ -56,9 +52,6 @@ returns-in-Ok-proxy_bids-clause-bids g c =
     let bids = c.in-Ok-proxy_bids.bids.items in
     subst (λ (x : Source). Gives x shelf r bids x) (sym c.in-Proxies.is) (refl, c.in-Ok-proxy_bids.ensures)
 
-pub returns-in-Ok-proxy_bids-clause-unwritten : goal.returns-in-Ok-proxy_bids-clause-unwritten
-returns-in-Ok-proxy_bids-clause-unwritten g c = refl
-
 pub returns-in-Ok-proxy_bids-clause-kept : goal.returns-in-Ok-proxy_bids-clause-kept
 returns-in-Ok-proxy_bids-clause-kept g c = refl
 
@@ -68,7 +61,7 @@ returns-in-Ok-proxy_bids-clause-later g c = later_refl (g.H.Shelf.told c.args.sh
 pub returns-in-Err-proxy_bids-clause-ended : goal.returns-in-Err-proxy_bids-clause-ended
 returns-in-Err-proxy_bids-clause-ended g c =
     let shelf = g.H.Shelf.told c.args.shelf.now in
-    proxies_end c.args.source c.args.round.now shelf shelf (g.K.Sink.taken c.args.out.now) (subst HasProxies (sym c.in-Proxies.is) tt)
+    proxies_end c.args.source c.args.round.now shelf shelf (subst HasProxies (sym c.in-Proxies.is) tt)
 
 pub returns-in-Err-proxy_bids-clause-kept_at_end : goal.returns-in-Err-proxy_bids-clause-kept_at_end
 returns-in-Err-proxy_bids-clause-kept_at_end g c = λ no_file. refl
