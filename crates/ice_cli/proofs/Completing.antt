@@ -16,7 +16,7 @@ use Rattle.ice_commands.specs.CheckServed.{CheckAnswers, WritesAnswer, answer_li
 use Rattle.ice_command_parts.specs.Lines.{refused_line}
 use Rattle.ice_command_parts.specs.Refusals.{no_record, not_ended, other_kind}
 use Rattle.ice_cli.specs.Served.{IsServed, no_command, answers, cut_short}
-use Rattle.ice_cli.specs.Completeness.{IsFaultless, ChecksBytes, CheckCompletes, CheckIsDecided}
+use Rattle.ice_cli.specs.Completeness.{IsFaultless, ReadsBytes, CheckCompletes, CheckIsDecided}
 
 -- ---- the call answers `check`
 
@@ -78,7 +78,7 @@ ends call journal WriteFault faultless answer = absurd answer
 ends call journal StillOpen faultless answer = absurd answer
 
 pub check_completes : CheckCompletes
-check_completes call journal bytes checks = ends call journal call.status checks.faultless (check_answers call journal checks.served checks.command checks.faultless)
+check_completes call journal bytes checks = ends call journal call.status checks.faultless (check_answers call journal checks.served checks.is checks.faultless)
 
 -- ---- what the checker answers decides the status and the text
 
@@ -103,7 +103,8 @@ record IsDecided (call : Call) (bytes : List ℕ) (status : Status) : Type 0 whe
   ended : status ≡ status_of answer
   wrote : call.text ≡ text_of answer
 
-same_bytes : (told : Option (Option (List ℕ))) (bytes other : List ℕ) → told ≡ Some (Some bytes) → OfTold journal_limit (λ read. read ≡ other) told → other ≡ bytes
+-- a told file is read as what is told
+pub same_bytes : (told : Option (Option (List ℕ))) (bytes other : List ℕ) → told ≡ Some (Some bytes) → OfTold journal_limit (λ read. read ≡ other) told → other ≡ bytes
 same_bytes told bytes other is h = let P : Option (Option (List ℕ)) → Type 0 = λ t. OfTold journal_limit (λ read. read ≡ other) t in sym (subst P is h).1
 
 writes_answer : (call : Call) (journal bytes : List ℕ) (status : Status) → IsTold call journal bytes → WritesAnswer call journal status → IsDecided call bytes status
@@ -123,7 +124,7 @@ end_is_fault (ending.Unended line) fault is = is
 end_is_fault ending.OtherKind fault is = is
 end_is_fault ending.NoMemory fault is = absurd is
 
-end_remembers : (end : CheckEnd) (fault : FileFault) → IsEndFault end fault → end ≢ ending.NoMemory
+pub end_remembers : (end : CheckEnd) (fault : FileFault) → IsEndFault end fault → end ≢ ending.NoMemory
 end_remembers (ending.Grammar line) fault is e = cc
 end_remembers (ending.Unended line) fault is e = cc
 end_remembers ending.OtherKind fault is e = cc
@@ -150,9 +151,9 @@ decided call journal bytes Limit faultless told answer has = absurd answer
 decided call journal bytes WriteFault faultless told answer has = absurd answer
 decided call journal bytes StillOpen faultless told answer has = absurd answer
 
-of_check : (call : Call) (journal bytes : List ℕ) → ChecksBytes call journal bytes → call.status ≢ NoMemory → IsDecided call bytes call.status
+of_check : (call : Call) (journal bytes : List ℕ) → ReadsBytes call (check journal) journal bytes → call.status ≢ NoMemory → IsDecided call bytes call.status
 of_check call journal bytes checks has =
-    decided call journal bytes call.status checks.faultless checks.told (check_answers call journal checks.served checks.command checks.faultless) has
+    decided call journal bytes call.status checks.faultless checks.told (check_answers call journal checks.served checks.is checks.faultless) has
 
 pub check_is_decided : CheckIsDecided
 check_is_decided one other journal name bytes checks_one checks_other has_one has_other =

@@ -16,7 +16,7 @@ use Rattle.ice_cli.specs.Completeness.{IsFaultless, IsValidExchange, IsValidRoun
 use Rattle.ice_cli.proofs.Readings.{exchange_stands, round_stands, has_enough, has_rounds}
 
 -- the first letter of the first word and its third
-abbrev letters : List (List ℕ) → ℕ
+abbrev pub letters : List (List ℕ) → ℕ
 letters words = 256 * get_or (get_or words 0 []) 0 0 + get_or (get_or words 0 []) 2 0
 
 run_answers : (call : Call) (exchange : List ℕ) (rounds : List (List ℕ)) → IsServed call → IsCommand call.words (run exchange rounds) → IsFaultless call → RunAnswers call exchange rounds call.status

@@ -1,5 +1,5 @@
 //! Laws of the answers.
-ghost use Rattle.ice_cli.specs.Completeness.{CheckCompletes, CheckIsDecided, RegretCompletes, RunCompletes};
+ghost use Rattle.ice_cli.specs.Completeness.{CheckCompletes, CheckIsDecided, SpentHasGap, RegretCompletes, RunCompletes};
 
 /// With told bytes within the limit and no fault of the outside, `check` ends with yes, no, a
 /// refusal, or for want of memory.
@@ -12,6 +12,12 @@ pub fn check_completes()
 #[tactic(auto, using(crate::proofs::Completing::check_is_decided))]
 pub fn check_is_decided()
     ensures { CheckIsDecided }
+{}
+
+/// Of what a command wrote that ended because its branches were spent, `gap` writes a gap, or ends
+/// for want of memory: with these bytes told and within the limit, and no fault of the outside.
+pub fn spent_has_gap()
+    ensures { SpentHasGap }
 {}
 
 /// With an exchange file that is told, valid and within the limit, no fault of the outside, and at
