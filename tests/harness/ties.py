@@ -9,7 +9,8 @@ from functools import cached_property
 from itertools import product
 from typing import Any
 
-from harness.judge import Journal, is_feasible, read_journal, satisfied_sets, worth
+from harness.judge import is_feasible, satisfied_sets, worth
+from ice_page.journal import Journal, read_journal
 from ice_page.lines import Lines
 
 # So many rivals are taken as the final trade at most.
