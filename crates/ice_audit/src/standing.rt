@@ -21,6 +21,15 @@ pub(crate) enum Standing {
 }
 
 impl Standing {
+    /// The line of this number fails a test. Never inlined, since each line would pay for the size
+    /// of a machine that is let go.
+    #[inline(never)]
+    fn fail(&mut self, line: u64, rule: Rule)
+        ensures { self.new ≡ Standing.Failed line rule }
+    {
+        *self = Standing::Failed { line, rule };
+    }
+
     /// Takes one more line, which has this number.
     pub(crate) fn take(
         &mut self,
@@ -36,7 +45,7 @@ impl Standing {
             Standing::Going(auditor) => match auditor.take(alloc, line) {
                 Ok(()) => Ok(()),
                 Err(Stop::Fails(rule)) => {
-                    *self = Standing::Failed { line: number, rule };
+                    self.fail(number, rule);
                     Ok(())
                 }
                 Err(Stop::NoMemory) => Err(AllocError),

@@ -13,5 +13,6 @@ returns-in-Ok c =
 
 pub returns-in-Err-Fails : goal.returns-in-Err-Fails
 returns-in-Err-Fails c =
-    subst (λ (s : Standing). GoesBehind c.args.number s (line_of c.args.line.now) (Failed c.args.number c.in-Err-Fails.rule)) (sym c.in-Going.is)
-    (fails_behind c.args.number c.in-Going.auditor (line_of c.args.line.now) c.in-Err-Fails.rule (rw c.in-Err-Fails.field-0-is at c.in-Err-Fails.ensures))
+    subst (λ (t : Standing). GoesBehind c.args.number c.args.self.now (line_of c.args.line.now) t) (sym c.fail.ensures)
+    (subst (λ (s : Standing). GoesBehind c.args.number s (line_of c.args.line.now) (Failed c.args.number c.in-Err-Fails.rule)) (sym c.in-Going.is)
+    (fails_behind c.args.number c.in-Going.auditor (line_of c.args.line.now) c.in-Err-Fails.rule (rw c.in-Err-Fails.field-0-is at c.in-Err-Fails.ensures)))
