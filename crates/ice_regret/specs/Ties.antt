@@ -28,7 +28,7 @@ module _ (ex : Exchange) (bounds : List Bounds) where
 
   -- of the trade that was found first, and of the one that is kept: its regret is no greater; they
   -- are the same, or it is smaller; and where the first one closes a session, they are the same.
-  -- There is nothing left to gain by the rival, or the regret fell five times
+  -- There is nothing left to gain by the rival, or the regret fell by five
   pub record IsKeptOfTies (left : ℕ) (old new : Found) (r : Regret) : Type 0 where
     pub first : ℤ
     pub is_first : IsRegret (market_of ex) bounds old.best first
