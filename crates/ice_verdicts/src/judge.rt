@@ -142,13 +142,6 @@ impl Judge {
         bounds
     }
 
-    /// The bounds that the round leaves, as far as its submissions have come.
-    pub fn next_bounds(&self) -> &[Bounds]
-        ensures { result.now ≡ self.now.next }
-    {
-        &self.next
-    }
-
     /// The provisional sets.
     pub fn sets(&self) -> &Assignment
         ensures { result.now ≡ self.now.sets }
