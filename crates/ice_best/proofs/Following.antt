@@ -28,7 +28,7 @@ gain_small t w x table n tree few l entries =
     let roomy = later_roomy t w x table n tree few l (λ k h l'. entries k (omega (arith, h)) l') in
     let below = children_size-le t (weight_of table.gain) n tree l few roomy in
     let own = (entries n (omega arith) l).small_gain in
-    let bounds = size_of-bounds (weight_of table.gain n) (pos (200 * 2 ^ 90)) (omega (arith, ints, below, own, roomy.room)) in
+    let bounds = size_of-bounds (weight_of table.gain n) (pos (200 * 2 ^ 94)) (omega (arith, ints, below, own, roomy.room)) in
     record { low = bounds.0; high = bounds.1 }
 
 -- a gain fits, and so does what two gains differ by

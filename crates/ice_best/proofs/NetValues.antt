@@ -8,10 +8,10 @@ use Rattle.ice_defs.specs.declared.NodeKind.{NodeKind}
 use Rattle.ice_defs.specs.declared.NodeKind.TheVariants.{Choose, Buy, Sell}
 use Rattle.ice_defs.specs.Sum.{sum_below}
 use Rattle.ice_defs.specs.Tree.{Tree, kind_of}
-use Rattle.ice_defs.specs.Set.{NodeSet, has, Weights, weight_of, AllSmall, IsSmall, value, leaf_units, units}
+use Rattle.ice_defs.specs.Set.{NodeSet, has, Weights, weight_of, value, leaf_units, units}
 use Rattle.ice_defs.proofs.Sums.{sum_below-same, sum_below-add, sum_below-swap, sum_below-zero, sum_below-single, sum_below-low, sum_below-high, at_other, at_same}
 use Rattle.ice_defs.proofs.Products.{times_neg, sum_below-times}
-use Rattle.ice_best.specs.Nets.{Rates, rate_of, node_cost, set_cost, net_at_rates, AreNetWeights}
+use Rattle.ice_best.specs.Nets.{Rates, rate_of, node_cost, set_cost, net_at_rates, IsNet, AllNets, AreNetWeights}
 
 -- ---- what a node costs, good by good
 
@@ -77,8 +77,8 @@ value-nets t w scale rates times nets s are size =
 
 -- ---- the size of a value
 
--- the value of a set at small weights is no larger than 200 of them
-pub value-small : (t : Tree) (s : NodeSet) (nets : Weights) (v : ℤ) → length t ≤ 200 → length nets ≡ length t → AllSmall nets → length s ≡ length t → value s nets ≡ v
+-- the value of a set at nets is no larger than 200 of them
+pub value-small : (t : Tree) (s : NodeSet) (nets : Weights) (v : ℤ) → length t ≤ 200 → length nets ≡ length t → AllNets nets → length s ≡ length t → value s nets ≡ v
     → (neg_ℤ (pos (200 * 2 ^ 90)) ≤ℤ v) × (v ≤ℤ pos (200 * 2 ^ 90))
 value-small t s nets v few nodes small size same =
     let term = λ (n : ℕ). cond (has s n) (weight_of nets n) (pos 0) in
@@ -86,10 +86,10 @@ value-small t s nets v few nodes small size same =
     let over = sum_below-high term (length s) (2 ^ 90) (λ n h. high_at (has s n) n (small n (omega (arith, size, nodes, h)))) in
     (omega (arith, ints, same, under, size, few), omega (arith, ints, same, over, size, few))
   where
-    low_at : (b : Bool) (n : ℕ) → IsSmall (weight_of nets n) → neg_ℤ (pos (2 ^ 90)) ≤ℤ cond b (weight_of nets n) (pos 0)
+    low_at : (b : Bool) (n : ℕ) → IsNet (weight_of nets n) → neg_ℤ (pos (2 ^ 90)) ≤ℤ cond b (weight_of nets n) (pos 0)
     low_at true n h = h.low
     low_at false n h = omega (arith, ints)
 
-    high_at : (b : Bool) (n : ℕ) → IsSmall (weight_of nets n) → cond b (weight_of nets n) (pos 0) ≤ℤ pos (2 ^ 90)
+    high_at : (b : Bool) (n : ℕ) → IsNet (weight_of nets n) → cond b (weight_of nets n) (pos 0) ≤ℤ pos (2 ^ 90)
     high_at true n h = h.high
     high_at false n h = omega (arith, ints)

@@ -101,7 +101,7 @@ module _ (t : Tree) (w : Weights) (x : Fixing) (gain : List ℤ) (needed possibl
       adds_none (Some y) o e = absurd (both_ways _ e o.0)
 
       bounded : (sum : Option ℤ) → IsPick (mark_of x n) (weight_of gain) (has needed) (has possible) (least_of (kind_of t n)) (most_of (kind_of t n)) (children_of t n) (has taken') sum
-          → IsOpened (weight_of w n) sum may v → size_of (weight_of (set gain n v) n) ≤ℤ (pos (2 ^ 90) +ℤ children_size t (weight_of gain) n)
+          → IsOpened (weight_of w n) sum may v → size_of (weight_of (set gain n v) n) ≤ℤ (pos (2 ^ 94) +ℤ children_size t (weight_of gain) n)
       bounded None picks o =
           let zero_is = ap size_of (weight_of-put_same gain n v room_g ∙ o.1) in
           omega (arith, ints, zero_is, size_of-zero t (weight_of gain) n tree l few roomy)

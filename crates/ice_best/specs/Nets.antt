@@ -4,7 +4,7 @@ use Rattle.ice_defs.specs.declared.NodeKind.{NodeKind}
 use Rattle.ice_defs.specs.declared.NodeKind.TheVariants.{Choose, Buy, Sell}
 use Rattle.ice_defs.specs.Sum.{sum_below}
 use Rattle.ice_defs.specs.Tree.{Tree, kind_of}
-use Rattle.ice_defs.specs.Set.{NodeSet, Weights, weight_of, AllSmall, value, units}
+use Rattle.ice_defs.specs.Set.{NodeSet, Weights, weight_of, value, units}
 
 -- one rate for each good: what a unit of it costs; a good past the last one costs nothing
 abbrev pub Rates : Type 0
@@ -41,8 +41,16 @@ net_at_rates t w scale rates times s = (pos scale *ℤ value s w) -ℤ (pos time
 abbrev pub node_net : Tree → Weights → ℕ → Rates → ℕ → ℕ → ℤ
 node_net t w scale rates times n = (pos scale *ℤ weight_of w n) -ℤ (pos times *ℤ node_cost (kind_of t n) rates)
 
--- the same of each node
+-- a net is at most 2^90 in size
+pub record IsNet (z : ℤ) : Type 0 where
+  pub low : neg_ℤ (pos (2 ^ 90)) ≤ℤ z
+  pub high : z ≤ℤ pos (2 ^ 90)
+
+abbrev pub AllNets : Weights → Type 0
+AllNets w = (n : ℕ) → n < length w → IsNet (weight_of w n)
+
+-- the net of each node
 pub record AreNetWeights (t : Tree) (w : Weights) (scale : ℕ) (rates : Rates) (times : ℕ) (nets : Weights) : Type 0 where
   pub nodes : length nets ≡ length t
   pub each : (n : ℕ) → n < length t → weight_of nets n ≡ node_net t w scale rates times n
-  pub small : AllSmall nets
+  pub small : AllNets nets

@@ -15,8 +15,8 @@ IsRightBefore t w x table n p more = (g : ℕ → ℤ) → (g n +ℤ more) ≡ w
 
 -- at most what two gains differ by
 pub record IsDifference (z : ℤ) : Type 0 where
-  pub low : neg_ℤ (pos (400 * 2 ^ 90)) ≤ℤ z
-  pub high : z ≤ℤ pos (400 * 2 ^ 90)
+  pub low : neg_ℤ (pos (400 * 2 ^ 94)) ≤ℤ z
+  pub high : z ≤ℤ pos (400 * 2 ^ 94)
 
 -- all nodes have their entries, but for n's parent, which has its where n adds `more` less
 pub record IsFollowed (t : Tree) (w : Weights) (x : Fixing) (table : Table) (n : ℕ) (more : ℤ) : Type 0 where

@@ -1,8 +1,7 @@
 //! What the nodes of a tree are worth beside what their units cost.
 ghost use Rattle.std.specs.Prelude.{◌≡◌, ◌^◌, ◌<◌, ◌≤◌, length, slice_set, pos, neg_ℤ, ◌-ℤ◌, ◌*ℤ◌, ◌≤ℤ◌};
-ghost use Rattle.ice_defs.specs.Set.{IsSmall};
 ghost use Rattle.ice_defs.specs.Lawful.{IsLimitedKind};
-ghost use Rattle.ice_best.specs.Nets.{rate_of, AreRates, AreAtMostTrillion, node_cost, node_net, AreNetWeights};
+ghost use Rattle.ice_best.specs.Nets.{rate_of, AreRates, AreAtMostTrillion, node_cost, node_net, IsNet, AreNetWeights};
 
 use ice_tree::{NodeKind, Tree, Weights};
 
@@ -79,7 +78,7 @@ fn net_weight(weight: i128, scale: u64, times: u8, cost: i128) -> i128
     requires cost_low { neg_ℤ (pos (2 ^ 72)) ≤ℤ cost }
     requires cost_high { cost ≤ℤ pos (2 ^ 72) }
     ensures value { result ≡ (pos scale *ℤ weight) -ℤ (pos times *ℤ cost) }
-    ensures small { IsSmall result }
+    ensures small { IsNet result }
 {
     times_scale(weight, scale) - times_cost(times, cost)
 }
@@ -103,7 +102,7 @@ pub fn put_net_weight(
     requires rates { AreRates rates.now }
     ensures put { out.new ≡ slice_set out.old node
         (node_net tree.now weights.now scale rates.now times node) }
-    ensures small { IsSmall (node_net tree.now weights.now scale rates.now times node) }
+    ensures small { IsNet (node_net tree.now weights.now scale rates.now times node) }
 {
     // a tree names at most 32 goods
     let _nodes = tree.nodes();

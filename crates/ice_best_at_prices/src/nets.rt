@@ -1,5 +1,5 @@
 //! The net of a set at prices, and the greatest one.
-ghost use Rattle.std.specs.Prelude.{◌≡◌, ◌*◌, ◌^◌, length, pos, neg_ℤ, ◌≤ℤ◌};
+ghost use Rattle.std.specs.Prelude.{◌≡◌, ◌*◌, ◌^◌, ◌≤◌, length, pos, neg_ℤ, ◌≤ℤ◌};
 ghost use Rattle.ice_defs.specs.Rules.{net_at};
 ghost use Rattle.ice_best.specs.Nets.{AreAtMostTrillion, AreNetWeights};
 ghost use Rattle.ice_best_at_prices.specs.Net.{IsBestAtPrices};
@@ -22,7 +22,8 @@ pub struct BestAtPrices {
 fn net_weights(tree: &Tree, weights: &Weights, times: u8, prices: &Prices) -> Weights
     requires nodes { length weights.now ≡ length tree.now }
     requires weights { AreAtMostTrillion weights.now }
-    ensures { AreNetWeights tree.now weights.now prices.now.den prices.now.nums times result }
+    ensures nets { AreNetWeights tree.now weights.now prices.now.den prices.now.nums times result }
+    ensures few { length tree.now ≤ 200 }
 {
     let mut nets = Weights::zero(tree.nodes());
     let den = prices.den() as u64;

@@ -6,12 +6,12 @@ use Rattle.std.proofs.lemmas.List.{length-replicate}
 use Rattle.ice_defs.specs.declared.NodeKind.{NodeKind}
 use Rattle.ice_defs.specs.declared.NodeKind.TheVariants.{Choose, Buy, Sell}
 use Rattle.ice_defs.specs.Tree.{Tree, kind_of}
-use Rattle.ice_defs.specs.Set.{NodeSet, Weights, weight_of, IsSmall, AllSmall, value}
+use Rattle.ice_defs.specs.Set.{NodeSet, Weights, weight_of, value}
 use Rattle.ice_defs.specs.Fixing.{Fixing}
 use Rattle.ice_defs.specs.Greatest.{IsGreatest}
 use Rattle.ice_defs.specs.Trade.{tree_of, weights_of, fixing_of}
 use Rattle.ice_defs.specs.Bound.{Multipliers, net, IsOpen}
-use Rattle.ice_best.specs.Nets.{node_cost, node_net, AreNetWeights}
+use Rattle.ice_best.specs.Nets.{node_cost, node_net, IsNet, AllNets, AreNetWeights}
 use Rattle.ice_best.specs.Entries.{IsTableOf}
 use Rattle.ice_bound.specs.declared.net_table.NetTable.{NetTable}
 use Rattle.ice_bound.specs.Kept.{IsFound, IsNetOf, IsSmallNet}
@@ -113,7 +113,7 @@ without_table t w good before m x table differ without is = record {
 pub record IsMoving (t : Tree) (w : Weights) (before m : Multipliers) (x : Fixing) (table : NetTable) (n : ℕ) : Type 0 where
   pub few : length t ≤ 200
   pub nodes : length table.nets.weights ≡ length t
-  pub small : AllSmall table.nets.weights
+  pub small : AllNets table.nets.weights
   pub moved : (k : ℕ) → k < n → weight_of table.nets.weights k ≡ node_net t w 64 m 1 k
   pub waiting : (k : ℕ) → n ≤ k → k < length t → weight_of table.nets.weights k ≡ node_net t w 64 before 1 k
   pub entries : IsTableOf t table.nets.weights x table.table
@@ -153,7 +153,7 @@ module _ (t : Tree) (w : Weights) (before m : Multipliers) (x : Fixing) (table :
 
 -- and the leaf itself
 pub one_moves : (t : Tree) (w : Weights) (before m : Multipliers) (x : Fixing) (table table2 : NetTable) (n : ℕ) → n < length t
-    → table2.nets.weights ≡ set table.nets.weights n (node_net t w 64 m 1 n) → IsSmall (node_net t w 64 m 1 n) → IsTableOf t table2.nets.weights x table2.table
+    → table2.nets.weights ≡ set table.nets.weights n (node_net t w 64 m 1 n) → IsNet (node_net t w 64 m 1 n) → IsTableOf t table2.nets.weights x table2.table
     → IsMoving t w before m x table n → IsMoving t w before m x table2 (n + 1)
 one_moves t w before m x table table2 n there nets small entries is = record {
   few = is.few;
@@ -173,9 +173,9 @@ one_moves t w before m x table table2 n there nets small entries is = record {
     other : (k : ℕ) → k ≢ n → weight_of table2.nets.weights k ≡ weight_of table.nets.weights k
     other k ne = ap (λ ws. weight_of ws k) nets ∙ get_or-set_other table.nets.weights n k v (pos 0) ne
 
-    small_at : (k : ℕ) → (k ≡ n) ⊎ (k ≡ n → ⊥) → k < length table.nets.weights → IsSmall (weight_of table2.nets.weights k)
-    small_at k (inl e) h = subst (λ j. IsSmall (weight_of table2.nets.weights j)) (sym e) (subst IsSmall (sym here) small)
-    small_at k (inr ne) h = subst IsSmall (sym (other k ne)) (is.small k h)
+    small_at : (k : ℕ) → (k ≡ n) ⊎ (k ≡ n → ⊥) → k < length table.nets.weights → IsNet (weight_of table2.nets.weights k)
+    small_at k (inl e) h = subst (λ j. IsNet (weight_of table2.nets.weights j)) (sym e) (subst IsNet (sym here) small)
+    small_at k (inr ne) h = subst IsNet (sym (other k ne)) (is.small k h)
 
 -- ---- one bidder after another
 

@@ -1,10 +1,10 @@
 //! The table of a tree at its net weights.
 ghost use Rattle.std.specs.Prelude.{◌≡◌, ◌<◌, length, slice_set};
-ghost use Rattle.ice_defs.specs.Set.{Weights as NodeWeights, IsSmall};
+ghost use Rattle.ice_defs.specs.Set.{Weights as NodeWeights};
 ghost use Rattle.ice_defs.specs.Tree.{Tree as Nodes};
 ghost use Rattle.ice_defs.specs.Fixing.{Fixing as Marks};
 ghost use Rattle.ice_defs.specs.Bound.{Multipliers as Numbers};
-ghost use Rattle.ice_best.specs.Nets.{node_net};
+ghost use Rattle.ice_best.specs.Nets.{node_net, IsNet};
 ghost use Rattle.ice_best.specs.Entries.{IsTableOf, DifferOnlyAtMark};
 ghost use Rattle.ice_defs.specs.Conditions.{AreModest};
 ghost use Rattle.ice_bound.specs.Kept.{IsFound, IsNetOf, IsSmallNet};
@@ -71,7 +71,7 @@ impl NetTable {
         ensures net { self.new.nets.weights
             ≡ slice_set self.old.nets.weights node (node_net tree.now
             weights.now 64 m.now 1 node) }
-        ensures small { IsSmall (node_net tree.now weights.now 64 m.now 1 node) }
+        ensures small { IsNet (node_net tree.now weights.now 64 m.now 1 node) }
         ensures entries { IsTableOf tree.now self.new.nets.weights fixing.now self.new.table }
     {
         let before = self.nets.weights.get(node);

@@ -20,8 +20,8 @@ IsReached cut total withouts = Any (λ without. AtMost cut (whole_number (total 
 
 -- the value of a set
 pub record IsWorth (worth : ℤ) : Type 0 where
-  pub low : neg_ℤ (pos (200 * 2 ^ 90)) ≤ℤ worth
-  pub high : worth ≤ℤ pos (200 * 2 ^ 90)
+  pub low : neg_ℤ (pos (200 * 2 ^ 94)) ≤ℤ worth
+  pub high : worth ≤ℤ pos (200 * 2 ^ 94)
 
 -- the discount that the cut leaves of a Vickrey discount, and the payment that the discount
 -- leaves of the value of a set

@@ -83,13 +83,13 @@ impl Assignment {
         requires sets { HasSetPerTree trees.now self.now }
         requires weights { HasWeightPerNode trees.now weights.now }
         ensures value { result ≡ value (set_of self.now bidder) (weights_of weights.now bidder) }
-        ensures low { neg_ℤ (pos (200 * 2 ^ 90)) ≤ℤ result }
-        ensures high { result ≤ℤ pos (200 * 2 ^ 90) }
+        ensures low { neg_ℤ (pos (200 * 2 ^ 94)) ≤ℤ result }
+        ensures high { result ≤ℤ pos (200 * 2 ^ 94) }
     {
         trees[usize::from(bidder)].value(self.of(bidder), weights.of(bidder))
     }
 
-    /// The sum of the values of the sets at weights, at most 8,000 * 2^90 in size. There are at
+    /// The sum of the values of the sets at weights, at most 8,000 * 2^94 in size. There are at
     /// most 40 trees, one of each bidder; each set is of the nodes of its tree, and each node has
     /// one weight. It takes no memory.
     pub fn value(&self, trees: &[Tree], weights: &AllWeights) -> i128
@@ -97,8 +97,8 @@ impl Assignment {
         requires sets { HasSetPerTree trees.now self.now }
         requires weights { HasWeightPerNode trees.now weights.now }
         ensures value { result ≡ total_value self.now weights.now }
-        ensures low { neg_ℤ (pos (8000 * 2 ^ 90)) ≤ℤ result }
-        ensures high { result ≤ℤ pos (8000 * 2 ^ 90) }
+        ensures low { neg_ℤ (pos (8000 * 2 ^ 94)) ≤ℤ result }
+        ensures high { result ≤ℤ pos (8000 * 2 ^ 94) }
     {
         let mut total = 0;
         for bidder in 0..trees.len() as u8 {

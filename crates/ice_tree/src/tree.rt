@@ -167,13 +167,13 @@ impl Tree {
         Ok(())
     }
 
-    /// The sum of the weights over the set, at most 200 * 2^90 in size.
+    /// The sum of the weights over the set, at most 200 * 2^94 in size.
     pub fn value(&self, set: &NodeSet, weights: &Weights) -> i128
         requires set { length set.now ≡ length self.now }
         requires weights { length weights.now ≡ length self.now }
         ensures value { result ≡ value set.now weights.now }
-        ensures low { neg_ℤ (pos (200 * 2 ^ 90)) ≤ℤ result }
-        ensures high { result ≤ℤ pos (200 * 2 ^ 90) }
+        ensures low { neg_ℤ (pos (200 * 2 ^ 94)) ≤ℤ result }
+        ensures high { result ≤ℤ pos (200 * 2 ^ 94) }
     {
         let mut sum = 0;
         for node in 0..self.nodes() {

@@ -13,7 +13,7 @@ use ice_set::NodeSet;
 use std::alloc::{AllocError, Global};
 use std::marker::Model;
 
-/// One weight for each node of a tree, each at most 2^90 in size.
+/// One weight for each node of a tree, each at most 2^94 in size.
 #[derive(Drop)]
 pub struct Weights {
     weights: ArrayVec<i128, 200>,

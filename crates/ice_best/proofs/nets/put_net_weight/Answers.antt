@@ -1,7 +1,6 @@
 use Rattle.std.proofs.Common.{◌≡◌, rules, refl, subst, to_z, of_z}
 use mir.Syntax.{w128}
-use Rattle.ice_defs.specs.Set.{IsSmall}
-use Rattle.ice_best.specs.Nets.{node_net}
+use Rattle.ice_best.specs.Nets.{node_net, IsNet}
 use Rattle.ice_best.proofs.nets.put_net_weight.Goals as goal
 
 pub returns-clause-put : goal.returns-clause-put
@@ -12,4 +11,4 @@ returns-clause-put c =
 pub returns-clause-small : goal.returns-clause-small
 returns-clause-small c =
     let same : c.net_weight.result ≡ node_net c.args.tree.now c.args.weights.now c.args.scale c.args.rates.now c.args.times c.args.node = search rules in
-    subst IsSmall same c.net_weight.ensures.small
+    subst IsNet same c.net_weight.ensures.small

@@ -1,4 +1,4 @@
-use Rattle.std.proofs.Common.{arith, rules, ◌≡◌, ◌∙◌, ap, length, replicate}
+use Rattle.std.proofs.Common.{rules, ◌≡◌, ◌∙◌, ap, length, replicate}
 use Rattle.std.proofs.lemmas.Int.{to_z-of_z}
 use mir.Syntax.{w128}
 use mir.Val.{SFits}
@@ -19,20 +19,20 @@ returns-clause-best c =
     let fits : SFits w128 c.in-Some.net = search rules in
     rw (to_z-of_z w128 c.in-Some.net fits)
     (best-net c.args.tree.now c.args.weights.now c.args.times c.args.prices.now c.net_weights-nets.result c.free-fixing.result c.best.new.out c.in-Some.net
-    c.net_weights-nets.ensures free c.in-Some.ensures.greatest c.in-Some.ensures.set.0 c.in-Some.ensures.set.1)
+    c.net_weights-nets.ensures.nets free c.in-Some.ensures.greatest c.in-Some.ensures.set.0 c.in-Some.ensures.set.1)
 
 pub returns-clause-low : goal.returns-clause-low
 returns-clause-low c =
     let fits : SFits w128 c.in-Some.net = search rules in
-    let are = c.net_weights-nets.ensures in
+    let are = c.net_weights-nets.ensures.nets in
     rw (to_z-of_z w128 c.in-Some.net fits)
-    (value-small c.args.tree.now c.best.new.out c.net_weights-nets.result c.in-Some.net (omega (arith, c.nodes-nodes.ensures.value, c.nodes-nodes.ensures.fits))
+    (value-small c.args.tree.now c.best.new.out c.net_weights-nets.result c.in-Some.net c.net_weights-nets.ensures.few
     are.nodes are.small ((c.in-Some.ensures.set.0).0).same_length c.in-Some.ensures.set.1).0
 
 pub returns-clause-high : goal.returns-clause-high
 returns-clause-high c =
     let fits : SFits w128 c.in-Some.net = search rules in
-    let are = c.net_weights-nets.ensures in
+    let are = c.net_weights-nets.ensures.nets in
     rw (to_z-of_z w128 c.in-Some.net fits)
-    (value-small c.args.tree.now c.best.new.out c.net_weights-nets.result c.in-Some.net (omega (arith, c.nodes-nodes.ensures.value, c.nodes-nodes.ensures.fits))
+    (value-small c.args.tree.now c.best.new.out c.net_weights-nets.result c.in-Some.net c.net_weights-nets.ensures.few
     are.nodes are.small ((c.in-Some.ensures.set.0).0).same_length c.in-Some.ensures.set.1).1

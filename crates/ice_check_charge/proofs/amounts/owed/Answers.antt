@@ -13,11 +13,11 @@ module _ (worth read : ℤ) (den : ℕ) (is : IsWorth worth) (few : den ≤ 1000
       let other : to_z w128 (of_z w128 read) ≡ pos den = omega (arith, ints, reads, few) in
       ap (λ z. z *ℤ to_z w128 (of_z w128 read)) one ∙ ap (λ z. worth *ℤ z) other
 
-  most : (worth *ℤ pos den) ≤ℤ pos (200 * 2 ^ 90 * 1000)
-  most = product_high_of worth (pos den) 1000 (200 * 2 ^ 90) (omega (arith, ints)) (omega (arith, ints, few)) is.high
+  most : (worth *ℤ pos den) ≤ℤ pos (200 * 2 ^ 94 * 1000)
+  most = product_high_of worth (pos den) 1000 (200 * 2 ^ 94) (omega (arith, ints)) (omega (arith, ints, few)) is.high
 
-  least : neg_ℤ (pos (200 * 2 ^ 90 * 1000)) ≤ℤ (worth *ℤ pos den)
-  least = product_low_of worth (pos den) 1000 (200 * 2 ^ 90) (omega (arith, ints)) (omega (arith, ints, few)) is.low
+  least : neg_ℤ (pos (200 * 2 ^ 94 * 1000)) ≤ℤ (worth *ℤ pos den)
+  least = product_low_of worth (pos den) 1000 (200 * 2 ^ 94) (omega (arith, ints)) (omega (arith, ints, few)) is.low
 
   made : to_z w128 (of_z w128 (to_z w128 (of_z w128 worth) *ℤ to_z w128 (of_z w128 read))) ≡ worth *ℤ pos den
   made = ap (λ z. to_z w128 (of_z w128 z)) product ∙ omega (arith, ints, least, most)

@@ -7,6 +7,6 @@ use Rattle.ice_tree.proofs.assignment.Assignment.value.Given as goal
 abbrev pub invariant-loop-bidder : goal.invariant-loop-bidder
 invariant-loop-bidder l = record {
   total : l.total ≡ sum_below (λ b. value (set_of l.self b) (weights_of l.weights b)) l.bidder;
-  low : neg_ℤ (pos (200 * 2 ^ 90 * l.bidder)) ≤ℤ l.total;
-  high : l.total ≤ℤ pos (200 * 2 ^ 90 * l.bidder);
+  low : neg_ℤ (pos (200 * 2 ^ 94 * l.bidder)) ≤ℤ l.total;
+  high : l.total ≤ℤ pos (200 * 2 ^ 94 * l.bidder);
 }
