@@ -74,18 +74,19 @@ pub(crate) fn is_reached(withouts: &[i64], total: i64, cut: &LowestFraction) -> 
 
 /// Whether a fraction equals `num / den`.
 pub(crate) fn equals(fraction: &LowestFraction, num: i128, den: u16) -> bool
-    requires sized { unsigned_abs num ≤ 2 ^ 110 }
     ensures { IsTrue result ↔ Equals (fraction_of fraction.now) (record { num = num; den = den }) }
 {
-    i128::from(fraction.num) * i128::from(den) == num * i128::from(fraction.den)
+    match num.checked_mul(i128::from(fraction.den)) {
+        Some(product) => i128::from(fraction.num) * i128::from(den) == product,
+        None => false,
+    }
 }
 
 /// The value of a set less a discount, over the discount's denominator.
 pub(crate) fn owed(worth: i128, discount: &LowestFraction) -> i128
     requires worth { IsWorth worth }
     requires den { discount.now.den ≤ 1000 }
-    ensures value { result ≡ worth *ℤ pos discount.now.den -ℤ discount.now.num }
-    ensures size { unsigned_abs result ≤ 2 ^ 110 }
+    ensures { result ≡ worth *ℤ pos discount.now.den -ℤ discount.now.num }
 {
     worth * i128::from(discount.den) - i128::from(discount.num)
 }

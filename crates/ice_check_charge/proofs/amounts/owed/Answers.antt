@@ -35,10 +35,3 @@ overflow_sub-result c =
     let low = least c.args.worth c.from.result c.args.discount.now.den c.requires.worth c.requires.den c.from.ensures in
     let high = most c.args.worth c.from.result c.args.discount.now.den c.requires.worth c.requires.den c.from.ensures in
     omega (arith, ints, is, low, high, c.from-2.ensures)
-
-pub returns-clause-size : goal.returns-clause-size
-returns-clause-size c =
-    let is = made c.args.worth c.from.result c.args.discount.now.den c.requires.worth c.requires.den c.from.ensures in
-    let low = least c.args.worth c.from.result c.args.discount.now.den c.requires.worth c.requires.den c.from.ensures in
-    let high = most c.args.worth c.from.result c.args.discount.now.den c.requires.worth c.requires.den c.from.ensures in
-    omega (arith, ints, is, low, high, c.from-2.ensures)
