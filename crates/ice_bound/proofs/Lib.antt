@@ -1,6 +1,7 @@
 pub mod Nets
 pub mod Living
 pub mod Above
+pub mod Derived
 pub mod Totals
 pub mod Fixings
 pub mod Modest

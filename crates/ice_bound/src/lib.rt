@@ -24,6 +24,9 @@ pub use copy::copy_fixings;
 pub use desk::Desk;
 pub use direction::Direction;
 pub use kept::Kept;
-pub use laws::{bounds_are_sound, dead_sides_have_none};
+pub use laws::{
+    bounds_are_sound, bounds_by_are_sound, bounds_stay, charged_weights_give_nets,
+    dead_sides_have_none, plain_bounds_are_bounds,
+};
 pub use multipliers::Multipliers;
 pub use room::Room;

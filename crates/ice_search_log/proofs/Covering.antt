@@ -95,7 +95,7 @@ module _ (ts : List Tree) (exact : List Bool) (ws : List Weights) (start : Side)
   pub key-ge : (k : ℕ) (a : Assignment) → k < length parts → IsFeasible ts exact a → MeetsAll a (side_at start parts k) → total_value a ws ≤ℤ (part_at parts k).key
   key-ge k a l feasible meets =
       let part = is.each k l in
-      bound-ge ts exact ws (part_at parts k).m (side_at start parts k) a part.counts part.signs feasible meets (part_at parts k).key part.bound
+      bound-ge ts exact ws (part_at parts k).m (side_at start parts k) a (omega (arith, part.counts)) part.signs feasible meets (part_at parts k).key part.bound
 
 pub cover_is_whole : CoverIsWhole
 cover_is_whole ts exact ws start first parts open_parts value is each a feasible meets =
