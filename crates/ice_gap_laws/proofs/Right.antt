@@ -12,6 +12,7 @@ use Rattle.ice_defs.specs.Set.{NodeSet}
 use Rattle.ice_defs.specs.Trade.{Assignment, total_value, total_units, is_exact, IsCovered, IsFeasible, MeetsAll}
 use Rattle.ice_defs.specs.Tree.{Tree}
 use Rattle.ice_defs.specs.Bound.{Multipliers}
+use Rattle.ice_defs.specs.Derived.{goods_alone}
 use Rattle.ice_defs.specs.Steps.{Step, branch, leaf, dead, Side, sides_after}
 use Rattle.ice_defs.specs.Log.{Passes}
 use Rattle.ice_defs.specs.declared.Group.{Group}
@@ -73,7 +74,7 @@ module _ (gap : Gap) (now : State) where
     pub valued : total_value sets (weights_at now gap.group) ≡ gap.value
     pub left : IsLeftOut gap.group sets
     pub counts : AllByRecursion (CountsGoods (goods_at now)) log
-    pub stands : (rest : List Step) → Stands (trees_at now) (exact_at now) (weights_at now gap.group) gap.bound (start_of (trees_at now) gap.group) (log ++ rest) sides rest
+    pub stands : (rest : List Step) → Stands goods_alone (trees_at now) (exact_at now) (weights_at now gap.group) gap.bound (start_of (trees_at now) gap.group) (log ++ rest) sides rest
 
   -- and the log passes
   record GapSaid (sets : Assignment) : Type 0 where
@@ -205,7 +206,7 @@ module _ (front : List Record) (gap : Gap) (t : State) (from : Stopped front gap
                   valued = covered true _ _ (λ no. subst (λ b. ¬ misvalued b) last (pass rule.Value) (from.is.valued, no));
                   left = left;
                   counts = tt;
-                  stands = λ rest. stands_at_start _ _ _ _ (start_of (trees_at Now) gap.group) rest;
+                  stands = λ rest. stands_at_start goods_alone _ _ _ _ (start_of (trees_at Now) gap.group) rest;
                 })),
           )
       by false open_set h =
@@ -236,8 +237,8 @@ module _ (front : List Record) (gap : Gap) (t : State) (from : Stopped front gap
     left = is.left;
     counts = is.counts;
     passes =
-        stands_closed (trees_at Now) (exact_at Now) (weights_at Now gap.group) gap.bound (start_of (trees_at Now) gap.group) is.log
-        (subst (λ (log : List Step). Stands (trees_at Now) (exact_at Now) (weights_at Now gap.group) gap.bound (start_of (trees_at Now) gap.group) log [] []) (append-nil is.log) (is.stands []));
+        stands_closed goods_alone (trees_at Now) (exact_at Now) (weights_at Now gap.group) gap.bound (start_of (trees_at Now) gap.group) is.log
+        (subst (λ (log : List Step). Stands goods_alone (trees_at Now) (exact_at Now) (weights_at Now gap.group) gap.bound (start_of (trees_at Now) gap.group) log [] []) (append-nil is.log) (is.stands []));
   }
 
   log_on : (n : ℕ) (sets : Assignment) (steps : List Record) (side : Side) (sides : List Side) (m : Multipliers) (r : Record) (after : State) → LogSaid gap (before_head t.place t) sets (side ∷ sides) m
@@ -265,8 +266,8 @@ module _ (front : List Record) (gap : Gap) (t : State) (from : Stopped front gap
         left = is.left;
         counts = all_push (CountsGoods (goods_at Now)) is.log x is.counts (step_counts Now.version (goods_at Now) m r x is.count f);
         stands = λ rest.
-            subst (λ (log : List Step). Stands (trees_at Now) (exact_at Now) (weights_at Now gap.group) gap.bound (start_of (trees_at Now) gap.group) log (sides_after (side ∷ sides) x) rest) (sym (append_assoc is.log (x ∷ []) rest))
-            (stands_more (trees_at Now) (exact_at Now) (weights_at Now gap.group) gap.bound (start_of (trees_at Now) gap.group) (is.log ++ x ∷ rest) side sides x rest (passes x f) (is.stands (x ∷ rest)));
+            subst (λ (log : List Step). Stands goods_alone (trees_at Now) (exact_at Now) (weights_at Now gap.group) gap.bound (start_of (trees_at Now) gap.group) log (sides_after (side ∷ sides) x) rest) (sym (append_assoc is.log (x ∷ []) rest))
+            (stands_more goods_alone (trees_at Now) (exact_at Now) (weights_at Now gap.group) gap.bound (start_of (trees_at Now) gap.group) (is.log ++ x ∷ rest) side sides x rest (passes x f) (is.stands (x ∷ rest)));
       }
 
       Behind : List Record

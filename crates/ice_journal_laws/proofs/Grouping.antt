@@ -15,6 +15,7 @@ use Rattle.ice_defs.specs.Fixing.{mark_of}
 use Rattle.ice_defs.specs.Vickrey.{IsEmpty}
 use Rattle.ice_defs.specs.Trade.{Assignment, tree_of, set_of, fixing_of, total_value, total_units, is_exact, IsCovered, IsFeasible}
 use Rattle.ice_defs.specs.Bound.{Multipliers}
+use Rattle.ice_defs.specs.Derived.{goods_alone}
 use Rattle.ice_defs.specs.Steps.{Step, branch, leaf, dead, Side, sides_after}
 use Rattle.ice_defs.specs.Log.{IsFreeNode, IsDeadBidder, Passes}
 use Rattle.ice_defs.specs.declared.Group.{Group}
@@ -88,7 +89,7 @@ module _ (version : Version) (ex : Exchange) (before : List Record) where
     pub valued : total_value found.sets ws ≡ found.value
     pub left : IsLeftOut g found.sets
     pub counts : AllByRecursion (CountsGoods (length (exact_of ex))) log
-    pub stands : (rest : List Step) → Stands (trees_of ex) (exact_of ex) ws found.value (start_of (trees_of ex) g) (log ++ rest) sides rest
+    pub stands : (rest : List Step) → Stands goods_alone (trees_of ex) (exact_of ex) ws found.value (start_of (trees_of ex) g) (log ++ rest) sides rest
 
   -- the log passes
   pub record GroupSaid (ws : List Weights) (front : List Record) (g : Group) (found : Stated) : Type 0 where
@@ -221,7 +222,7 @@ sets_go_on before s front g found (line.set x) after valued is e pass P more ful
       valued = covered true _ _ (λ no. subst (λ b. ¬ misvalued b) last (pass rule.Value) (valued, no));
       left = left_more s g found x is.left (pass rule.Fixing);
       counts = tt;
-      stands = λ rest. stands_at_start _ _ _ _ (start_of (trees_at s) g) rest;
+      stands = λ rest. stands_at_start goods_alone _ _ _ _ (start_of (trees_at s) g) rest;
     }))
     by false open_set h = of_same _ after h P (more x (record {
       tells = tells;
@@ -296,8 +297,8 @@ step_added before s front g found side open_sides m r x is e passes =
       left = is.left;
       counts = all_push (CountsGoods (goods_at s)) is.log x is.counts wrote.counts;
       stands = λ rest.
-          subst (λ (log : List Step). Stands (trees_at s) (exact_at s) (weights_at s g) found.value (start_of (trees_at s) g) log (sides_after (side ∷ open_sides) x) rest) (sym (append_assoc is.log (x ∷ []) rest))
-          (stands_more (trees_at s) (exact_at s) (weights_at s g) found.value (start_of (trees_at s) g) (is.log ++ x ∷ rest) side open_sides x rest passes (is.stands (x ∷ rest)));
+          subst (λ (log : List Step). Stands goods_alone (trees_at s) (exact_at s) (weights_at s g) found.value (start_of (trees_at s) g) log (sides_after (side ∷ open_sides) x) rest) (sym (append_assoc is.log (x ∷ []) rest))
+          (stands_more goods_alone (trees_at s) (exact_at s) (weights_at s g) found.value (start_of (trees_at s) g) (is.log ++ x ∷ rest) side open_sides x rest passes (is.stands (x ∷ rest)));
     }
 
 log_closed : (before : List Record) (s : State) (front : List Record) (g : Group) (found : Stated) (m : Multipliers) → InLog before s front g found [] m → InProved before s front g found
@@ -309,8 +310,8 @@ log_closed before s front g found m is = record {
   left = is.left;
   counts = is.counts;
   passes =
-      stands_closed (trees_at s) (exact_at s) (weights_at s g) found.value (start_of (trees_at s) g) is.log
-      (subst (λ (log : List Step). Stands (trees_at s) (exact_at s) (weights_at s g) found.value (start_of (trees_at s) g) log [] []) (append-nil is.log) (is.stands []));
+      stands_closed goods_alone (trees_at s) (exact_at s) (weights_at s g) found.value (start_of (trees_at s) g) is.log
+      (subst (λ (log : List Step). Stands goods_alone (trees_at s) (exact_at s) (weights_at s g) found.value (start_of (trees_at s) g) log [] []) (append-nil is.log) (is.stands []));
 }
 
 pub log_goes_on : (before : List Record) (s : State) (front : List Record) (g : Group) (found : Stated) (side : Side) (open_sides : List Side) (m : Multipliers) (r : Record) (after : State)

@@ -6,6 +6,7 @@ use Rattle.std.proofs.lemmas.Option.{none-some}
 use Rattle.ice_defs.specs.Tree.{Tree}
 use Rattle.ice_defs.specs.Set.{Weights}
 use Rattle.ice_defs.specs.Bound.{Multipliers}
+use Rattle.ice_defs.specs.Derived.{goods_alone}
 use Rattle.ice_defs.specs.Steps.{Step, branch, leaf, dead, Side, sides_after}
 use Rattle.ice_defs.specs.Log.{Fault, above, is_above, is_dead_leaf, closes}
 use Rattle.ice_defs.specs.declared.Group.{Group}
@@ -126,11 +127,11 @@ module _ (s : State) (g : Group) (found : Stated) (side : Side) (others : List S
   step_at_fault x other e near h = absurd h
 
   not_above : (n : Multipliers) → PassesAt (trees_at s) (exact_at s) (weights_at s g) found.value side (leaf n) → IsAbove s (taken (leaf n)) (leaf n) → ⊥
-  not_above n (signs, inl is_dead) (v, bound, high) = apart (Reads-same (trees_at s) (exact_at s) (weights_at s g) found.value (is_above {rest = []} signs bound high) (is_dead_leaf signs is_dead))
+  not_above n (signs, inl is_dead) (v, bound, high) = apart (Reads-same goods_alone (trees_at s) (exact_at s) (weights_at s g) found.value (is_above {rest = []} signs bound high) (is_dead_leaf signs is_dead))
     where
       apart : (let o : Result (List Step) Fault = Err (above (leaf n ∷ []) v) in o) ≡ Ok [] → ⊥
       apart e = cc
-  not_above n (signs, inr (w, fits, low)) (v, bound, high) = apart (Reads-same (trees_at s) (exact_at s) (weights_at s g) found.value (is_above {rest = []} signs bound high) (closes signs fits low))
+  not_above n (signs, inr (w, fits, low)) (v, bound, high) = apart (Reads-same goods_alone (trees_at s) (exact_at s) (weights_at s g) found.value (is_above {rest = []} signs bound high) (closes signs fits low))
     where
       apart : (let o : Result (List Step) Fault = Err (above (leaf n ∷ []) v) in o) ≡ Ok [] → ⊥
       apart e = cc

@@ -3,8 +3,9 @@ use Rattle.std.proofs.Common.{◌+◌, ◌≡◌, Bool, List, [], ◌∷◌, len
 use Rattle.ice_defs.specs.declared.Mark.TheVariants.{Never}
 use Rattle.ice_defs.specs.Tree.{Tree}
 use Rattle.ice_defs.specs.Set.{Weights}
+use Rattle.ice_defs.specs.Derived.{Means}
 use Rattle.ice_defs.specs.Steps.{Step, Side, with_mark, steps_with_sides}
-use Rattle.ice_defs.specs.Log.{Reads, branches, is_dead_leaf, closes, is_dead}
+use Rattle.ice_defs.specs.Log.{ReadsBy, branches, is_dead_leaf, closes, is_dead}
 use Rattle.ice_refute.specs.Laws.{open_after, LogCloses}
 
 -- the steps that a side takes leave the other sides
@@ -16,8 +17,8 @@ placed-empty : (log : List Step) → length (steps_with_sides [] log) ≡ 0
 placed-empty [] = refl
 placed-empty (step ∷ log) = refl
 
-module _ (ts : List Tree) (exact : List Bool) (ws : List Weights) (target : ℤ) where
-  taken : {side : Side} {log left : List Step} → Reads ts exact ws target side log (Ok left) → (sides : List Side) → IsTaken side sides log left
+module _ (means : Means) (ts : List Tree) (exact : List Bool) (ws : List Weights) (target : ℤ) where
+  taken : {side : Side} {log left : List Step} → ReadsBy means ts exact ws target side log (Ok left) → (sides : List Side) → IsTaken side sides log left
   taken (branches {side = side} {b = b} {n = n} free must never) sides =
       let first = taken must (with_mark side b n Never ∷ sides) in
       let second = taken never sides in
@@ -27,6 +28,6 @@ module _ (ts : List Tree) (exact : List Bool) (ws : List Weights) (target : ℤ)
   taken (is_dead is) sides = record { closed = refl; placed_all = omega arith }
 
 pub log_closes : LogCloses
-log_closes ts exact ws target start log passes =
-    let all = taken ts exact ws target passes [] in
+log_closes means ts exact ws target start log passes =
+    let all = taken means ts exact ws target passes [] in
     (all.closed, omega (arith, all.placed_all))

@@ -5,8 +5,9 @@ use Rattle.ice_defs.specs.declared.Mark.TheVariants.{Must, Never}
 use Rattle.ice_defs.specs.Tree.{Tree}
 use Rattle.ice_defs.specs.Set.{Weights}
 use Rattle.ice_defs.specs.Trade.{fixing_of}
+use Rattle.ice_defs.specs.Derived.{Means}
 use Rattle.ice_defs.specs.Steps.{Step, Side, with_mark, branch_count}
-use Rattle.ice_defs.specs.Log.{IsFreeNode, Reads, branches, is_dead_leaf, closes, is_dead}
+use Rattle.ice_defs.specs.Log.{IsFreeNode, ReadsBy, branches, is_dead_leaf, closes, is_dead}
 use Rattle.ice_defs.specs.Conditions.{AreFixingsOf}
 use Rattle.ice_bound.proofs.Fixings.{marked_fixings}
 use Rattle.ice_refute.specs.Waiting.{is_free, free_count}
@@ -33,11 +34,11 @@ record IsCounted (free branches_before branches_left steps_before steps_left : �
   few : branches_before + 1 ≤ branches_left + 2 ^ free
   odd : steps_before + 2 * branches_left ≡ steps_left + 2 * branches_before + 1
 
-module _ (ts : List Tree) (exact : List Bool) (ws : List Weights) (target : ℤ) where
+module _ (means : Means) (ts : List Tree) (exact : List Bool) (ws : List Weights) (target : ℤ) where
   closing : (free b n : ℕ) → IsCounted free b b (n + 1) n
   closing free b n = record { few = omega (arith, power_positive free); odd = omega arith }
 
-  counted : {side : Side} {log left : List Step} → Reads ts exact ws target side log (Ok left) → AreFixingsOf ts side
+  counted : {side : Side} {log left : List Step} → ReadsBy means ts exact ws target side log (Ok left) → AreFixingsOf ts side
       → IsCounted (free_count side) (branch_count log) (branch_count left) (length log) (length left)
   counted (branches {side = side} {b = b} {n = n} {rest = rest} free must never) are =
       let first = counted must (marked_fixings ts side b n Must are) in
@@ -53,7 +54,7 @@ module _ (ts : List Tree) (exact : List Bool) (ws : List Weights) (target : ℤ)
   counted (is_dead {side = side} {rest = rest} is) are = record { few = omega (arith, power_positive (free_count side)); odd = omega arith }
 
 pub log_is_short : LogIsShort
-log_is_short ts exact ws target start log are passes =
-    let all = counted ts exact ws target passes are in
+log_is_short means ts exact ws target start log are passes =
+    let all = counted means ts exact ws target passes are in
     let double : 2 ^ (free_count start + 1) ≡ 2 ^ free_count start + 2 ^ free_count start = halved (free_count start) (free_count start + 1) refl in
     (omega (arith, all.few), omega (arith, all.few, all.odd, double))

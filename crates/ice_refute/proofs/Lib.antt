@@ -1,5 +1,7 @@
 -- where reading a side leaves steps, no feasible assignment that meets the side is above the target
 pub mod Refutes
+-- logs with derived goods: by goods alone, with more of them, and lawful lists
+pub mod Derived
 -- reading a side has one end
 pub mod Same
 -- reading the open sides one after another

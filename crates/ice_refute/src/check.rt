@@ -1,6 +1,7 @@
 //! Whether a log passes.
 ghost use Rattle.std.specs.Prelude.{◌≡◌, ◌≤◌, ◌↔◌, length, sum, true, IsOk, IfOk, OnOk, IfErr};
 ghost use Rattle.std.specs.List.{AllByRecursion};
+ghost use Rattle.ice_defs.specs.Derived.{goods_alone};
 ghost use Rattle.ice_defs.specs.Log.{Passes};
 ghost use Rattle.ice_defs.specs.Conditions.{AreWeightsOf};
 ghost use Rattle.ice_refute.specs.Code.{CountsGoods};
@@ -70,7 +71,7 @@ pub fn check_log(
     requires goods { AllByRecursion (CountsGoods (length desk.old.room)) log.now }
     // What comes of it
     ensures ok { IsOk result ↔ Passes trees.now desk.old.room weights.now target start.now log.now }
-    ensures fault { IfErr result (IsLogFault trees.now desk.old.room weights.now target
+    ensures fault { IfErr result (IsLogFault goods_alone trees.now desk.old.room weights.now target
         start.now log.now) }
     // Either way
     ensures marks { nodes_of desk.new.marks ≡ nodes_of trees.now }

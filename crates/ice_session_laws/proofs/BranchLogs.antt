@@ -14,6 +14,7 @@ use Rattle.ice_defs.specs.Conditions.{AreFixingsOf}
 use Rattle.ice_bound.proofs.Fixings.{free_fixings, marked_fixings}
 use Rattle.ice_refute.specs.Waiting.{nodes_of, free_count}
 use Rattle.ice_refute.proofs.Kept.{free_count-le, nodes_of-with_mark}
+use Rattle.ice_defs.specs.Derived.{goods_alone}
 use Rattle.ice_refute.proofs.Counting.{log_is_short}
 use Rattle.ice_session_laws.specs.Branches.{node_total}
 use Rattle.ice_session_laws.specs.BranchLaws.{GroupLogIsShort}
@@ -41,6 +42,6 @@ pub group_log_is_short : GroupLogIsShort
 group_log_is_short ex ws target g log passes =
     let ts = trees_of ex in
     let start = start_of ts g in
-    let short = (log_is_short ts (exact_of ex) ws target start log (start_fixings ts g) passes).0 in
+    let short = (log_is_short goods_alone ts (exact_of ex) ws target start log (start_fixings ts g) passes).0 in
     let few : free_count start ≤ node_total ex = omega (arith, free_count-le start, ap sum (start_nodes ts g), free_nodes ts) in
     omega (arith, short, pow-le-pow_right {n = 2} (omega arith) few)

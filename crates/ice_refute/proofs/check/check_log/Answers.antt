@@ -5,6 +5,7 @@ use Rattle.ice_refute.specs.declared.fault.LogFault.TheVariants as faults
 use Rattle.ice_refute.specs.Code.{step_of}
 use Rattle.ice_refute.specs.Waiting.{nodes_of}
 use Rattle.ice_refute.proofs.Kept.{kept_at_start}
+use Rattle.ice_defs.specs.Derived.{goods_alone}
 use Rattle.ice_refute.proofs.Reading.{stands_at_start, fault_fails}
 use Rattle.ice_refute.proofs.Standing.{next_step, length-log, next_counts, long_at, short_at, closed_at, more_at, fault_at}
 use Rattle.ice_refute.proofs.check.check_log.Goals as goal
@@ -17,7 +18,7 @@ loop-step-init c =
       number = refl;
       steps = c.steps-step-items.ensures;
       goods = c.requires.goods;
-      stands = record { stands = stands_at_start c.args.trees.now c.args.desk.now.room c.args.weights.now _ c.args.start.now c.args.log.now };
+      stands = record { stands = stands_at_start goods_alone c.args.trees.now c.args.desk.now.room c.args.weights.now _ c.args.start.now c.args.log.now };
       kept = kept_at_start c.args.start.now few;
       nodes = c.requires.start;
       exact = refl;
@@ -35,7 +36,7 @@ returns-then-not-is_open-clause-fault c =
 pub returns-then-not-is_open-clause-ok : goal.returns-then-not-is_open-clause-ok
 returns-then-not-is_open-clause-ok c = (
   λ e. cc,
-  λ passes. absurd (fault_fails c.args.trees.now c.args.desk.now.room c.args.weights.now c.args.target c.args.start.now c.args.log.now (faults.Long c.loop-step.number)
+  λ passes. absurd (fault_fails goods_alone c.args.trees.now c.args.desk.now.room c.args.weights.now c.args.target c.args.start.now c.args.log.now (faults.Long c.loop-step.number)
       (returns-then-not-is_open-clause-fault c) passes),
 )
 
@@ -59,7 +60,7 @@ returns-in-Err-clause-fault c =
 pub returns-in-Err-clause-ok : goal.returns-in-Err-clause-ok
 returns-in-Err-clause-ok c = (
   λ e. cc,
-  λ passes. absurd (fault_fails c.args.trees.now c.args.desk.now.room c.args.weights.now c.args.target c.args.start.now c.args.log.now (faults.At c.loop-step.number c.in-Err.fault)
+  λ passes. absurd (fault_fails goods_alone c.args.trees.now c.args.desk.now.room c.args.weights.now c.args.target c.args.start.now c.args.log.now (faults.At c.loop-step.number c.in-Err.fault)
       (returns-in-Err-clause-fault c) passes),
 )
 
@@ -92,7 +93,7 @@ returns-then-is_open-clause-fault c =
 pub returns-then-is_open-clause-ok : goal.returns-then-is_open-clause-ok
 returns-then-is_open-clause-ok c = (
   λ e. cc,
-  λ passes. absurd (fault_fails c.args.trees.now c.args.desk.now.room c.args.weights.now c.args.target c.args.start.now c.args.log.now faults.Short
+  λ passes. absurd (fault_fails goods_alone c.args.trees.now c.args.desk.now.room c.args.weights.now c.args.target c.args.start.now c.args.log.now faults.Short
       (returns-then-is_open-clause-fault c) passes),
 )
 
