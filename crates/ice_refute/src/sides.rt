@@ -42,7 +42,7 @@ fn split(marks: &mut Fixings, branches: &mut Vec<(u8, u16)>, bidder: u8, node: u
 
 /// Leaves the first open side, which is closed, for the next one. False comes exactly where there
 /// is none.
-fn leave(marks: &mut Fixings, branches: &mut Vec<(u8, u16)>) -> bool
+pub(crate) fn leave(marks: &mut Fixings, branches: &mut Vec<(u8, u16)>) -> bool
     requires kept { AreKept marks.old branches.old.items }
     requires room { 2000 ≤ vec_capacity branches.old }
     ensures sides { open_sides result marks.new branches.new.items

@@ -1,6 +1,7 @@
 //! A walk through a log, step by step.
 ghost use Rattle.std.specs.Prelude.{◌≡◌, ◌<◌, ◌≤◌, ◌↔◌, [], ◌∷◌, length, sum, IsTrue, IfOk, OnOk, IfErr, OnErr};
-ghost use Rattle.ice_defs.specs.Steps.{sides_after};
+ghost use Rattle.ice_defs.specs.Bound.{Multipliers};
+ghost use Rattle.ice_defs.specs.Steps.{leaf, sides_after};
 ghost use Rattle.ice_defs.specs.Conditions.{AreWeightsOf};
 ghost use Rattle.ice_refute.specs.Code.{step_of, CountsGoods};
 ghost use Rattle.ice_refute.specs.Passing.{PassesAt, HasFault};
@@ -8,7 +9,7 @@ ghost use Rattle.ice_refute.specs.Waiting.{nodes_of, first_side};
 
 use crate::fault::StepFault;
 use crate::judge::judge;
-use crate::sides::advance;
+use crate::sides::{advance, leave};
 use crate::step::Step;
 use ice_best::Fixings;
 use ice_bound::{Desk, copy_fixings};
@@ -102,6 +103,25 @@ impl Walk {
         judge(trees, weights, target, step, &self.marks, &mut desk.room)?;
         self.is_open = advance(step, &mut self.marks, &mut self.branches);
         Ok(())
+    }
+
+    /// The first open side.
+    pub fn side(&self) -> &Fixings
+        requires { 0 < length self.now.sides }
+        ensures side { result.now ≡ first_side self.now.sides }
+        ensures nodes { nodes_of result.now ≡ self.now.nodes }
+    {
+        &self.marks
+    }
+
+    /// Takes the first open side away, as a leaf does that passes. Takes no memory.
+    pub fn leave(&mut self)
+        requires { 0 < length self.old.sides }
+        ensures sides { (m : Multipliers) → self.new.sides ≡ sides_after self.old.sides (leaf m) }
+        ensures few { length self.new.sides ≤ 2001 }
+        ensures nodes { self.new.nodes ≡ self.old.nodes }
+    {
+        self.is_open = leave(&mut self.marks, &mut self.branches);
     }
 
     /// Whether no side is open.
