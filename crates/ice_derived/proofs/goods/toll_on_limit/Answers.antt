@@ -1,0 +1,14 @@
+use Rattle.std.proofs.Common.{◌≡◌, ◌^◌, ◌*ℤ◌, rules, to_z, of_z}
+use mir.Syntax.{w128}
+use Rattle.ice_derived.proofs.Products.{times_within-low, times_within-high}
+use Rattle.ice_derived.proofs.goods.toll_on_limit.Goals as goal
+
+pub returns-clause-low : goal.returns-clause-low
+returns-clause-low c =
+    let same : to_z w128 (of_z w128 (to_z w128 (of_z w128 c.from.result) *ℤ to_z w128 (of_z w128 c.from-2.result))) ≡ c.args.toll *ℤ c.args.limit = search rules in
+    rw same (times_within-low c.args.toll c.args.limit (2 ^ 62) (2 ^ 40) c.requires.toll.low c.requires.toll.high c.requires.limit.low c.requires.limit.high)
+
+pub returns-clause-high : goal.returns-clause-high
+returns-clause-high c =
+    let same : to_z w128 (of_z w128 (to_z w128 (of_z w128 c.from.result) *ℤ to_z w128 (of_z w128 c.from-2.result))) ≡ c.args.toll *ℤ c.args.limit = search rules in
+    rw same (times_within-high c.args.toll c.args.limit (2 ^ 62) (2 ^ 40) c.requires.toll.low c.requires.toll.high c.requires.limit.low c.requires.limit.high)

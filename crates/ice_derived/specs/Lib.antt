@@ -1,0 +1,5 @@
+pub mod Ranges
+pub mod Nets
+pub mod Answer
+pub mod Adding
+pub mod Laws
