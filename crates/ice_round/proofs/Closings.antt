@@ -1,5 +1,5 @@
 -- From the parts of a close to the last settlement of a session.
-use Rattle.std.proofs.Common.{ℕ, suc, ◌+◌, ◌≡◌, ◌<◌, List, [], ◌∷◌, length, map, zip, get_or, ◌-ℤ◌, refl, arith, ap, sym, subst, ◌∙◌}
+use Rattle.std.proofs.Common.{ℕ, suc, true, ◌+◌, ◌≡◌, ◌<◌, List, [], ◌∷◌, length, map, zip, get_or, ◌-ℤ◌, refl, arith, ap, sym, subst, ◌∙◌}
 use Rattle.std.specs.List.{AllByRecursion}
 use Rattle.std.proofs.lemmas.List.{length-map}
 use Rattle.ice_defs.specs.Sum.{numbers_below}
@@ -9,17 +9,18 @@ use Rattle.ice_defs.specs.Fraction.{Fraction}
 use Rattle.ice_defs.specs.Cut.{IsCut}
 use Rattle.ice_defs.specs.Threshold.{IsThreshold, ArePayments, IsSurplus}
 use Rattle.ice_defs.specs.Exchange.{trees_of, exact_of, names_of}
-use Rattle.ice_defs.specs.Session.{Payment}
+use Rattle.ice_defs.specs.Session.{Payment, closes}
 use Rattle.ice_headline_laws.specs.Right.{own_values, IsClosed}
 use Rattle.ice_defs.proofs.Below.{length-numbers_below, get_or-numbers_below}
 use Rattle.ice_headline_laws.proofs.OwnValues.{own_count}
 use Rattle.ice_trade.proofs.Weighted.{length-trees, length-names}
 use Rattle.ice_vickrey.specs.Economy.{Economy}
-use Rattle.ice_vickrey.specs.Marginals.{proved_without, AreMarginalsFrom, AreMarginals}
+use Rattle.ice_vickrey.specs.Marginals.{proved_without, AreMarginalsFrom, AreMarginals, branches_of}
 use Rattle.ice_vickrey.specs.declared.marginal.Marginal.{Marginal}
 use Rattle.ice_round.specs.SessionAt.{SessionAt, IsSessionAt}
-use Rattle.ice_round.specs.Searches.{economy_of, IsSettlementOf}
+use Rattle.ice_round.specs.Searches.{economy_of, settlement_branches, IsSettlementOf}
 use Rattle.ice_round.specs.Paying.{discounts_of, ArePaymentsOf}
+use Rattle.ice_round.specs.Shown.{IsClosing}
 use Rattle.ice_settled.specs.Shown.{payments_of, closed_of}
 use Rattle.ice_settled.specs.declared.settled.Closing.{Closing}
 
@@ -89,3 +90,19 @@ closed_is s c at settlement marginals paid =
           (subst (ArePayments (own_values s.bounds c.best.best) ds) (sym parts.3) paid.payments);
       surplus = subst (λ qs. IsSurplus c.best.value qs c.payments.surplus) (sym parts.2) paid.surplus;
     }
+
+pub closing_is : (s : SessionAt) (c : Closing) (left : ℕ) → IsSessionAt s → c.exchange ≡ s.exchange → c.bounds.items ≡ s.bounds → c.number ≡ s.number → closes s.exchange.settings s.number c.regret.amount ≡ true
+    → IsSettlementOf s c.best c.regret → AreMarginals (economy_of s c.best) c.marginals.items → ArePaymentsOf s.bounds c.best c.marginals.items c.payments
+    → left + (settlement_branches c.best c.regret + branches_of c.marginals.items) ≡ s.branches → IsClosing s c
+closing_is s c left at exchange bounds number closing settlement marginals paid count = record {
+  exchange = exchange;
+  bounds = bounds;
+  number = number;
+  closes = closing;
+  settlement = settlement;
+  marginals = marginals;
+  closed = closed_is s c at settlement marginals paid;
+  cut_down = paid.cut_down;
+  short = paid.short;
+  branches = omega (arith, count);
+}

@@ -17,7 +17,7 @@ use Rattle.ice_round.specs.Searches.{provisional_search, IsSettlementOf}
 use Rattle.ice_settled.specs.Shown.{going_of}
 use Rattle.ice_round.specs.Shown.{priced_trade}
 use Rattle.ice_settled.specs.declared.settled.Opening.{Opening}
-use Rattle.ice_round.proofs.Settling.{best_found}
+use Rattle.ice_round.proofs.Settlements.{best_found}
 
 pub going_is : (s : SessionAt) (o : Opening) → IsSettlementOf s o.best o.regret → IsFoundBy (provisional_search s) o.provisional → IsPriced (priced_trade s o) o.pricing
     → IsGoing s.exchange s.bounds (going_of o [])

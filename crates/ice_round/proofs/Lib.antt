@@ -1,5 +1,5 @@
 -- from the searches to the final sets, their rival and the regret
-pub mod Settling
+pub mod Settlements
 -- from the parts of a close to the last settlement of a session
 pub mod Closings
 -- a settlement that goes on
@@ -10,3 +10,5 @@ pub mod Rounds
 pub mod Limiting
 -- what a halt says
 pub mod Halting
+-- one more bidder is done
+pub mod Growing

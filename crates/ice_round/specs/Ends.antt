@@ -57,10 +57,15 @@ module _ (s : SessionAt) where
         → IsPriceEnd (provisional_of s.exchange (weighted_weights s.exchange.settings.weight s.bounds) provisional.best) (price.Limit limit)
         → IsLimitAt (Some best) (Some regret) (Some provisional) [] limit
 
--- a search before all discounts ended early, after these were found
-abbrev pub IsStoppedAt : SessionAt → Option Found → Option Regret → ends.SearchEnd → Type 0
-IsStoppedAt s best regret (variants.Spent spent) = IsSpentAt s best regret None [] spent
-IsStoppedAt s best regret variants.NoMemory = Unit {0}
+-- a search ended early, after these were found
+abbrev pub IsStoppedAt : SessionAt → Option Found → Option Regret → List Marginal → ends.SearchEnd → Type 0
+IsStoppedAt s best regret done (variants.Spent spent) = IsSpentAt s best regret None done spent
+IsStoppedAt s best regret done variants.NoMemory = Unit {0}
+
+-- a halt has what was found before the search that ended early
+abbrev pub IsHaltedBy : SessionAt → Halt → ends.SearchEnd → Type 0
+IsHaltedBy s h (variants.Spent spent) = IsHaltOf s h × IsSpentAt s h.best h.regret h.provisional h.marginals.items spent
+IsHaltedBy s h variants.NoMemory = Unit {0}
 
 -- each end by its cause; want of memory has none
 abbrev pub IsSettledAs : SessionAt → Settled → Type 0

@@ -4,3 +4,5 @@ pub mod Searches
 pub mod Paying
 pub mod Shown
 pub mod Ends
+pub mod Settling
+pub mod KeptSettling

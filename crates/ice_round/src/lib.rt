@@ -2,12 +2,16 @@
 #![tactic(auto)]
 
 mod in_round;
+mod offer;
 mod payments;
 mod ready;
 mod session;
 mod settle;
 mod settled;
+mod settling;
 
 pub use in_round::InRound;
+pub use offer::Offer;
 pub use ready::Ready;
 pub use settled::Settled;
+pub use settling::Settling;

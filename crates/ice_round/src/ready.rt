@@ -1,10 +1,14 @@
 //! A session between rounds.
-ghost use Rattle.std.specs.Prelude.{◌≡◌, IfOk};
+ghost use Rattle.std.specs.Prelude.{◌≡◌, [], IfOk, IfErr};
 ghost use Rattle.ice_defs.specs.Exchange.{opening_bounds};
-ghost use Rattle.ice_round.specs.Ends.{IsSettledAs};
+ghost use Rattle.ice_round.specs.Ends.{IsHaltedBy, IsSettledAs};
+ghost use Rattle.ice_round.specs.Settling.{IsSettling};
 
 use crate::session::Session;
 use crate::settled::Settled;
+use crate::settling::Settling;
+use ice_search::SearchEnd;
+use ice_settled::Halt;
 use ice_trade::Exchange;
 use ice_tree::Bounds;
 use ice_verdicts::Judge;
@@ -83,11 +87,24 @@ impl Ready {
         self.session.branches
     }
 
-    /// The next settlement, in this order: the search at lower values from the empty assignment,
-    /// the regret of what it finds, and the close test. Where the test closes the session, the
-    /// Vickrey discounts and the Threshold payments follow. Where it doesn't, the search at
-    /// weighted values from the empty assignment follows, then the prices of what it finds, and a
-    /// round begins, with the same bounds and the branches that these searches left.
+    /// The next settlement as far as its final sets and their regret: the search at lower values
+    /// from the empty assignment, and the regret of what it finds.
+    ///
+    /// An error has what was found before the search that ended early.
+    pub fn search(self) -> Result<Settling, (Halt, SearchEnd)>
+        ensures settling { IfOk result IsSettling }
+        ensures session { IfOk result (λ x. x.session ≡ self) }
+        ensures fresh { IfOk result (λ x. x.done ≡ []) }
+        ensures end { IfErr result (λ e. IsHaltedBy self e.0 e.1) }
+    {
+        self.session.search()
+    }
+
+    /// The next settlement as a whole, in this order: the search at lower values from the empty
+    /// assignment, the regret of what it finds, and the close test. Where the test closes the
+    /// session, the Vickrey discounts and the Threshold payments follow. Where it doesn't, the
+    /// search at weighted values from the empty assignment follows, then the prices of what it
+    /// finds, and a round begins, with the same bounds and the branches that these searches left.
     ///
     /// `Spent` comes only where a search used all branches that those before it left; `Limit` only
     /// where the pricing run ended so. After these, and after want of memory, the session is gone;
@@ -95,6 +112,12 @@ impl Ready {
     pub fn settle(self) -> Settled
         ensures { IsSettledAs self result }
     {
-        self.session.settle()
+        match self.search() {
+            Ok(settling) => settling.finish(),
+            Err((halt, end)) => match end {
+                SearchEnd::Spent(spent) => Settled::Spent(halt, spent),
+                SearchEnd::NoMemory => Settled::NoMemory,
+            },
+        }
     }
 }

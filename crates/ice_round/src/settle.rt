@@ -1,5 +1,5 @@
-//! A settlement: the final sets and their regret, the close test, and what follows of it.
-ghost use Rattle.std.specs.Prelude.{◌≡◌, ◌+◌, ◌≤◌, false, IsTrue, IfOk, IfErr};
+//! What a session does in a settlement: its searches, its halt, and the round that it opens.
+ghost use Rattle.std.specs.Prelude.{◌≡◌, ◌+◌, ◌≤◌, [], false, IfOk, IfErr};
 ghost use Rattle.ice_defs.specs.Session.{closes as closing};
 ghost use Rattle.ice_defs.specs.Steps.{branch_count};
 ghost use Rattle.ice_search.specs.Results.{IsFoundBy, IsEnd};
@@ -7,18 +7,17 @@ ghost use Rattle.ice_price.specs.Ends.{IsPriced};
 ghost use Rattle.ice_round.specs.Kept.{session_at, IsKept};
 ghost use Rattle.ice_round.specs.Searches.{final_search, provisional_search, settlement_branches, IsSettlementOf};
 ghost use Rattle.ice_round.specs.Shown.{priced_trade, IsOpening};
-ghost use Rattle.ice_round.specs.Ends.{IsHaltOf, IsStoppedAt, IsSettledAs};
+ghost use Rattle.ice_round.specs.Ends.{IsHaltOf, IsStoppedAt, IsHaltedBy};
+ghost use Rattle.ice_round.specs.Settling.{IsSettling};
 
 use crate::in_round::InRound;
-use crate::payments::pay;
 use crate::session::Session;
-use crate::settled::Settled;
-use ice_price::{PriceEnd, price};
+use crate::settling::Settling;
 use ice_regret::{Regret, best_at_lower_values, regret_among_ties};
 use ice_search::{Found, SearchEnd, search_anew};
-use ice_settled::{Closing, Halt, Opening};
+use ice_settled::{Halt, Opening};
 use ice_tree::AllWeights;
-use ice_vickrey::{DiscountEnd, Marginal, discounts};
+use ice_vickrey::Marginal;
 
 impl Session {
     /// The final sets.
@@ -34,7 +33,7 @@ impl Session {
     }
 
     /// The provisional sets.
-    fn provisional_sets(&self, branches: &mut u32) -> Result<Found, SearchEnd>
+    pub(crate) fn provisional_sets(&self, branches: &mut u32) -> Result<Found, SearchEnd>
         requires kept { IsKept self.now }
         requires branches { branches.old ≤ 50000 }
         ensures found { IfOk result (IsFoundBy (provisional_search (session_at self.now))) }
@@ -48,7 +47,7 @@ impl Session {
     }
 
     /// A halt of this session, with what was found.
-    fn halt(
+    pub(crate) fn halt(
         self,
         best: Option<Found>,
         regret: Option<Regret>,
@@ -72,64 +71,17 @@ impl Session {
         }
     }
 
-    /// The end where a search before all discounts found no best assignment.
-    fn stop(self, end: SearchEnd, best: Option<Found>, regret: Option<Regret>) -> Settled
-        requires { IsStoppedAt (session_at self) best regret end }
-        ensures { IsSettledAs (session_at self) result }
+    /// The halt where one of the first two searches ended early.
+    fn stop(self, end: SearchEnd, best: Option<Found>) -> (Halt, SearchEnd)
+        requires { IsStoppedAt (session_at self) best None [] end }
+        ensures { IsHaltedBy (session_at self) result.0 result.1 }
     {
-        match end {
-            SearchEnd::Spent(spent) => {
-                let none = Vec::new(self.alloc);
-                Settled::Spent(self.halt(best, regret, None, none), spent)
-            }
-            SearchEnd::NoMemory => Settled::NoMemory,
-        }
-    }
-
-    /// The settlement closes the session: the Vickrey discounts and the payments.
-    fn close(self, best: Found, regret: Regret, branches: u32) -> Settled
-        requires kept { IsKept self }
-        requires closes { IsTrue (closing self.exchange.settings self.number regret.amount) }
-        requires settlement { IsSettlementOf (session_at self) best regret }
-        requires branches { branches + settlement_branches best regret ≡ self.branches }
-        ensures { IsSettledAs (session_at self) result }
-    {
-        let mut left = branches;
-        let marginals = match discounts(
-            self.alloc,
-            &self.exchange,
-            self.judge.bounds(),
-            &best,
-            &mut left,
-        ) {
-            Ok(marginals) => marginals,
-            Err(DiscountEnd::Spent { done, spent }) => {
-                return Settled::Spent(self.halt(Some(best), Some(regret), None, done), spent);
-            }
-            Err(DiscountEnd::NoMemory) => return Settled::NoMemory,
-        };
-        match pay(
-            self.alloc,
-            &self.exchange,
-            self.judge.bounds(),
-            &best,
-            &marginals,
-        ) {
-            Ok(payments) => Settled::Closed(Closing {
-                exchange: self.exchange,
-                bounds: self.judge.into_bounds(),
-                number: self.number,
-                best,
-                regret,
-                marginals,
-                payments,
-            }),
-            Err(_) => Settled::NoMemory,
-        }
+        let none = Vec::new(self.alloc);
+        (self.halt(best, None, None, none), end)
     }
 
     /// The round that a settlement opens.
-    fn open(self, opening: &Opening, branches: u32) -> InRound
+    pub(crate) fn open(self, opening: &Opening, branches: u32) -> InRound
         requires number { opening.now.number ≡ self.number }
         requires kept { IsKept self }
         requires goes_on { closing self.exchange.settings self.number
@@ -154,56 +106,18 @@ impl Session {
         InRound { session }
     }
 
-    /// The settlement goes on: the provisional sets, their prices, and a round.
-    fn go_on(self, best: Found, regret: Regret, branches: u32) -> Settled
-        requires kept { IsKept self }
-        requires goes_on { closing self.exchange.settings self.number regret.amount ≡ false }
-        requires settlement { IsSettlementOf (session_at self) best regret }
-        requires branches { branches + settlement_branches best regret ≡ self.branches }
-        ensures { IsSettledAs (session_at self) result }
-    {
-        let mut left = branches;
-        let provisional = match self.provisional_sets(&mut left) {
-            Ok(provisional) => provisional,
-            Err(end) => return self.stop(end, Some(best), Some(regret)),
-        };
-        match price(
-            self.alloc,
-            &self.exchange,
-            self.judge.bounds(),
-            &provisional.best,
-        ) {
-            Ok(pricing) => {
-                let opening = Opening {
-                    number: self.number,
-                    best,
-                    regret,
-                    provisional,
-                    pricing,
-                };
-                Settled::Going(self.open(&opening, left), opening)
-            }
-            Err(PriceEnd::Limit(limit)) => {
-                let none = Vec::new(self.alloc);
-                Settled::Limit(
-                    self.halt(Some(best), Some(regret), Some(provisional), none),
-                    limit,
-                )
-            }
-            Err(PriceEnd::NoMemory) => Settled::NoMemory,
-        }
-    }
-
-    /// A settlement: the final sets with their regret, by ties too, and the close test, and then
-    /// what closes the session or opens a round.
-    pub(crate) fn settle(self) -> Settled
+    /// The final sets with their regret, by ties too.
+    pub(crate) fn search(self) -> Result<Settling, (Halt, SearchEnd)>
         requires { IsKept self }
-        ensures { IsSettledAs (session_at self) result }
+        ensures settling { IfOk result IsSettling }
+        ensures session { IfOk result (λ x. x.session ≡ session_at self) }
+        ensures fresh { IfOk result (λ x. x.done ≡ []) }
+        ensures end { IfErr result (λ e. IsHaltedBy (session_at self) e.0 e.1) }
     {
         let mut left = self.branches;
         let mut best = match self.final_sets(&mut left) {
             Ok(best) => best,
-            Err(end) => return self.stop(end, None, None),
+            Err(end) => return Err(self.stop(end, None)),
         };
         let regret = match regret_among_ties(
             self.alloc,
@@ -213,12 +127,15 @@ impl Session {
             &mut left,
         ) {
             Ok(regret) => regret,
-            Err(end) => return self.stop(end, Some(best), None),
+            Err(end) => return Err(self.stop(end, Some(best))),
         };
-        if self.exchange.settings().closes(self.number, regret.amount) {
-            self.close(best, regret, left)
-        } else {
-            self.go_on(best, regret, left)
-        }
+        let done = Vec::new(self.alloc);
+        Ok(Settling {
+            session: self,
+            best,
+            regret,
+            done,
+            left,
+        })
     }
 }

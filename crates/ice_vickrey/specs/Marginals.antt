@@ -1,5 +1,5 @@
 -- What is known of a market without each of its bidders.
-use Rattle.std.specs.Prelude.{ℕ, suc, ◌+◌, ◌<◌, ◌≤◌, ◌≡◌, List, [], ◌∷◌, length, sum_by, pos, ◌-ℤ◌, ◌≤ℤ◌}
+use Rattle.std.specs.Prelude.{ℕ, suc, ◌+◌, ◌<◌, ◌≡◌, List, [], ◌∷◌, length, sum_by, pos, ◌-ℤ◌, ◌≤ℤ◌}
 use Rattle.ice_defs.specs.Trade.{set_of}
 use Rattle.ice_defs.specs.Weighing.{lower_weights}
 use Rattle.ice_defs.specs.Vickrey.{IsEmpty, IsBestWithout, IsVickrey}
@@ -13,8 +13,6 @@ use Rattle.ice_search.specs.Results.{AreWritten, IsSpentBy}
 use Rattle.ice_search.specs.declared.results.Spent as search
 use Rattle.ice_vickrey.specs.Economy.{Economy, without_search}
 use Rattle.ice_vickrey.specs.declared.marginal.Marginal.{Marginal}
-use Rattle.ice_vickrey.specs.declared.marginal.DiscountEnd as ends
-use Rattle.ice_vickrey.specs.declared.marginal.DiscountEnd.TheVariants as variants
 
 abbrev pub proved_without : Marginal → Proved
 proved_without m = record { value = m.without; sets = m.witness; log = m.log }
@@ -52,8 +50,3 @@ pub record IsSpentWithout (e : Economy) (old : ℕ) (done : List Marginal) (s : 
   pub each : AreMarginalsFrom e 0 done
   pub spent : IsSpentBy (without_search e.exchange e.bounds (length done)) (branch_count s.log) s
   pub branches : branches_of done + branch_count s.log ≡ old
-
--- the discounts end early with all branches spent, or by want of memory
-abbrev pub IsDiscountEnd : Economy → ℕ → ℕ → ends.DiscountEnd → Type 0
-IsDiscountEnd e old new (variants.Spent done spent) = IsSpentWithout e old done.items spent × (new ≡ 0)
-IsDiscountEnd e old new variants.NoMemory = new ≤ old

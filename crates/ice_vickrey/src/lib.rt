@@ -7,5 +7,5 @@ mod entry;
 mod hints;
 mod marginal;
 
-pub use entry::discounts;
-pub use marginal::{DiscountEnd, Marginal};
+pub use entry::without_next;
+pub use marginal::Marginal;

@@ -1,9 +1,7 @@
 //! What a market is worth without a bidder.
 
 use ice_refute::Log;
-use ice_search::Spent;
 use ice_tree::Assignment;
-use std::alloc::{AllocError, AllocFailed};
 
 /// What a market is worth without one of its bidders, at lower values, and what shows it.
 pub struct Marginal {
@@ -30,41 +28,5 @@ impl Drop for Marginal {
             witness: _,
             log: _,
         } = self;
-    }
-}
-
-/// Why not all discounts are known.
-#[derive(Drop)]
-pub enum DiscountEnd {
-    /// A search spent the branches.
-    Spent {
-        /// The bidders before the one whose search it was, in order.
-        done: Vec<Marginal>,
-        /// What is known without that bidder.
-        spent: Spent,
-    },
-    /// No memory was left. It says nothing of the assignments.
-    NoMemory,
-}
-
-impl From<AllocError> for DiscountEnd {
-    ghost use Rattle.std.specs.Prelude.{◌≡◌};
-    ghost use Rattle.ice_vickrey.specs.declared.marginal.DiscountEnd.{DiscountEnd};
-
-    ghost from_gives = { λ _ e. e ≡ DiscountEnd.NoMemory };
-
-    fn from(_: AllocError) -> DiscountEnd {
-        DiscountEnd::NoMemory
-    }
-}
-
-impl<T: Drop> From<AllocFailed<T>> for DiscountEnd {
-    ghost use Rattle.std.specs.Prelude.{◌≡◌};
-    ghost use Rattle.ice_vickrey.specs.declared.marginal.DiscountEnd.{DiscountEnd};
-
-    ghost from_gives = { λ _ e. e ≡ DiscountEnd.NoMemory };
-
-    fn from(_failed: AllocFailed<T>) -> DiscountEnd {
-        DiscountEnd::NoMemory
     }
 }

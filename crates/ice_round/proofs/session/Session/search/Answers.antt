@@ -5,11 +5,12 @@ use Rattle.ice_defs.specs.Exchange.{trees_of}
 use Rattle.ice_defs.specs.Conditions.{AreBoundsOf}
 use Rattle.ice_search.specs.Results.{IsFoundBy, IsEnd}
 use Rattle.ice_regret.specs.Regretted.{IsRegretOf, lower_search, rival_search}
+use Rattle.ice_vickrey.specs.Marginals.{branches_of}
 use Rattle.ice_round.specs.Kept.{session_at}
 use Rattle.ice_verdicts.proofs.Bounded.{round_bounds}
-use Rattle.ice_round.proofs.Settling.{settlement_is}
+use Rattle.ice_round.proofs.Settlements.{begun_settling}
 use Rattle.ice_round.proofs.Halting.{stopped_final, stopped_rival}
-use Rattle.ice_round.proofs.session.Session.settle.Goals as goal
+use Rattle.ice_round.proofs.session.Session.search.Goals as goal
 
 pub stop-requires : goal.stop-requires
 stop-requires c = stopped_final (session_at c.args.self) c.final_sets.new.branches c.in-Err.end c.in-Err.ensures.end
@@ -30,24 +31,24 @@ stop-requires-in-Err-regret_among_ties c =
     (omega (arith, ap branch_count c.in-Err-regret_among_ties.ensures.log, c.in-Ok.ensures.branches))
     (subst (λ (bs : List Bounds). IsEnd (rival_search s.exchange bs best.best) left c.regret_among_ties.new.branches c.in-Err-regret_among_ties.end) c.bounds.ensures c.in-Err-regret_among_ties.ensures.end)
 
-pub close-requires-clause-settlement : goal.close-requires-clause-settlement
-close-requires-clause-settlement c =
+pub invariant_of-result : goal.invariant_of-result
+invariant_of-result c =
     let s = session_at c.args.self in
     let best = c.regret_among_ties.new.best in
     let regret = c.in-Ok-regret_among_ties.regret in
-    settlement_is s best regret (subst (λ (bs : List Bounds). IsFoundBy (lower_search s.exchange bs) best) c.bounds.ensures c.in-Ok-regret_among_ties.ensures.found)
-    (subst (λ (bs : List Bounds). IsRegretOf s.exchange bs best.best regret) c.bounds.ensures c.in-Ok-regret_among_ties.ensures.regret)
+    record {
+      session = c.requires;
+      found = begun_settling s best regret c.new-done.result.items (record { bounds = round_bounds s.exchange c.args.self.judge c.requires.round; number = c.requires.number; branches = c.requires.branches })
+          (subst (λ (bs : List Bounds). IsFoundBy (lower_search s.exchange bs) best) c.bounds.ensures c.in-Ok-regret_among_ties.ensures.found)
+          (subst (λ (bs : List Bounds). IsRegretOf s.exchange bs best.best regret) c.bounds.ensures c.in-Ok-regret_among_ties.ensures.regret) c.new-done.ensures.items;
+      branches = omega (arith, ap branch_count c.in-Ok-regret_among_ties.ensures.log, c.in-Ok.ensures.branches, c.in-Ok-regret_among_ties.ensures.branches, ap branches_of c.new-done.ensures.items);
+    }
 
-pub close-requires-clause-branches : goal.close-requires-clause-branches
-close-requires-clause-branches c = omega (arith, ap branch_count c.in-Ok-regret_among_ties.ensures.log, c.in-Ok.ensures.branches, c.in-Ok-regret_among_ties.ensures.branches)
-
-pub go_on-requires-clause-settlement : goal.go_on-requires-clause-settlement
-go_on-requires-clause-settlement c =
+pub returns-clause-settling : goal.returns-clause-settling
+returns-clause-settling c =
     let s = session_at c.args.self in
     let best = c.regret_among_ties.new.best in
     let regret = c.in-Ok-regret_among_ties.regret in
-    settlement_is s best regret (subst (λ (bs : List Bounds). IsFoundBy (lower_search s.exchange bs) best) c.bounds.ensures c.in-Ok-regret_among_ties.ensures.found)
-    (subst (λ (bs : List Bounds). IsRegretOf s.exchange bs best.best regret) c.bounds.ensures c.in-Ok-regret_among_ties.ensures.regret)
-
-pub go_on-requires-clause-branches : goal.go_on-requires-clause-branches
-go_on-requires-clause-branches c = omega (arith, ap branch_count c.in-Ok-regret_among_ties.ensures.log, c.in-Ok.ensures.branches, c.in-Ok-regret_among_ties.ensures.branches)
+    begun_settling s best regret c.new-done.result.items (record { bounds = round_bounds s.exchange c.args.self.judge c.requires.round; number = c.requires.number; branches = c.requires.branches })
+    (subst (λ (bs : List Bounds). IsFoundBy (lower_search s.exchange bs) best) c.bounds.ensures c.in-Ok-regret_among_ties.ensures.found)
+    (subst (λ (bs : List Bounds). IsRegretOf s.exchange bs best.best regret) c.bounds.ensures c.in-Ok-regret_among_ties.ensures.regret) c.new-done.ensures.items

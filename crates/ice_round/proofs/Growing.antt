@@ -1,4 +1,4 @@
--- The bidders in order, one more at a time.
+-- What the market is worth without each bidder, one more at a time.
 use Rattle.std.proofs.Common.{ℕ, suc, ◌+◌, List, [], ◌∷◌, ◌++◌, length, subst, arith}
 use Rattle.ice_vickrey.specs.Economy.{Economy}
 use Rattle.ice_vickrey.specs.Marginals.{IsMarginalOf, AreMarginalsFrom}
