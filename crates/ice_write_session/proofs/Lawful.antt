@@ -30,7 +30,7 @@ use Rattle.ice_settled.specs.declared.settled.Closing.{Closing}
 use Rattle.ice_settled.specs.declared.settled.Halt.{Halt}
 use Rattle.ice_write.proofs.Groups.{group_are_records}
 use Rattle.ice_write_session.specs.Records.{member_record, rival_records, provisional_records, without_records, regret_records, opening_records, spent_records, found_final, found_regret, found_provisional, halt_records, closing_records, limit_records}
-use Rattle.ice_write_session.specs.Writable.{IsWritable, IsWritableRegret, IsWritableSettlement, IsWritableRow, IsWritableOpening, IsWritablePayment, IsWritableClosing, IsWritableHalt, IsWritableMember, IsWritableLimit}
+use Rattle.ice_write_session.specs.Writable.{IsWritable, IsWritableRegret, IsWritableSettlement, IsWritableRow, AreWritableWithout, IsWritableOpening, IsWritablePayment, IsWritableClosing, IsWritableHalt, IsWritableMember, IsWritableLimit}
 
 group_are : (goods : ℕ) (first : Record) (p : Proved) → IsRecord first → IsWritable goods p → AllByRecursion IsRecord (group_records version_2 goods first p)
 group_are goods first p is may = group_are_records first goods p.sets p.log is may.group
@@ -60,6 +60,20 @@ withouts_are goods b (m ∷ ms) few may =
     all-append IsRecord (group_records version_2 goods (line.without b m.without) (proved_without m)) (without_group_records version_2 goods (suc b) (map proved_without ms))
     (group_are goods (line.without b m.without) (proved_without m) (omega (arith, few), may.0.value) may.0) (withouts_are goods (suc b) ms (omega (arith, few)) may.1)
 
+-- a settlement whose final sets and regret are found, with the groups without the first bidders
+pub settling_are_records : (ex : Exchange) (number : ℕ) (best : Found) (r : Regret) (ms : List Marginal) → number ≤ 20 → IsWritableSettlement (length (exact_of ex)) (settlement_of best r) → AreWritableWithout (length (exact_of ex)) ms
+    → AllByRecursion IsRecord ((line.settle number ∷ regret_records ex best r) ++ without_records ex ms)
+settling_are_records ex number best r ms few settlement may =
+    all-append IsRecord (line.settle number ∷ regret_records ex best r) (without_records ex ms) (few, settlement_are (length (exact_of ex)) (settlement_of best r) settlement)
+    (withouts_are (length (exact_of ex)) 0 ms (omega (arith, may.few)) may.each)
+
+-- or with the provisional sets
+pub offered_are_records : (ex : Exchange) (number : ℕ) (best : Found) (r : Regret) (p : Found) → number ≤ 20 → IsWritableSettlement (length (exact_of ex)) (settlement_of best r) → IsWritable (length (exact_of ex)) (proved_found p)
+    → AllByRecursion IsRecord ((line.settle number ∷ regret_records ex best r) ++ provisional_records ex p)
+offered_are_records ex number best r p few settlement may =
+    all-append IsRecord (line.settle number ∷ regret_records ex best r) (provisional_records ex p) (few, settlement_are (length (exact_of ex)) (settlement_of best r) settlement)
+    (group_are (length (exact_of ex)) (line.provisional p.value) (proved_found p) may.value may)
+
 -- where the prices are a record too
 pub opening_are_records : (ex : Exchange) (o : Opening) → IsWritableOpening (length (exact_of ex)) o → IsRecord (line.prices o.pricing.prices) → AllByRecursion IsRecord (opening_records ex o)
 opening_are_records ex o may prices =
@@ -71,8 +85,8 @@ opening_are_records ex o may prices =
     (may.number, settlement_are goods (settlement_of o.best o.regret) may.settlement)
     (all-append IsRecord (offered ++ accurate) balanced
     (all-append IsRecord offered accurate (group_are goods (line.provisional o.provisional.value) (proved_found o.provisional) may.provisional.value may.provisional)
-    (prices, ((may.violation, may.accuracy.den), rows_are o.pricing.accuracy.rows may.accuracy.rows)))
-    (may.balance.den, rows_are o.pricing.balance.rows may.balance.rows))
+    (prices, ((may.pricing.violation, may.pricing.accuracy.den), rows_are o.pricing.accuracy.rows may.pricing.accuracy.rows)))
+    (may.pricing.balance.den, rows_are o.pricing.balance.rows may.pricing.balance.rows))
 
 pub closing_are_records : (c : Closing) → IsWritableClosing c → AllByRecursion IsRecord (closing_records c)
 closing_are_records c may =

@@ -3,8 +3,9 @@ use Rattle.std.specs.Prelude.{ℕ, List, [], ◌∷◌, ◌++◌, length, map, O
 use Rattle.ice_defs.specs.Session.{Proved}
 use Rattle.ice_defs.specs.PricingRun.{Member}
 use Rattle.ice_defs.specs.Exchange.{Exchange, exact_of}
-use Rattle.ice_journal.specs.Records.{Record, version_2, spent_end, limit_end}
+use Rattle.ice_journal.specs.Records.{Record, version_2, spent_end, limit_end, closed_end}
 use Rattle.ice_journal.specs.Records as line
+use Rattle.ice_journal_laws.specs.Written.{row_record, payment_record}
 use Rattle.ice_journal_laws.specs.Showing.{group_records, regret_group_records}
 use Rattle.ice_journal_laws.specs.ShowingSession.{opening_in, closed_in, without_group_records}
 use Rattle.ice_search.specs.Results.{proved_found, proved_spent}
@@ -13,6 +14,7 @@ use Rattle.ice_search.specs.declared.results.Spent.{Spent}
 use Rattle.ice_regret.specs.Regretted.{proved_rival}
 use Rattle.ice_regret.specs.declared.lead.Regret.{Regret}
 use Rattle.ice_defs.specs.PricingLimit.{stage_of, limit_of}
+use Rattle.ice_pricing.specs.declared.certificate.Pricing.{Pricing}
 use Rattle.ice_price.specs.declared.ends.PriceLimit.{PriceLimit}
 use Rattle.ice_vickrey.specs.Marginals.{proved_without}
 use Rattle.ice_vickrey.specs.declared.marginal.Marginal.{Marginal}
@@ -37,6 +39,10 @@ module _ (ex : Exchange) where
 
   abbrev pub provisional_records : Found → List Record
   provisional_records f = group_of (line.provisional f.value) (proved_found f)
+
+  -- the group without one bidder
+  abbrev pub one_without : ℕ → Marginal → List Record
+  one_without b m = group_of (line.without b m.without) (proved_without m)
 
   -- the groups without each bidder
   abbrev pub without_records : List Marginal → List Record
@@ -74,6 +80,17 @@ module _ (ex : Exchange) where
   abbrev pub halted_records : ℕ → Option Found → Option Regret → List Marginal → Option Found → List Record
   halted_records number best regret done provisional =
       line.settle number ∷ found_final best ++ found_regret regret ++ without_records done ++ found_provisional provisional
+
+-- what the settlement that closes a session has behind the groups without each bidder
+abbrev pub charged_records : Closing → List Record
+charged_records c =
+    line.threshold c.payments.cut c.payments.surplus ∷ map payment_record (closed_of c.exchange c).payments ++ line.end closed_end ∷ []
+
+-- prices with their certificates
+abbrev pub pricing_records : Pricing → List Record
+pricing_records p =
+    line.prices p.prices ∷ line.accuracy p.delta p.accuracy.den ∷ map row_record p.accuracy.rows
+    ++ line.balance p.balance.den ∷ map row_record p.balance.rows
 
 -- the settlement that closes a session
 abbrev pub closing_records : Closing → List Record

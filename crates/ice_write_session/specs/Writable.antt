@@ -6,6 +6,7 @@ use Rattle.ice_defs.specs.PricingRun.{Member}
 use Rattle.ice_defs.specs.Exchange.{exact_of, IsBetween}
 use Rattle.ice_defs.specs.Session.{Proved, Settlement, Payment}
 use Rattle.ice_search.specs.Results.{proved_found}
+use Rattle.ice_pricing.specs.declared.certificate.Pricing.{Pricing}
 use Rattle.ice_price.specs.declared.ends.PriceLimit.{PriceLimit}
 use Rattle.ice_vickrey.specs.Marginals.{proved_without}
 use Rattle.ice_vickrey.specs.declared.marginal.Marginal.{Marginal}
@@ -43,13 +44,17 @@ pub record IsWritableCertificate (c : Certificate) : Type 0 where
   pub den : IsDen c.den
   pub rows : AllByRecursion IsWritableRow c.rows
 
+-- prices with their certificates
+pub record IsWritablePricing (p : Pricing) : Type 0 where
+  pub violation : IsViolationField p.delta
+  pub accuracy : IsWritableCertificate p.accuracy
+  pub balance : IsWritableCertificate p.balance
+
 pub record IsWritableOpening (goods : ℕ) (o : Opening) : Type 0 where
   pub number : o.number ≤ 20
   pub settlement : IsWritableSettlement goods (settlement_of o.best o.regret)
   pub provisional : IsWritable goods (proved_found o.provisional)
-  pub violation : IsViolationField o.pricing.delta
-  pub accuracy : IsWritableCertificate o.pricing.accuracy
-  pub balance : IsWritableCertificate o.pricing.balance
+  pub pricing : IsWritablePricing o.pricing
 
 -- at most 40 bidders
 pub record AreWritableWithout (goods : ℕ) (ms : List Marginal) : Type 0 where

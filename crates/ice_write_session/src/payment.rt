@@ -8,13 +8,14 @@ ghost use Rattle.ice_journal.specs.Lines.{record_of};
 ghost use Rattle.ice_journal_laws.specs.Written.{payment_record};
 ghost use Rattle.ice_settled.specs.Shown.{closed_of};
 ghost use Rattle.ice_write_session.specs.Payments.{payment_at};
+ghost use Rattle.ice_write_session.specs.Records.{charged_records};
 ghost use Rattle.ice_write_session.specs.Writable.{IsWritableClosing, IsWritablePayment};
 
 use crate::fraction::lowest_fraction;
-use crate::record::put_line;
+use crate::record::{put_end, put_line};
 use ice_edge::{Sink, SinkFault};
 use ice_frac::Frac;
-use ice_journal::Line;
+use ice_journal::{EndWord, Line};
 use ice_settled::Closing;
 use ice_terms::Name;
 use ice_vickrey::Marginal;
@@ -87,7 +88,7 @@ fn put_payments<K: Sink>(closing: &Closing, out: &mut K) -> Result<(), SinkFault
 }
 
 /// Puts the cut and the surplus, and what each bidder pays.
-pub(crate) fn put_charges<K: Sink>(closing: &Closing, out: &mut K) -> Result<(), SinkFault>
+fn put_charges<K: Sink>(closing: &Closing, out: &mut K) -> Result<(), SinkFault>
     requires { IsWritableClosing closing.now }
     ensures { IsPut (bytes_of (line.threshold closing.now.payments.cut closing.now.payments.surplus
         ∷ map payment_record (closed_of closing.now.exchange closing.now).payments)) result
@@ -95,4 +96,16 @@ pub(crate) fn put_charges<K: Sink>(closing: &Closing, out: &mut K) -> Result<(),
 {
     put_threshold(closing, out)?;
     put_payments(closing, out)
+}
+
+/// Puts what the settlement that closes a session has behind the groups without each bidder: the
+/// cut and the surplus, what each bidder pays, and the end of the journal. All numbers are in the
+/// ranges of their records. It takes no memory.
+pub fn put_charged<K: Sink>(closing: &Closing, out: &mut K) -> Result<(), SinkFault>
+    requires { IsWritableClosing closing.now }
+    ensures { IsPut (bytes_of (charged_records closing.now)) result
+        (K.taken out.old) (K.taken out.new) }
+{
+    put_charges(closing, out)?;
+    put_end(EndWord::Closed, out)
 }

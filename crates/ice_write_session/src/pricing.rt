@@ -3,16 +3,17 @@ ghost use Rattle.std.specs.Prelude.{◌≡◌, ◌∷◌, [], map};
 ghost use Rattle.std.specs.List.{AllByRecursion};
 ghost use Rattle.ice_edge.specs.Puts.{IsPut};
 ghost use Rattle.ice_journal.specs.Records as line;
-ghost use Rattle.ice_journal.specs.Ranges.{IsDen, IsViolationField};
+ghost use Rattle.ice_journal.specs.Ranges.{IsDen, IsRecord, IsViolationField};
 ghost use Rattle.ice_journal.specs.Journal.{bytes_of};
 ghost use Rattle.ice_journal.specs.Spelling.{line_of};
 ghost use Rattle.ice_journal_laws.specs.Written.{row_record};
-ghost use Rattle.ice_write_session.specs.Writable.{IsWritableRow, IsWritableCertificate};
+ghost use Rattle.ice_write_session.specs.Records.{pricing_records};
+ghost use Rattle.ice_write_session.specs.Writable.{IsWritableRow, IsWritableCertificate, IsWritablePricing};
 
 use crate::record::put_line;
 use ice_edge::{Sink, SinkFault};
 use ice_journal::Line;
-use ice_pricing::{Certificate, CertificateRow};
+use ice_pricing::{Certificate, CertificateRow, Pricing};
 use ice_terms::Prices;
 use ice_write::put_record;
 
@@ -116,11 +117,25 @@ pub fn put_accuracy<K: Sink>(
 }
 
 /// Puts the certificate of the greatest price.
-pub(crate) fn put_balance<K: Sink>(balance: &Certificate, out: &mut K) -> Result<(), SinkFault>
+fn put_balance<K: Sink>(balance: &Certificate, out: &mut K) -> Result<(), SinkFault>
     requires { IsWritableCertificate balance.now }
     ensures { IsPut (bytes_of (line.balance balance.now.den ∷ map row_record balance.now.rows))
         result (K.taken out.old) (K.taken out.new) }
 {
     put_balance_den(balance, out)?;
     put_rows(balance, out)
+}
+
+/// Puts prices with their certificates, whose numbers are in the ranges of their records; those of
+/// prices always are. It takes no memory.
+pub fn put_pricing<K: Sink>(pricing: &Pricing, out: &mut K) -> Result<(), SinkFault>
+    requires { IsWritablePricing pricing.now }
+    ensures put { IsPut (bytes_of (pricing_records pricing.now)) result
+        (K.taken out.old) (K.taken out.new) }
+    ensures prices { IsRecord (line.prices pricing.now.prices) }
+{
+    // Prices are terms that a record may have.
+    let _den = pricing.prices.den();
+    put_accuracy(&pricing.prices, &pricing.delta, &pricing.accuracy, out)?;
+    put_balance(&pricing.balance, out)
 }

@@ -42,8 +42,8 @@ pub fn put_regret<K: Sink>(
 }
 
 /// Puts the number of a settlement, the group of its final sets, that of their rival, and the
-/// regret.
-pub(crate) fn put_settlement<K: Sink>(
+/// regret. All numbers are in the ranges of their records. It takes no memory.
+pub fn put_settlement<K: Sink>(
     exchange: &Exchange,
     number: u8,
     best: &Found,

@@ -1,14 +1,11 @@
 //! What a market is worth without each bidder.
-ghost use Rattle.std.specs.Prelude.{length};
+ghost use Rattle.std.specs.Prelude.{◌≡◌, ◌∷◌, ◌++◌, [], List, length};
 ghost use Rattle.ice_defs.specs.Exchange.{exact_of};
 ghost use Rattle.ice_edge.specs.Puts.{IsPut};
-ghost use Rattle.ice_journal.specs.Records as line;
-ghost use Rattle.ice_journal.specs.Records.{version_2};
 ghost use Rattle.ice_journal.specs.Ranges.{IsBidderNumber};
 ghost use Rattle.ice_journal.specs.Journal.{bytes_of};
-ghost use Rattle.ice_journal_laws.specs.Showing.{group_records};
 ghost use Rattle.ice_vickrey.specs.Marginals.{proved_without};
-ghost use Rattle.ice_write_session.specs.Records.{without_records};
+ghost use Rattle.ice_write_session.specs.Records.{one_without, without_records};
 ghost use Rattle.ice_write_session.specs.Writable.{IsWritable, AreWritableWithout};
 
 use ice_edge::{Sink, SinkFault};
@@ -26,8 +23,7 @@ fn put_without<K: Sink>(
 ) -> Result<(), SinkFault>
     requires bidder { IsBidderNumber bidder }
     requires written { IsWritable (length (exact_of exchange.now)) (proved_without marginal.now) }
-    ensures { IsPut (bytes_of (group_records version_2 (length (exact_of exchange.now))
-        (line.without bidder marginal.now.without) (proved_without marginal.now))) result
+    ensures { IsPut (bytes_of (one_without exchange.now bidder marginal.now)) result
         (K.taken out.old) (K.taken out.new) }
 {
     let head = Line::Without {
@@ -41,6 +37,24 @@ fn put_without<K: Sink>(
         exchange.goods(),
         out,
     )
+}
+
+/// Puts the group without the last of the first bidders, whose numbers are in the ranges of their
+/// records. It takes no memory.
+pub fn put_last_without<K: Sink>(
+    exchange: &Exchange,
+    marginals: &[Marginal],
+    out: &mut K,
+) -> Result<(), SinkFault>
+    requires { AreWritableWithout (length (exact_of exchange.now)) marginals.now }
+    ensures { (before : List Marginal) (last : Marginal) → marginals.now ≡ before ++ last ∷ []
+        → IsPut (bytes_of (one_without exchange.now (length before) last)) result
+        (K.taken out.old) (K.taken out.new) }
+{
+    match marginals.split_last() {
+        Some((last, before)) => put_without(exchange, before.len() as u8, last, out),
+        None => Ok(()),
+    }
 }
 
 /// Puts the groups without the first bidders, in order.
