@@ -38,7 +38,7 @@ use Rattle.ice_round.specs.Searches.{economy_of}
 use Rattle.ice_settled.specs.Shown.{payments_of, closed_of}
 use Rattle.ice_round.specs.Shown.{IsClosing}
 use Rattle.ice_settled.specs.declared.settled.Closing.{Closing}
-use Rattle.ice_round.proofs.Settling.{final_rich}
+use Rattle.ice_round.proofs.Settlements.{final_rich}
 use Rattle.ice_write_session.specs.Writable.{IsWritable, AreWritableWithout, IsWritablePayment, IsWritableClosing}
 use Rattle.ice_session_laws.proofs.Worth.{worth_is_total}
 use Rattle.ice_session_laws.proofs.Found.{found_shown, found_worth, found_writable}

@@ -10,6 +10,8 @@ pub mod Violations
 pub mod Openings
 -- the last settlement of a session is shown, and may be written
 pub mod Closings
+-- the journal of a session between two groups
+pub mod Between
 -- a session as it runs: it begins, a settlement opens a round, the round goes on, and it ends
 pub mod Rounds
 -- what the journal of a session is, as far as it has come, and where it closes
@@ -20,6 +22,8 @@ pub mod RoundStops
 pub mod Gaps
 -- a settlement that stops at a search that spent its branches: where it had come, and the journal
 pub mod Spending
+-- a settlement that has found its final sets and regret: the journal so far
+pub mod Finding
 -- what a limit of the pricing may be written with
 pub mod Limits
 -- a settlement that stops at a limit of its pricing: the journal

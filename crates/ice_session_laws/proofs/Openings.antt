@@ -87,7 +87,9 @@ module _ (s : SessionAt) (lawful : IsExchange s.exchange) (are : AreBoundsOf (tr
         number = omega (arith, few, is.number);
         settlement = settlement_may_be_written s lawful are o.best o.regret is.settlement;
         provisional = provisional_may_be_written;
-        violation = violation_may_be_written trade proper o.pricing.prices o.pricing.delta o.pricing.accuracy terms.den.1 is.pricing.passes.violates is.pricing.passes.accurate;
-        accuracy = certificate_may_be_written s.exchange lawful trade refl o.pricing.accuracy is.pricing.passes.accurate.rows is.pricing.accuracy_limited;
-        balance = certificate_may_be_written s.exchange lawful trade refl o.pricing.balance is.pricing.passes.balanced.rows is.pricing.balance_limited;
+        pricing = record {
+          violation = violation_may_be_written trade proper o.pricing.prices o.pricing.delta o.pricing.accuracy terms.den.1 is.pricing.passes.violates is.pricing.passes.accurate;
+          accuracy = certificate_may_be_written s.exchange lawful trade refl o.pricing.accuracy is.pricing.passes.accurate.rows is.pricing.accuracy_limited;
+          balance = certificate_may_be_written s.exchange lawful trade refl o.pricing.balance is.pricing.passes.balanced.rows is.pricing.balance_limited;
+        };
       }

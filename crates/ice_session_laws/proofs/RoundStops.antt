@@ -18,11 +18,10 @@ use Rattle.ice_journal_laws.specs.ShowingSession.{going_in, goings_in, AreShownG
 use Rattle.ice_journal_laws.specs.SoFar.{IsSoFar}
 use Rattle.ice_journal_laws.specs.Stops.{all_going_records, AreGoing}
 use Rattle.ice_journal_laws.proofs.CarriedGoing.{with_going}
-use Rattle.ice_journal_laws.proofs.CarriedRound.{resting_at, resting_open}
+use Rattle.ice_journal_laws.proofs.CarriedRound.{resting_at}
 use Rattle.ice_journal_laws.proofs.CarriedOpen.{CarriesToRest, open_carries, bounds_at_last}
 use Rattle.ice_journal_laws.proofs.CarriedPlain.{going_plain}
 use Rattle.ice_journal_laws.proofs.CarriedReached.{open_says}
-use Rattle.ice_journal_laws.proofs.CarriedSoFar.{whole_unstopped}
 use Rattle.ice_journal_laws.proofs.CarriedStops.{RoundStop, round_stop_so_far}
 use Rattle.ice_journal_laws.proofs.CarriedStops as stop
 use Rattle.ice_round.specs.SessionAt.{SessionAt, RoundAt, session_after}
@@ -31,6 +30,7 @@ use Rattle.ice_session_laws.specs.Stops.{StopsRound, no_file, file_refused, file
 use Rattle.ice_session_laws.specs.Written.{begun_records, run_records, round_records, IsUnended, IsOpenJournal}
 use Rattle.ice_session_laws.proofs.Rounds.{goings_more, round_ends}
 use Rattle.ice_session_laws.proofs.Sessions.{run_are}
+use Rattle.ice_session_laws.proofs.Between.{unended, rests_between}
 
 -- the settlements with one more at their end, from the first on
 first_of : Going → List Going → Going
@@ -114,9 +114,9 @@ module _ (going : List Going) (s : SessionAt) (last : Going) (r : RoundAt) (is :
 
   pub round_is_unended : IsUnended (round_records s going last)
   round_is_unended =
-      let found = whole_unstopped session_kind (section_records s.exchange ++ goings_in version_2 goods 0 all) (resting_at (last_going (first_of last going) (rest_of last going)).balance last.judged At) carried
-      (subst (AllByRecursion IsRecord) journal_is round_are) (resting_open (last_going (first_of last going) (rest_of last going)).balance last.judged) in
-      subst IsUnended (sym journal_is) (record { so_far = found.so_far; unstopped = found.unstopped })
+      subst IsUnended (sym journal_is)
+      (unended (section_records s.exchange ++ goings_in version_2 goods 0 all) (resting_at (last_going (first_of last going) (rest_of last going)).balance last.judged At) carried
+      (subst (AllByRecursion IsRecord) journal_is round_are) (rests_between (last_going (first_of last going) (rest_of last going)).balance last.judged))
 
   -- ---- where no submission came yet
 

@@ -11,7 +11,6 @@ use Rattle.ice_headline_laws.specs.Right.{bounds_after_round, bounds_after_round
 use Rattle.ice_defs.proofs.Lists.{all-append}
 use Rattle.ice_headline_laws.proofs.Promised.{right_gives_headline}
 use Rattle.ice_journal.specs.Records.{Record, Version, version_2, session_kind}
-use Rattle.ice_journal.specs.Records as line
 use Rattle.ice_journal.specs.Ranges.{IsRecord}
 use Rattle.ice_section.specs.Described.{section_records}
 use Rattle.ice_section.proofs.Describing.{described_are_records, described_are_taken}
@@ -20,12 +19,12 @@ use Rattle.ice_journal_laws.specs.State.{at_group, begun}
 use Rattle.ice_journal_laws.specs.Next.{go_to}
 use Rattle.ice_journal_laws.specs.ShowingSession.{closed_in, settlements_in, session_in, going_in, goings_in, IsShownClosed, AreShownGoing, AreShownFrom, IsShownSession}
 use Rattle.ice_journal_laws.proofs.Past.{IsPast, past_closed}
-use Rattle.ice_journal_laws.proofs.Carried.{carries_tested, takes_open}
+use Rattle.ice_journal_laws.proofs.Carried.{carries_tested}
 use Rattle.ice_journal_laws.proofs.CarriedGoing.{settling}
 use Rattle.ice_journal_laws.proofs.CarriedComing.{Comes, session_comes}
 use Rattle.ice_journal_laws.proofs.CarriedSession.{session_carries}
 use Rattle.ice_journal_laws.proofs.CarriedSays.{session_says}
-use Rattle.ice_journal_laws.proofs.CarriedSoFar.{whole_so_far, whole_unstopped}
+use Rattle.ice_journal_laws.proofs.CarriedSoFar.{whole_so_far}
 use Rattle.ice_round.specs.SessionAt.{SessionAt}
 use Rattle.ice_settled.specs.Shown.{closed_of}
 use Rattle.ice_round.specs.Shown.{IsClosing}
@@ -34,6 +33,7 @@ use Rattle.ice_write_session.specs.Records.{closing_records}
 use Rattle.ice_session_laws.specs.Running.{IsRunning}
 use Rattle.ice_session_laws.specs.Written.{begun_records, run_records, closed_session, IsUnended, IsClosedJournal}
 use Rattle.ice_session_laws.proofs.Closings.{closing_shown}
+use Rattle.ice_session_laws.proofs.Between.{unended, settles_between}
 
 pub begun_are : (ex : Exchange) → IsExchange ex → AllByRecursion IsRecord (begun_records ex)
 begun_are ex lawful = (tt, described_are_records ex lawful)
@@ -55,10 +55,8 @@ module _ (going : List Going) (s : SessionAt) (run : IsRunning going s) where
 
   pub run_is_unended : IsUnended (run_records s.exchange going)
   run_is_unended =
-      let found =
-      whole_unstopped session_kind (section_records s.exchange ++ goings) run_comes.rest run_comes.earns.carries run_are
-      (takes_open run_comes.rest (go_to (at_group Final) (settling run_comes.state)) (line.settle run_comes.state.number) run_comes.settles) in
-      record { so_far = found.so_far; unstopped = found.unstopped }
+      unended (section_records s.exchange ++ goings) run_comes.rest run_comes.earns.carries run_are
+      (settles_between run_comes.rest (go_to (at_group Final) (settling run_comes.state)) run_comes.state.number run_comes.settles)
 
   -- ---- where it closes
 

@@ -93,7 +93,7 @@ module _ (s : SessionAt) (lawful : IsExchange s.exchange) (are : AreBoundsOf (tr
   weighted_are : AreWeightsOf (trees_of s.exchange) (weighted_weights s.exchange.settings.weight s.bounds)
   weighted_are = weighted_modest s.exchange.settings.weight (trees_of s.exchange) s.bounds lawful.settings.weight are
 
-  withouts_earned : (total : ℤ) (b : ℕ) (ms : List Marginal) → AreMarginalsFrom (record { exchange = s.exchange; bounds = s.bounds; total = total }) b ms
+  pub withouts_earned : (total : ℤ) (b : ℕ) (ms : List Marginal) → AreMarginalsFrom (record { exchange = s.exchange; bounds = s.bounds; total = total }) b ms
       → EarnsWithouts EarnsStep (trees_of s.exchange) (exact_of s.exchange) (lower_weights s.bounds) b (map proved_without ms)
   withouts_earned total b [] marginals = tt
   withouts_earned total b (m ∷ ms) (one, later) = (one.found.earned, withouts_earned total (suc b) ms later)

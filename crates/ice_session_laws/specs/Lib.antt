@@ -4,3 +4,4 @@ pub mod Written
 pub mod Laws
 pub mod Branches
 pub mod BranchLaws
+pub mod FoundLaws

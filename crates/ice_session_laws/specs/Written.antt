@@ -1,6 +1,6 @@
 -- The journal of a session in version 2, as far as it has come, and what it is where the session
 -- ends.
-use Rattle.std.specs.Prelude.{List, ◌∷◌, ◌++◌, length, None}
+use Rattle.std.specs.Prelude.{◌≡◌, List, ◌∷◌, ◌++◌, length, drop, None, Some}
 use Rattle.ice_defs.specs.Exchange.{Exchange, exact_of}
 use Rattle.ice_defs.specs.Session.{Going, Session}
 use Rattle.ice_headline_laws.specs.Right.{IsRight}
@@ -8,6 +8,8 @@ use Rattle.ice_headline_laws.specs.Headline.{Headline}
 use Rattle.ice_journal.specs.Records.{Record, version_2, session_kind}
 use Rattle.ice_journal.specs.Records as line
 use Rattle.ice_section.specs.Described.{section_records}
+use Rattle.ice_journal_laws.specs.State.{Place, at_section, at_group, at_prices, at_balance_rows, at_round, at_threshold, State, begun}
+use Rattle.ice_journal_laws.specs.Next.{after_all}
 use Rattle.ice_journal_laws.specs.Checks.{FirstFailure}
 use Rattle.ice_journal_laws.specs.Written.{session_records}
 use Rattle.ice_journal_laws.specs.Theorems.{Says}
@@ -34,10 +36,28 @@ run_records ex going = begun_records ex ++ goings_in version_2 (length (exact_of
 abbrev pub round_records : SessionAt → List Going → Going → List Record
 round_records s going last = run_records s.exchange going ++ going_in version_2 (length (exact_of s.exchange)) s.number last
 
--- it isn't whole, and no stop stands in it
+-- a place where no group is cut: the next thing is a group, prices, a settlement, a submission or
+-- what bidders pay
+abbrev pub IsBetweenGroups : Place → Type 0
+IsBetweenGroups at_section = Unit {0}
+IsBetweenGroups (at_group g) = Unit {0}
+IsBetweenGroups at_prices = Unit {0}
+IsBetweenGroups (at_balance_rows den rows) = Unit {0}
+IsBetweenGroups at_round = Unit {0}
+IsBetweenGroups at_threshold = Unit {0}
+IsBetweenGroups other = ⊥
+
+-- the records lead to such a place
+pub record HasWholeGroups (journal : List Record) : Type 0 where
+  pub state : State
+  pub reached : after_all (begun version_2 session_kind) (drop 1 journal) ≡ Some state
+  pub between : IsBetweenGroups state.place
+
+-- it isn't whole, no stop stands in it, and its groups are whole
 pub record IsUnended (journal : List Record) : Type 0 where
   pub so_far : IsSoFar session_kind journal
   pub unstopped : IsUnstopped so_far.end
+  pub groups : HasWholeGroups journal
 
 -- ---- ends
 

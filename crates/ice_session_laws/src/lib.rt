@@ -4,10 +4,14 @@
 #![tactic(auto)]
 
 mod branches;
+mod groups;
 
 ghost use Rattle.ice_session_laws.specs.Laws.{RunBegins, RoundBegins, RoundGoesOn, RoundEnds, RunIsUnended, RoundIsUnended, RunCloses, RoundStops, RoundStaysOpen, RunSpends, RunIsLimited, VerdictMayBeWritten, OpeningMayBeWritten, ClosingMayBeWritten, SpentMayBeWritten, LimitMayBeWritten};
 
 pub use branches::{group_log_is_short, spent_regret_has_few, spent_session_has_few};
+pub use groups::{
+    offer_is_unended, offer_may_be_written, settling_is_unended, settling_may_be_written,
+};
 
 /// At its start a session of an exchange runs, with no settlement behind it.
 pub fn run_begins()
