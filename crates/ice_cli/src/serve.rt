@@ -49,9 +49,9 @@ fn refuse_words<K: Sink>(out: &mut K) -> Status
 /// status says how the call ended, and the first clause ties it to the words, to what the shelf
 /// told, to the counts of faults that rose in this call, and to the text that was appended. Want of
 /// memory alone (`Status::NoMemory`) has no cause; nothing is written then, or whole lines of a
-/// journal with no stop in them. At each status but those of a file that is refused or unread, and
-/// of a sink that failed, the shelf tells the same after the call as before it: no fetch has
-/// failed.
+/// journal with no stop in them, which in a session are whole groups too. At each status but those
+/// of a file that is refused or unread, and of a sink that failed, the shelf tells the same after
+/// the call as before it: no fetch has failed.
 pub fn serve<H: Shelf, K: Sink>(
     alloc: Global,
     words: &[String],

@@ -17,15 +17,13 @@ use Rattle.ice_journal.specs.Ranges.{IsRecord}
 use Rattle.ice_journal.specs.Journal.{bytes_of}
 use Rattle.ice_journal_laws.specs.ShowingSession.{going_in, goings_in}
 use Rattle.ice_journal_laws.specs.SoFar.{IsSoFar}
-use Rattle.ice_journal_laws.specs.Showing.{group_records}
-use Rattle.ice_journal_laws.specs.Positions.{Position, before_provisional, position_records}
-use Rattle.ice_search.specs.Results.{proved_found}
+use Rattle.ice_journal_laws.specs.Positions.{Position, position_records}
 use Rattle.ice_search.specs.declared.results.Found.{Found}
 use Rattle.ice_search.specs.declared.results.Spent as results
 use Rattle.ice_regret.specs.declared.lead.Regret.{Regret}
 use Rattle.ice_price.specs.declared.ends.PriceLimit.{PriceLimit}
 use Rattle.ice_round.specs.SessionAt.{SessionAt, RoundAt}
-use Rattle.ice_settled.specs.Shown.{settlement_of, closed_of}
+use Rattle.ice_settled.specs.Shown.{closed_of}
 use Rattle.ice_round.specs.Shown.{IsClosing}
 use Rattle.ice_settled.specs.declared.settled.Closing.{Closing}
 use Rattle.ice_write_session.specs.Records.{closing_records, spent_records, limit_records}
@@ -49,11 +47,11 @@ use Rattle.ice_command_parts.proofs.Parts.{told_in_call, told_also}
 use Rattle.ice_session_commands.specs.Rounds.{rounds_in, BeginsRound, HasRoundsOf, submissions_of, AreRoundsOf, IsRunSoFar}
 use Rattle.ice_session_commands.specs.RunServed.{IsRunText, nothing, of_journal, RunAnswers}
 use Rattle.ice_session_commands.specs.RunServed as served
-use Rattle.ice_session_commands.specs.SessionEnds.{EndsSettling, without_memory, opens, closes, spends, limits}
+use Rattle.ice_session_commands.specs.SessionEnds.{EndsSettling, without_memory, finds, offers, opens, closes, spends, limits}
 use Rattle.ice_session_commands.specs.RunJournal.{HasRun, HasOpened, IsRunJournal, RunsTo, settles, in_round, stays_open, refuses, fails_to_read}
 use Rattle.ice_session_commands.proofs.Begun.{has_exchange}
 use Rattle.ice_session_commands.proofs.RoundFaults.{round_fault_is_record}
-use Rattle.ice_session_commands.proofs.RunRounds.{IsOther, SettlesOnce, settles_more, position_settles, closed_settles, spent_other, limit_other, offered_other, once_behind, none_behind, round_behind, begins_none, whole_rounds, last_round, rounds_count}
+use Rattle.ice_session_commands.proofs.RunRounds.{IsOther, SettlesOnce, settles_more, position_settles, closed_settles, spent_other, limit_other, sought_settles, once_behind, none_behind, round_behind, begins_none, whole_rounds, last_round, rounds_count}
 
 module _ (call : Call) (name : List ℕ) (files : List (List ℕ)) where
   abbrev goings : Exchange → List Going → List Record
@@ -83,7 +81,12 @@ module _ (call : Call) (name : List ℕ) (files : List (List ℕ)) where
           exchange_is = has_exchange call name s.exchange (run_records s.exchange going) (goings s.exchange going) told refl;
           rounds_are = subst (HasRoundsOf call files) (sym (none_behind s.exchange going)) (whole_rounds call files going has.rounds);
         } in
-        subst (IsRunText call name files) (sym text) (of_journal is found.unstopped)
+        subst (IsRunText call name files) (sym text) (of_journal is found.unstopped found.groups)
+
+    found_answers : HasRun call files going s → (number : ℕ) (more : List Record) → SettlesOnce number more → IsUnended (run_records s.exchange going ++ more) → call.text ≡ bytes_of (run_records s.exchange going ++ more) → RunAnswers call name files NoMemory
+    unfolding once_so_far so_far_behind
+    found_answers has number more once found text =
+        subst (IsRunText call name files) (sym text) (of_journal (once_so_far has.rounds number more once found.so_far) found.unstopped found.groups)
 
     -- ---- it closed
 
@@ -125,17 +128,13 @@ module _ (call : Call) (name : List ℕ) (files : List (List ℕ)) where
         → call.text ≡ bytes_of (run_records s.exchange going ++ sought_records s final amount offered ++ limit_records limit) → RunAnswers call name files Limit
     limit_answers final amount offered limit has rounds is text =
         let sought : List Record = sought_records s final amount offered in
-        let position : List Record = position_records version_2 (length (exact_of s.exchange)) s.number (before_provisional (settlement_of final amount)) in
         let grouped = append_assoc (run_records s.exchange going) sought (limit_records limit) in
         record {
           journal = run_records s.exchange going ++ sought ++ limit_records limit;
           written = record { lawful = is.so_far.lawful; spelled = text };
           so_far = subst (IsRunSoFar call name files session_kind) (sym grouped)
               (once_so_far has.rounds s.number (sought ++ limit_records limit)
-              (settles_more s.number sought (limit_records limit)
-              (settles_more s.number position (group_records version_2 (length (exact_of s.exchange)) (line.provisional offered.value) (proved_found offered)) (position_settles version_2 (length (exact_of s.exchange)) s.number (before_provisional (settlement_of final amount)))
-              (offered_other version_2 (length (exact_of s.exchange)) (proved_found offered)))
-              (limit_other limit))
+              (settles_more s.number sought (limit_records limit) (sought_settles s final amount offered) (limit_other limit))
               (subst (IsSoFar session_kind) grouped is.so_far));
           limited = is.limited;
           allows_rounds = told_also (call.before.holds name) file_limit (λ bytes. IsExchangeOf bytes (Ok s.exchange)) _ (λ bytes exchange. (s.exchange, exchange, rounds)) told;
@@ -167,7 +166,7 @@ module _ (call : Call) (name : List ℕ) (files : List (List ℕ)) where
           exchange_is = has_exchange call name s.exchange (round_records s going last) (goings s.exchange going ++ here) told (append_assoc (begun_records s.exchange) (goings s.exchange going) here);
           rounds_are = subst (HasRoundsOf call files) (sym rounds_here) (last_round call files going (submissions_of last) are begins);
         } in
-        subst (IsRunText call name files) (sym text) (of_journal is found.unstopped)
+        subst (IsRunText call name files) (sym text) (of_journal is found.unstopped found.groups)
 
     -- ---- a round that stops
 
@@ -222,6 +221,10 @@ module _ (call : Call) (name : List ℕ) (files : List (List ℕ)) where
 settled_answers : (call : Call) (name : List ℕ) (files : List (List ℕ)) (going : List Going) (s : SessionAt) (told : OfFile call name file_limit (λ bytes. IsExchangeOf bytes (Ok s.exchange))) → HasRun call files going s
     → (journal : List Record) (status : Status) → EndsSettling going s journal status → call.text ≡ bytes_of journal → RunAnswers call name files status
 settled_answers call name files going s told has _ _ without_memory text = between_answers call name files s going told has text
+settled_answers call name files going s told has _ _ (finds at is) text =
+    found_answers call name files s going told has s.number (position_records version_2 (length (exact_of s.exchange)) s.number at) (position_settles version_2 (length (exact_of s.exchange)) s.number at) is text
+settled_answers call name files going s told has _ _ (offers final amount offered is) text =
+    found_answers call name files s going told has s.number (sought_records s final amount offered) (sought_settles s final amount offered) is text
 settled_answers call name files going s told has _ _ (opens last r round none) text =
     in_round_answers call name files s going last r told round has.rounds (begins_here call name files s going last r told (record { in_round = round; none = none; rounds = has.rounds })) text
 settled_answers call name files going s told has _ _ (closes c is records) text = close_answers call name files s going told c has is records text

@@ -27,12 +27,16 @@ use Rattle.ice_journal_laws.specs.Written.{row_record, judged_records, payment_r
 use Rattle.ice_journal_laws.specs.Showing.{step_records, group_records, regret_group_records}
 use Rattle.ice_journal_laws.specs.ShowingSession.{closed_in, opening_in, going_in, goings_in, without_group_records}
 use Rattle.ice_journal_laws.specs.Positions.{Position, before_final, before_rival, before_provisional, before_without, position_records}
-use Rattle.ice_search.specs.Results.{proved_spent}
+use Rattle.ice_search.specs.Results.{proved_found, proved_spent}
+use Rattle.ice_search.specs.declared.results.Found.{Found}
 use Rattle.ice_search.specs.declared.results.Spent.{Spent}
+use Rattle.ice_regret.specs.declared.lead.Regret.{Regret}
 use Rattle.ice_defs.specs.PricingLimit.{stage_of, limit_of}
 use Rattle.ice_price.specs.declared.ends.PriceLimit.{PriceLimit}
 use Rattle.ice_round.specs.SessionAt.{SessionAt}
+use Rattle.ice_settled.specs.Shown.{settlement_of}
 use Rattle.ice_write_session.specs.Records.{member_record, spent_records, limit_records}
+use Rattle.ice_session_laws.specs.Laws.{sought_records}
 use Rattle.ice_session_laws.specs.Written.{begun_records, run_records, round_records}
 use Rattle.ice_command_parts.specs.Call.{Call, file_limit, IsPrefix}
 use Rattle.ice_session_commands.specs.Rounds.{submissions_before_next, rounds_in, OfBids, BeginsRound, HasRoundsOf, submissions_of, AreRoundsOf}
@@ -167,6 +171,13 @@ limit_other limit = all-append IsOther (line.limit (stage_of limit.stage) (limit
 
 pub offered_other : (v : Version) (goods : ℕ) (p : Proved) → AllByRecursion IsOther (group_records v goods (line.provisional p.value) p)
 offered_other v goods p = group_other v goods (line.provisional p.value) p tt
+
+-- a settlement as far as its provisional sets
+pub sought_settles : (s : SessionAt) (final : Found) (amount : Regret) (offered : Found) → SettlesOnce s.number (sought_records s final amount offered)
+sought_settles s final amount offered =
+    let at : Position = before_provisional (settlement_of final amount) in
+    settles_more s.number (position_records version_2 (length (exact_of s.exchange)) s.number at) (group_records version_2 (length (exact_of s.exchange)) (line.provisional offered.value) (proved_found offered))
+    (position_settles version_2 (length (exact_of s.exchange)) s.number at) (offered_other version_2 (length (exact_of s.exchange)) (proved_found offered))
 
 pub closed_settles : (v : Version) (goods number : ℕ) (c : Closed) → SettlesOnce number (closed_in v goods number c)
 closed_settles v goods number c =

@@ -18,21 +18,19 @@ use Rattle.ice_journal.specs.Journal.{bytes_of}
 use Rattle.ice_journal_laws.specs.State.{begun}
 use Rattle.ice_journal_laws.specs.ShowingSession.{going_in, goings_in}
 use Rattle.ice_journal_laws.specs.SoFar.{IsSoFar}
-use Rattle.ice_journal_laws.specs.Showing.{group_records}
-use Rattle.ice_journal_laws.specs.Positions.{Position, before_provisional, position_records}
-use Rattle.ice_search.specs.Results.{proved_found}
+use Rattle.ice_journal_laws.specs.Positions.{Position, position_records}
 use Rattle.ice_search.specs.declared.results.Found.{Found}
 use Rattle.ice_search.specs.declared.results.Spent as results
 use Rattle.ice_regret.specs.declared.lead.Regret.{Regret}
 use Rattle.ice_price.specs.declared.ends.PriceLimit.{PriceLimit}
 use Rattle.ice_round.specs.SessionAt.{SessionAt, RoundAt}
-use Rattle.ice_settled.specs.Shown.{settlement_of, closed_of}
+use Rattle.ice_settled.specs.Shown.{closed_of}
 use Rattle.ice_round.specs.Shown.{IsClosing}
 use Rattle.ice_settled.specs.declared.settled.Closing.{Closing}
 use Rattle.ice_write_session.specs.Records.{closing_records, spent_records, limit_records}
 use Rattle.ice_session_laws.specs.Running.{IsRunning, IsInRound}
 use Rattle.ice_session_laws.specs.Laws.{sought_records}
-use Rattle.ice_session_laws.specs.Written.{begun_records, run_records, round_records, closed_session, IsSpentJournal, IsLimitedJournal}
+use Rattle.ice_session_laws.specs.Written.{begun_records, run_records, round_records, closed_session, IsUnended, IsSpentJournal, IsLimitedJournal}
 use Rattle.ice_session_laws.proofs.Sessions.{run_is_unended, run_closes}
 use Rattle.ice_session_laws.proofs.RoundStops.{round_is_unended}
 use Rattle.ice_session_laws.specs.Branches.{enough_for_session}
@@ -54,11 +52,11 @@ use Rattle.ice_command_parts.proofs.Parts.{told_in_call, told_also}
 use Rattle.ice_session_commands.specs.TruthParts.{AreTruthsOf, IsTruthFault, HoldsTruths, OfTruths}
 use Rattle.ice_session_commands.specs.SimulateServed.{IsSimulatedSoFar, IsSimulatedText, of_journal, exchange_refused, truths_refused, IsProxied, SimulateAnswers}
 use Rattle.ice_session_commands.specs.SimulateServed as served
-use Rattle.ice_session_commands.specs.SessionEnds.{EndsSettling, without_memory, opens, spends, limits}
+use Rattle.ice_session_commands.specs.SessionEnds.{EndsSettling, without_memory, finds, offers, opens, spends, limits}
 use Rattle.ice_session_commands.specs.SessionEnds as settling
 use Rattle.ice_session_commands.specs.SimulateJournal.{IsSimulatedJournal, settles, in_round}
 use Rattle.ice_session_commands.proofs.Begun.{has_exchange}
-use Rattle.ice_session_commands.proofs.RunRounds.{IsOther, SettlesOnce, settles_more, position_settles, closed_settles, spent_other, limit_other, offered_other}
+use Rattle.ice_session_commands.proofs.RunRounds.{IsOther, SettlesOnce, settles_more, position_settles, closed_settles, spent_other, limit_other, sought_settles}
 
 -- ---- records that neither settle nor submit
 
@@ -130,7 +128,13 @@ module _ (call : Call) (name file : List ℕ) (s : SessionAt) (bids : List Submi
   between_answers text =
       let found = run_is_unended going s run in
       let is = simulated [] (run_records s.exchange going) (sym (append-nil (run_records s.exchange going))) nothing found.so_far in
-      subst (IsSimulatedText call name file) (sym text) (of_journal is found.unstopped)
+      subst (IsSimulatedText call name file) (sym text) (of_journal is found.unstopped found.groups)
+
+  found_answers : (more : List Record) → SettlesOnce s.number more → IsUnended (run_records s.exchange going ++ more) → call.text ≡ bytes_of (run_records s.exchange going ++ more) → SimulateAnswers call name file NoMemory
+  unfolding simulated
+  found_answers more once found text =
+      let is = simulated more (run_records s.exchange going ++ more) refl (once_rest s.number more refl once) found.so_far in
+      subst (IsSimulatedText call name file) (sym text) (of_journal is found.unstopped found.groups)
 
   in_round_answers : (last : Going) (r : RoundAt) → IsInRound going s last r → IsProxyFront last.prices s.exchange.settings.improve (standings s.exchange s.bounds last.provisional.sets) truths last.judged
       → call.text ≡ bytes_of (round_records s going last) → SimulateAnswers call name file NoMemory
@@ -138,7 +142,7 @@ module _ (call : Call) (name file : List ℕ) (s : SessionAt) (bids : List Submi
   in_round_answers last r round front text =
       let found = round_is_unended going s last r round in
       let is = simulated (going_in version_2 (length (exact_of s.exchange)) s.number last) (round_records s going last) refl (round_rest last r round front) found.so_far in
-      subst (IsSimulatedText call name file) (sym text) (of_journal is found.unstopped)
+      subst (IsSimulatedText call name file) (sym text) (of_journal is found.unstopped found.groups)
 
   -- ---- it closed
 
@@ -184,22 +188,21 @@ module _ (call : Call) (name file : List ℕ) (s : SessionAt) (bids : List Submi
       → call.text ≡ bytes_of (run_records s.exchange going ++ sought_records s final amount offered ++ limit_records limit) → SimulateAnswers call name file Limit
   limit_answers final amount offered limit rounds is text =
       let sought : List Record = sought_records s final amount offered in
-      let position : List Record = position_records version_2 (length (exact_of s.exchange)) s.number (before_provisional (settlement_of final amount)) in
       record {
         journal = run_records s.exchange going ++ sought ++ limit_records limit;
         written = record { lawful = is.so_far.lawful; spelled = text };
         so_far = simulated (sought ++ limit_records limit) (run_records s.exchange going ++ sought ++ limit_records limit) (append_assoc (run_records s.exchange going) sought (limit_records limit))
             (once_rest s.number (sought ++ limit_records limit) refl
-            (settles_more s.number sought (limit_records limit)
-            (settles_more s.number position (group_records version_2 (length (exact_of s.exchange)) (line.provisional offered.value) (proved_found offered))
-            (position_settles version_2 (length (exact_of s.exchange)) s.number (before_provisional (settlement_of final amount))) (offered_other version_2 (length (exact_of s.exchange)) (proved_found offered)))
-            (limit_other limit))) is.so_far;
+            (settles_more s.number sought (limit_records limit) (sought_settles s final amount offered) (limit_other limit))) is.so_far;
         limited = is.limited;
         allows_rounds = told_also (call.before.holds name) file_limit (λ bytes. IsExchangeOf bytes (Ok s.exchange)) _ (λ bytes exchange. (s.exchange, exchange, rounds)) told;
       }
 
   settled_answers : HoldTruths (opening_bounds s.exchange) truths → (journal : List Record) (status : Status) → EndsSettling going s journal status → call.text ≡ bytes_of journal → SimulateAnswers call name file status
   settled_answers hold _ _ without_memory text = between_answers text
+  settled_answers hold _ _ (finds at is) text =
+      found_answers (position_records version_2 (length (exact_of s.exchange)) s.number at) (position_settles version_2 (length (exact_of s.exchange)) s.number at) is text
+  settled_answers hold _ _ (offers final amount offered is) text = found_answers (sought_records s final amount offered) (sought_settles s final amount offered) is text
   settled_answers hold _ _ (opens last r round none) text =
       in_round_answers last r round (subst (IsProxyFront last.prices s.exchange.settings.improve (standings s.exchange s.bounds last.provisional.sets) truths) (sym none) tt) text
   settled_answers hold _ _ (settling.closes c is records) text = close_answers c hold is records text

@@ -15,7 +15,7 @@ use Rattle.ice_journal_laws.specs.Theorems.{Says}
 use Rattle.ice_journal_laws.specs.Stops.{IsSpent}
 use Rattle.ice_journal_laws.specs.SoFar.{IsUnstopped}
 use Rattle.ice_session_laws.specs.Stops.{IsLimited, OpenSession, open_records, IsRightOpen}
-use Rattle.ice_session_laws.specs.Written.{HasGapAnswer}
+use Rattle.ice_session_laws.specs.Written.{HasGapAnswer, HasWholeGroups}
 use Rattle.ice_session_laws.specs.Branches.{enough_for_session}
 use Rattle.ice_command_parts.specs.Call.{Call, FaultRose, file_limit, OfFile, IsRefused}
 use Rattle.ice_command_parts.specs.Files.{IsExchangeOf, IsExchangeFault, IsRoundFault}
@@ -64,11 +64,12 @@ pub record RunStaysOpen (call : Call) (exchange : List ℕ) (rounds : List (List
   pub all_rounds : length session.going ≡ suc (length rounds)
   pub right : IsRightOpen session
 
--- whole lines: nothing, or its journal as far as it goes, which ends early and without a stop
+-- whole lines: nothing, or its journal as far as it goes, which ends early and without a stop, and
+-- whose groups are whole
 pub data IsRunText (call : Call) (exchange : List ℕ) (rounds : List (List ℕ)) : List ℕ → Type 0 where
   nothing : IsRunText call exchange rounds []
   of_journal : {journal : List Record} (run : IsRunSoFar call exchange rounds session_kind journal) → IsUnstopped run.so_far.end
-      → IsRunText call exchange rounds (bytes_of journal)
+      → HasWholeGroups journal → IsRunText call exchange rounds (bytes_of journal)
 
 -- a search was spent, of fewer branches than would be enough; `gap` has a gap for the journal
 pub record RunSpends (call : Call) (exchange : List ℕ) (rounds : List (List ℕ)) : Type 0 where

@@ -10,13 +10,16 @@ use Rattle.ice_edge.specs.Taken.{Taken}
 use Rattle.ice_defs.specs.Round.{Submission, Judged}
 use Rattle.ice_defs.specs.Exchange.{exact_of}
 use Rattle.ice_defs.specs.Session.{Going}
-use Rattle.ice_journal.specs.Records.{version_2}
+use Rattle.ice_journal.specs.Records.{Record, version_2}
 use Rattle.ice_journal.specs.Journal.{bytes_of}
 use Rattle.ice_journal_laws.specs.Written.{judged_records}
 use Rattle.ice_journal_laws.specs.ShowingSession.{going_in}
 use Rattle.ice_round.specs.SessionAt.{SessionAt, RoundAt, session_after}
+use Rattle.ice_round.specs.Settling.{SettlingAt}
+use Rattle.ice_round.specs.declared.offer.Offer.{Offer}
 use Rattle.ice_session_laws.specs.Running.{IsRunning, IsInRound}
 use Rattle.ice_session_laws.specs.Written.{run_records, round_records}
+use Rattle.ice_session_laws.specs.FoundLaws.{settling_records, offered_records}
 use Rattle.ice_trial.specs.Rounds.{submissions_in, GoesOnBy}
 use Rattle.ice_command_parts.specs.Call.{IsPrefix}
 use Rattle.ice_command_parts.specs.Journals.{WritesBehind}
@@ -53,6 +56,32 @@ OpensRound s r old new =
 abbrev pub EndsHere : SessionAt → Taken → Taken → Status → Type 0
 EndsHere s old new result =
     (going : List Going) → IsRunning going s → WritesBehind (run_records s.exchange going) (EndsSettling going s) old new result
+
+-- a settlement has put its final sets with their regret, and the groups without the first bidders:
+-- the rest is put, and the journal ends with it
+abbrev pub EndsBehind : SettlingAt → Taken → Taken → Status → Type 0
+EndsBehind x old new result =
+    (going : List Going) → IsRunning going x.session
+    → WritesBehind (run_records x.session.exchange going ++ settling_records x) (EndsSettling going x.session) old new result
+
+-- or it has put its provisional sets too
+abbrev pub EndsOffering : SettlingAt → Offer → Taken → Taken → Status → Type 0
+EndsOffering x o old new result =
+    (going : List Going) → IsRunning going x.session
+    → WritesBehind (run_records x.session.exchange going ++ offered_records x o) (EndsSettling going x.session) old new result
+
+-- the settlement, of which these records are put, opened a round, and the rest is put
+abbrev pub OpensAfter : List Record → SessionAt → RoundAt → Taken → Taken → Type 0
+OpensAfter front s r old new =
+    (going : List Going) → IsRunning going s
+    → (last : Going) × (rest : List Record) × IsInRound going s last r × (last.judged ≡ [])
+    × (going_in version_2 (length (exact_of s.exchange)) s.number last ≡ front ++ rest) × Takes (bytes_of rest) old new
+
+abbrev pub OpensBehind : SettlingAt → RoundAt → Taken → Taken → Type 0
+OpensBehind x = OpensAfter (settling_records x) x.session
+
+abbrev pub OpensOffering : SettlingAt → Offer → RoundAt → Taken → Taken → Type 0
+OpensOffering x o = OpensAfter (offered_records x o) x.session
 
 -- all bids are judged and put, and the session goes on behind the round
 abbrev pub EndsRound : RoundAt → List Submission → SessionAt → Taken → Taken → Type 0

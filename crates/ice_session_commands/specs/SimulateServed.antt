@@ -17,7 +17,7 @@ use Rattle.ice_journal_laws.specs.Theorems.{Says}
 use Rattle.ice_journal_laws.specs.Stops.{IsSpent}
 use Rattle.ice_journal_laws.specs.SoFar.{IsSoFar, IsUnstopped}
 use Rattle.ice_session_laws.specs.Stops.{IsLimited}
-use Rattle.ice_session_laws.specs.Written.{HasGapAnswer}
+use Rattle.ice_session_laws.specs.Written.{HasGapAnswer, HasWholeGroups}
 use Rattle.ice_session_laws.specs.Branches.{enough_for_session}
 use Rattle.ice_proxy.specs.Sessions.{IsProxySession, HoldThroughout, AreAccepted}
 use Rattle.ice_proxy.specs.Laws.{NoTradeBeatsAtTruths}
@@ -83,11 +83,12 @@ pub record SimulateIsLimited (call : Call) (exchange truths : List ℕ) : Type 0
   pub limited : IsLimited journal
   pub allows_rounds : HasRounds call exchange
 
--- whole lines: nothing, or its journal as far as it goes, which ends early and without a stop
+-- whole lines: nothing, or its journal as far as it goes, which ends early and without a stop, and
+-- whose groups are whole
 pub data IsSimulatedText (call : Call) (exchange truths : List ℕ) : List ℕ → Type 0 where
   nothing : IsSimulatedText call exchange truths []
   of_journal : {journal : List Record} (simulated : IsSimulatedSoFar call exchange truths journal) → IsUnstopped simulated.so_far.end
-      → IsSimulatedText call exchange truths (bytes_of journal)
+      → HasWholeGroups journal → IsSimulatedText call exchange truths (bytes_of journal)
 
 abbrev pub SimulateAnswers : Call → List ℕ → List ℕ → Status → Type 0
 SimulateAnswers call exchange truths Done = SimulateCloses call exchange truths

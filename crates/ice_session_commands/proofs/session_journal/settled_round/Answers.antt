@@ -1,70 +1,79 @@
-use Rattle.std.proofs.Common.{◌∙◌, refl, sym, subst, length}
+use Rattle.std.proofs.Common.{◌≡◌, ◌≤◌, ◌∷◌, ℕ, List, length, sym, subst}
+use Rattle.std.proofs.lemmas.Result.{MatchResult-weaker}
 use Rattle.ice_edge.specs.Puts.{Takes, FailsIn}
+use Rattle.ice_edge.specs.declared.status.Status.TheVariants.{WriteFault}
 use Rattle.ice_defs.specs.Exchange.{Exchange, exact_of}
+use Rattle.ice_journal.specs.Records.{Record}
+use Rattle.ice_journal.specs.Records as line
 use Rattle.ice_journal.specs.Journal.{bytes_of}
-use Rattle.ice_search.specs.Results.{proved_spent}
-use Rattle.ice_write_session.specs.Records.{opening_records}
-use Rattle.ice_write_session.specs.Writable.{IsWritable, IsWritableOpening}
-use Rattle.ice_session_laws.proofs.Ends.{opening_may_be_written, closing_may_be_written, spent_may_be_written, limit_may_be_written}
-use Rattle.ice_session_commands.proofs.Settling.{ends_without_memory, ends_closed, ends_spent, ends_limited, round_opens, opening_fails}
+use Rattle.ice_search.specs.declared.results.Found.{Found}
+use Rattle.ice_regret.specs.declared.lead.Regret.{Regret}
+use Rattle.ice_settled.specs.Shown.{settlement_of}
+use Rattle.ice_round.specs.SessionAt.{SessionAt}
+use Rattle.ice_session_laws.specs.Running.{IsRunning}
+use Rattle.ice_write_session.specs.Records.{regret_records}
+use Rattle.ice_write_session.specs.Writable.{IsWritableSettlement}
+use Rattle.ice_session_laws.proofs.Finding.{settling_may_be_written}
+use Rattle.ice_session_commands.specs.SessionSteps.{EndsHere, OpensRound}
+use Rattle.ice_session_commands.proofs.Settling.{settling_fails, settling_ends, settling_opens}
 use Rattle.ice_session_commands.proofs.session_journal.settled_round.Goals as goal
 
-pub close-requires : goal.close-requires
-close-requires g c = closing_may_be_written c.requires.0 c.args.ready c.in-Closed.closing c.requires.1 c.in-Closed.ensures
+-- the records, in the words of what was lent
+in_words : (P : List Record → Type 0) (ex ex2 : Exchange) (n n2 : ℕ) (best best2 : Found) (r r2 : Regret) → ex ≡ ex2 → n ≡ n2 → best ≡ best2 → r ≡ r2 → P (line.settle n ∷ regret_records ex best r) → P (line.settle n2 ∷ regret_records ex2 best2 r2)
+in_words P ex ex2 n n2 best best2 r r2 a b c d h =
+    subst (λ (z : Regret). P (line.settle n2 ∷ regret_records ex2 best2 z)) d
+    (subst (λ (f : Found). P (line.settle n2 ∷ regret_records ex2 f r)) c
+    (subst (λ (k : ℕ). P (line.settle k ∷ regret_records ex2 best r)) b
+    (subst (λ (y : Exchange). P (line.settle n ∷ regret_records y best r)) a h)))
 
-pub put_opening-requires : goal.put_opening-requires
-put_opening-requires g c =
-    let o = c.in-Going.opening in
-    subst (λ (x : Exchange). IsWritableOpening (length (exact_of x)) o) (sym (c.exchange.ensures ∙ c.in-Going.ensures.exchange))
-    (opening_may_be_written c.requires.0 c.args.ready c.in-Going.round o c.requires.1 c.in-Going.ensures c.den-den.ensures.limits)
+pub stop_early-requires : goal.stop_early-requires
+stop_early-requires g c = (c.args.ready, c.requires, c.in-Err.ensures.end)
 
-pub same-round : goal.same-round
-same-round g c = refl
+pub returns-in-Err : goal.returns-in-Err
+returns-in-Err g c = c.stop_early.ensures c.args.ready c.in-Err.ensures.end
 
-pub stop_spent-requires-clause-halt : goal.stop_spent-requires-clause-halt
-stop_spent-requires-clause-halt g c = (spent_may_be_written c.requires.0 c.args.ready c.in-Spent.halt c.in-Spent.spent c.requires.1 c.in-Spent.ensures.0 c.in-Spent.ensures.1).0
+pub put_settlement-requires-clause-number : goal.put_settlement-requires-clause-number
+put_settlement-requires-clause-number g c =
+    let x = c.in-Ok.settling in
+    let run = subst (IsRunning c.requires.0) (sym c.in-Ok.ensures.session) c.requires.1 in
+    subst (λ (k : ℕ). k ≤ 20) (sym c.number.ensures) (settling_may_be_written c.requires.0 x run c.in-Ok.ensures.settling).number
 
-pub stop_spent-requires-clause-spent : goal.stop_spent-requires-clause-spent
-stop_spent-requires-clause-spent g c =
-    let p = proved_spent c.in-Spent.spent in
-    subst (λ (x : Exchange). IsWritable (length (exact_of x)) p) (sym c.in-Spent.ensures.0.exchange)
-    (spent_may_be_written c.requires.0 c.args.ready c.in-Spent.halt c.in-Spent.spent c.requires.1 c.in-Spent.ensures.0 c.in-Spent.ensures.1).1
+pub put_settlement-requires-clause-written : goal.put_settlement-requires-clause-written
+put_settlement-requires-clause-written g c =
+    let x = c.in-Ok.settling in
+    let run = subst (IsRunning c.requires.0) (sym c.in-Ok.ensures.session) c.requires.1 in
+    subst (λ (y : Exchange). IsWritableSettlement (length (exact_of y)) (settlement_of c.best.result.now c.regret.result.now)) (sym c.exchange.ensures)
+    (subst (λ (f : Found). IsWritableSettlement (length (exact_of x.session.exchange)) (settlement_of f c.regret.result.now)) (sym c.best.ensures)
+    (subst (λ (r : Regret). IsWritableSettlement (length (exact_of x.session.exchange)) (settlement_of x.best r)) (sym c.regret.ensures)
+    (settling_may_be_written c.requires.0 x run c.in-Ok.ensures.settling).settlement))
 
-pub stop_limited-requires-clause-halt : goal.stop_limited-requires-clause-halt
-stop_limited-requires-clause-halt g c = (limit_may_be_written c.requires.0 c.args.ready c.in-Limit.halt c.in-Limit.limit c.requires.1 c.in-Limit.ensures.0 c.in-Limit.ensures.1).0
+pub follow-requires-clause-running : goal.follow-requires-clause-running
+follow-requires-clause-running g c = (c.requires.0, subst (IsRunning c.requires.0) (sym c.in-Ok.ensures.session) c.requires.1)
 
-pub stop_limited-requires-clause-limit : goal.stop_limited-requires-clause-limit
-stop_limited-requires-clause-limit g c = (limit_may_be_written c.requires.0 c.args.ready c.in-Limit.halt c.in-Limit.limit c.requires.1 c.in-Limit.ensures.0 c.in-Limit.ensures.1).1
+pub follow-requires-clause-found : goal.follow-requires-clause-found
+follow-requires-clause-found g c = c.in-Ok.ensures.settling
 
-pub returns-in-Closed : goal.returns-in-Closed
-returns-in-Closed g c =
-    ends_closed c.args.ready c.in-Closed.closing (g.K.Sink.taken c.args.out.now) (g.K.Sink.taken c.close.new.out) c.close.result c.in-Closed.ensures c.close.ensures
+pub follow-requires-clause-fresh : goal.follow-requires-clause-fresh
+follow-requires-clause-fresh g c = c.in-Ok.ensures.fresh
 
-pub returns-in-Ok : goal.returns-in-Ok
-returns-in-Ok g c =
-    let o = c.in-Going.opening in
+pub returns-in-Ok-put_settlement : goal.returns-in-Ok-put_settlement
+returns-in-Ok-put_settlement g c =
+    let x = c.in-Ok.settling in
+    let found = c.in-Ok.ensures.settling in
     let old = g.K.Sink.taken c.args.out.now in
-    let new = g.K.Sink.taken c.put_opening.new.out in
-    round_opens c.args.ready c.in-Going.round o c.in-Going.ensures c.den-den.ensures.limits c.put_opening.ensures.prices old new
-    (subst (λ (x : Exchange). Takes (bytes_of (opening_records x o)) old new) c.exchange.ensures c.in-Ok.ensures.put)
+    let mid = g.K.Sink.taken c.put_settlement.new.out in
+    let new = g.K.Sink.taken c.follow.new.out in
+    let takes = in_words (λ (rs : List Record). Takes (bytes_of rs) old mid) c.exchange.result.now x.session.exchange c.number.result x.session.number c.best.result.now x.best c.regret.result.now x.regret
+    c.exchange.ensures c.number.ensures c.best.ensures c.regret.ensures c.in-Ok-put_settlement.ensures in
+    MatchResult-weaker c.follow.result c.follow.ensures
+    (λ round opened. subst (λ (s : SessionAt). OpensRound s round old new) c.in-Ok.ensures.session (settling_opens x found c.in-Ok.ensures.fresh round old mid new takes opened))
+    (λ status ends. subst (λ (s : SessionAt). EndsHere s old new status) c.in-Ok.ensures.session (settling_ends x found c.in-Ok.ensures.fresh old mid new status takes ends))
 
 pub returns-in-Err-Failed : goal.returns-in-Err-Failed
 returns-in-Err-Failed g c =
-    let o = c.in-Going.opening in
+    let x = c.in-Ok.settling in
     let old = g.K.Sink.taken c.args.out.now in
-    let new = g.K.Sink.taken c.put_opening.new.out in
-    opening_fails c.args.ready c.in-Going.round o c.in-Going.ensures c.den-den.ensures.limits c.put_opening.ensures.prices old new
-    (subst (λ (x : Exchange). FailsIn (bytes_of (opening_records x o)) old new) c.exchange.ensures c.in-Err-Failed.ensures.put)
-
-pub returns-in-Spent : goal.returns-in-Spent
-returns-in-Spent g c =
-    ends_spent c.args.ready c.in-Spent.halt c.in-Spent.spent (g.K.Sink.taken c.args.out.now) (g.K.Sink.taken c.stop_spent.new.out) c.stop_spent.result
-    c.in-Spent.ensures.0 c.in-Spent.ensures.1 c.stop_spent.ensures.record_is c.stop_spent.ensures.said
-
-pub returns-in-Limit : goal.returns-in-Limit
-returns-in-Limit g c =
-    ends_limited c.args.ready c.in-Limit.halt c.in-Limit.limit (g.K.Sink.taken c.args.out.now) (g.K.Sink.taken c.stop_limited.new.out) c.stop_limited.result
-    c.in-Limit.ensures.0 c.in-Limit.ensures.1 c.stop_limited.ensures
-
-pub returns-in-NoMemory : goal.returns-in-NoMemory
-returns-in-NoMemory g c = ends_without_memory c.args.ready (g.K.Sink.taken c.args.out.now)
+    let new = g.K.Sink.taken c.put_settlement.new.out in
+    let fails = in_words (λ (rs : List Record). FailsIn (bytes_of rs) old new) c.exchange.result.now x.session.exchange c.number.result x.session.number c.best.result.now x.best c.regret.result.now x.regret
+    c.exchange.ensures c.number.ensures c.best.ensures c.regret.ensures c.in-Err-Failed.ensures in
+    subst (λ (s : SessionAt). EndsHere s old new WriteFault) c.in-Ok.ensures.session (settling_fails x c.in-Ok.ensures.settling c.in-Ok.ensures.fresh old new fails)
