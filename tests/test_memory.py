@@ -16,6 +16,13 @@ EXAMPLES = ROOT / "examples"
 # Commands that write a journal as it is found, so that its front stands where memory is wanted.
 GROWING = ("run", "simulate", "regret")
 
+# Those that write it group by group, and the words of the lines that may come behind a whole group
+# or a whole round.
+BY_GROUPS = ("run", "simulate")
+BETWEEN = set(
+    b"ice settle provisional prices limit without spent threshold submit end".split()
+)
+
 GENERATED = [EXAMPLES / "generated.json", EXAMPLES / "generated.truth.json"]
 
 
@@ -42,17 +49,24 @@ class Memory(unittest.TestCase):
             self.skipTest(f"{program} asks for memory in another way")
         return found
 
-    def is_front(self, ran: Ran, whole: Ran, command: str) -> None:
-        """Tests that a run ended for want of memory, and wrote what belongs to that."""
+    def is_front(self, ran: Ran, whole: Ran, command: str) -> bytes:
+        """Tests that a run ended for want of memory, and wrote what belongs to that. What comes
+        next in the whole journal begins with the word that it gives."""
         self.assertEqual((ran.status, ran.errors), (NO_MEMORY, b""), str(ran))
         if command not in GROWING:
             self.assertEqual(ran.output, b"")
         self.assertTrue(whole.output.startswith(ran.output), str(ran))
         self.assertTrue(ran.output == b"" or ran.output.endswith(b"\n"), str(ran))
         self.assertLess(len(ran.output), len(whole.output), "a stop stands in it")
+        word = whole.output[len(ran.output) :].split(maxsplit=1)[0]
+        if command in BY_GROUPS:
+            self.assertIn(word, BETWEEN, str(ran))
+        return word
 
-    def walk(self, words: Sequence[Word], step: int, **variables: int) -> None:
-        """Refuses requests of a call in turn, each at a run of its own."""
+    def walk(self, words: Sequence[Word], step: int, **variables: int) -> set[bytes]:
+        """Refuses requests of a call in turn, each at a run of its own, and gives the words with
+        which the rest of the journal begins."""
+        behind = set()
         for program in programs():
             whole = program.run(words)
             count = self.counts(program, words).requests
@@ -62,9 +76,10 @@ class Memory(unittest.TestCase):
                     ran = program.run(words, environment=edge(fail_memory=number, **variables))
                     # Room that an iterator's hint asks for is asked for again, as it is needed.
                     if variables or (ran.status, ran.output) != (whole.status, whole.output):
-                        self.is_front(ran, whole, str(words[0]))
+                        behind.add(self.is_front(ran, whole, str(words[0])))
                         wanted += 1
             self.assertGreater(wanted, 0)
+        return behind
 
     def test_each_request_alone(self) -> None:
         for name, words in calls():
@@ -73,6 +88,12 @@ class Memory(unittest.TestCase):
     def test_each_request_and_all_behind_it(self) -> None:
         for name, words in calls():
             self.walk(words, self.step(name), fail_on=1)
+
+    def test_groups_stand_before_the_next_search(self) -> None:
+        # settle with its final sets and their rival, the provisional sets, and those without each
+        # bidder: what is found is written before memory for the next search is asked for
+        behind = self.walk(["run", *GENERATED], 5, fail_on=1)
+        self.assertLessEqual({b"settle", b"provisional", b"prices", b"without"}, behind)
 
     def step(self, name: str) -> int:
         """Every request is refused of most calls, and of the long ones where all is tested."""
