@@ -1,5 +1,5 @@
 -- What is known of the lines so far, line by line.
-use Rattle.std.proofs.Common.{◌≡◌, ◌≢◌, ◌∙◌, refl, ap, sym, subst, ℕ, suc, ◌<◌, List, [], ◌∷◌, ◌++◌, length, Contains, arith, append_assoc, length-append}
+use Rattle.std.proofs.Common.{◌≡◌, ◌≢◌, ◌∙◌, refl, ap, sym, subst, ℕ, suc, List, [], ◌∷◌, ◌++◌, length, Contains, arith, append_assoc, length-append}
 use Rattle.std.specs.Prelude.{Option, Some, None, option_map, Ok}
 use Rattle.std.specs.List.{AllByRecursion}
 use Rattle.std.proofs.lemmas.Option.{none-some}
@@ -9,7 +9,7 @@ use Rattle.ice_line.specs.Reading.{Reads}
 use Rattle.ice_line.specs.Lines.{BeginsWithLine}
 use Rattle.ice_defs.specs.Fraction.{Fraction}
 use Rattle.ice_defs.specs.Session.{Payment}
-use Rattle.ice_journal.specs.Journal.{grammar, unended}
+use Rattle.ice_journal.specs.Journal.{grammar}
 use Rattle.ice_journal.specs.Lines.{fraction_of}
 use Rattle.ice_journal_laws.specs.declared.rule.Rule.{Rule}
 use Rattle.ice_journal_laws.specs.declared.rule.Rule.TheVariants as rule
@@ -175,9 +175,6 @@ comes_to bytes rest text after number standing read e none = record {
 
 pub no_line : (bytes rest text after : List ℕ) (number : ℕ) (standing : Standing) → HasRead bytes rest number standing → BeginsWithLine rest text after → Reads {A = StatementLine} None IsLine statement_text text → IsLineFault bytes (grammar number)
 no_line bytes rest text after number standing read begins none = (text, after, comes_to bytes rest text (10 ∷ after) number standing read begins.0 begins.1, none)
-
-pub unended_line : (bytes rest : List ℕ) (number : ℕ) (standing : Standing) → HasRead bytes rest number standing → ¬ Contains rest 10 → 0 < length rest → IsLineFault bytes (unended number)
-unended_line bytes rest number standing read none some = (rest, comes_to bytes rest rest [] number standing read (sym (append-nil rest)) none, some)
 
 -- the answer to all of them
 pub all_read : (bytes rest : List ℕ) (number : ℕ) (standing : Standing) (answer : AuditAnswer) → HasRead bytes rest number standing → rest ≡ [] → ((lines : List StatementLine) → number ≡ suc (length lines) → Follows standing lines → AnswersLines lines answer)

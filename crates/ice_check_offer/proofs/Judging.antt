@@ -13,7 +13,7 @@ use Rattle.ice_journal.specs.Records.{Record}
 use Rattle.ice_journal.specs.Records as line
 use Rattle.ice_journal_laws.specs.declared.rule.Rule.TheVariants as rule
 use Rattle.ice_journal_laws.specs.State.{State, at_round, at_verdict, exchange_at}
-use Rattle.ice_journal_laws.specs.Fields.{submission_in, settlement_in, verdict_in}
+use Rattle.ice_journal_laws.specs.Fields.{settlement_in, verdict_in}
 use Rattle.ice_journal_laws.specs.Next.{to_line, go_to, if_true, next_settlement, to_settlement}
 use Rattle.ice_journal_laws.specs.Progress.{passing, TakesOn}
 use Rattle.ice_journal_laws.proofs.Priced.{round_submits, round_settles, round_missing, verdict_missing, verdict_wrong, verdict_right}
@@ -94,9 +94,6 @@ module _ (ex : Exchange) (number : ℕ) (o : Offer) where
   -- neither a submission nor a settlement
   no_settlement : (s : State) (r : Record) → settlement_in r ≡ None → to_settlement s r ≡ None
   no_settlement s r none = ap (λ (found : Option ℕ). option_and_then (λ k. if_true (eqb k (suc s.number)) (next_settlement s)) found) none
-
-  pub round_other : (r : Record) → submission_in r ≡ None → settlement_in r ≡ None → CanOpen ex number o r → FailsBy ex number o r (Here rule.Order)
-  round_other r none other opens s st n = (opens s st n).fails none (no_settlement s r other)
 
   pub settlement_taken : (other : ℕ) (judge : Round) → other ≡ suc number → judge ≡ record o.judge { bounds = o.judge.next; marks = replicate (length o.judge.marks) false } → IsRoundOf ex judge
       → IsKept ex o → CanOpen ex number o (line.settle other) → GoesToSettlement ex number o (line.settle other) (record o { place = place.Prices; judge = judge })

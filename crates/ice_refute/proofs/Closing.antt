@@ -13,10 +13,6 @@ record IsTaken (side : Side) (sides : List Side) (log left : List Step) : Type 0
   closed : open_after (side ∷ sides) log ≡ open_after sides left
   placed_all : length (steps_with_sides (side ∷ sides) log) + length left ≡ length (steps_with_sides sides left) + length log
 
-placed-empty : (log : List Step) → length (steps_with_sides [] log) ≡ 0
-placed-empty [] = refl
-placed-empty (step ∷ log) = refl
-
 module _ (means : Means) (ts : List Tree) (exact : List Bool) (ws : List Weights) (target : ℤ) where
   taken : {side : Side} {log left : List Step} → ReadsBy means ts exact ws target side log (Ok left) → (sides : List Side) → IsTaken side sides log left
   taken (branches {side = side} {b = b} {n = n} free must never) sides =

@@ -126,10 +126,6 @@ places_before : (marks : Side) (branches : List (ℕ × ℕ)) (place : ℕ × �
 places_before marks branches place kept k h =
     subst (IsPlace marks) (get_or_append_left branches (place ∷ []) (0, 0) k h) (kept.places k (omega (arith, h, length-append branches (place ∷ []))))
 
-at_most_one : (b : Bool) → number b ≤ 1
-at_most_one true = omega arith
-at_most_one false = omega arith
-
 -- the last branch is left
 pub kept_less : (marks : Side) (branches : List (ℕ × ℕ)) (place : ℕ × ℕ) → AreKept marks (branches ++ place ∷ []) → AreKept (with_mark marks place.0 place.1 Free) branches
 kept_less marks branches place kept =
