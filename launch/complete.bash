@@ -19,16 +19,24 @@ _ice_files() {
     if [ "${#found[@]}" -gt 0 ]; then COMPREPLY=("${found[@]}" "${folders[@]}"); else mapfile -t COMPREPLY < <(compgen -f -- "$1"); fi
 }
 
-# What stands behind a word in the records of a journal, up to the first record that begins with another word.
+# What stands behind a word in the records of a journal, up to the first record that begins with another word. Bytes are read in pieces
+# of 32,768, and up to the first line that is longer than a record's, so that no file takes long or much memory.
 _ice_behind() {
-    local lines=() line LC_ALL=C
+    local piece text rest='' lines=() line LC_ALL=C
     [ -f "$1" ] && [ -r "$1" ] || return 0
-    while mapfile -t -n 4096 lines && [ "${#lines[@]}" -gt 0 ]; do
-        for line in "${lines[@]}"; do
-            [ "${line%% *}" != "$3" ] || return 0
-            [[ ! $line =~ ^$2\ ([A-Za-z0-9_.-]+)(\ |$) ]] || echo "${BASH_REMATCH[1]}"
-        done
-    done <"$1"
+    while IFS= read -r -N 32768 piece || [ -n "$piece" ]; do
+        text=$rest$piece
+        mapfile -t lines <<<"$text" || return 0
+        rest=${lines[-1]}
+        unset 'lines[-1]'
+        if [[ $text = *"$2 "* || $text = *"$3"* ]]; then
+            for line in "${lines[@]}"; do
+                [ "${#line}" -le 8192 ] && [[ $line != "$3" && $line != "$3 "* ]] || return 0
+                [[ ! $line =~ ^$2\ ([A-Za-z0-9_.-]+)(\ |$) ]] || echo "${BASH_REMATCH[1]}"
+            done
+        fi
+        [ "${#rest}" -le 8192 ] || return 0
+    done <"$1" 2>/dev/null
 }
 
 _ice() {

@@ -77,7 +77,7 @@ class HandedOn(unittest.TestCase):
     def completed(self, *words: str) -> list[str]:
         """What is offered for the last of these words."""
         script = '. launch/complete.bash; COMP_WORDS=("$@"); COMP_CWORD=$(($# - 1)); _ice; printf "%s\\n" "${COMPREPLY[@]}"'
-        ran = subprocess.run([self.top / "bin/bash", "-c", script, "bash", "./ice", *words], cwd=self.top, env=self.where, capture_output=True, text=True, check=False)
+        ran = subprocess.run([self.top / "bin/bash", "-c", script, "bash", "./ice", *words], cwd=self.top, env=self.where, capture_output=True, text=True, timeout=60, check=False)
         return sorted(ran.stdout.split())
 
     def test_completion(self) -> None:
@@ -98,6 +98,19 @@ class HandedOn(unittest.TestCase):
             ("check", "--q"): ["--quiet"],
         }.items():
             self.assertEqual(self.completed(*words), offered, words)
+
+    def test_completion_reads_long_files_in_pieces(self) -> None:
+        journal = self.top / "a.journal"
+        head = "ice 2 session\nsettle 0\n" + ("x" * 4_095 + "\n") * 7
+        for before in range(32_757, 32_770):  # the first piece ends before, in or behind the record of the second settlement
+            journal.write_text(head + "x" * (before - len(head)) + "\nsettle 1\nthreshold 1\nsettle 2\n")
+            self.assertEqual(self.completed("replay", "a.journal", ""), ["0", "1"], before)
+        journal.write_text("ice 2 session\nsettle 0\n" + "x" * 8_192 + "\nsettle 1\n" + "x" * 8_193 + "\nsettle 2\n")
+        self.assertEqual(self.completed("replay", "a.journal", ""), ["0", "1"])
+
+    def test_completion_ends_at_a_line_that_is_no_record(self) -> None:
+        (self.top / "a.journal").write_text("ice 2 session\nsettle 0\n" + "x" * 5_000_000 + "\nsettle 1\n")
+        self.assertEqual(self.completed("replay", "a.journal", ""), ["0"])
 
 
 if __name__ == "__main__":
