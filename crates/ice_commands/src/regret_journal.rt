@@ -1,5 +1,5 @@
 //! The journal of a regret, put line by line as it is found.
-ghost use Rattle.std.specs.Prelude.{◌≡◌, ◌≤◌, [], length};
+ghost use Rattle.std.specs.Prelude.{◌≡◌, ◌≤◌, [], length, MatchResult};
 ghost use Rattle.ice_defs.specs.Exchange.{exact_of, opening_bounds};
 ghost use Rattle.ice_defs.specs.Lawful.{IsExchange};
 ghost use Rattle.ice_edge.specs.Puts.{IsPut};
@@ -43,45 +43,29 @@ fn put_ending<K: Sink>(exchange: &Exchange, regret: &Regret, out: &mut K) -> Res
     put_record(&Line::End(EndWord::Regret), out)
 }
 
-/// Writes the final group, and behind it the rival, the regret and the end.
-fn write_whole<K: Sink>(
+/// Writes the final group, and behind it the rival, the regret and the end, or what was found of
+/// the rival where its search spent the branches.
+fn write_with_rival<K: Sink>(
     exchange: &Exchange,
     found: &Found,
     branches: u32,
-    regret: &Regret,
+    rival: &Result<Regret, Spent>,
     out: &mut K,
 ) -> Status
     requires lawful { IsExchange exchange.now }
     requires found { IsFinal exchange.now branches found.now }
-    requires regret { IsRegretOf exchange.now (opening_bounds exchange.now) found.now.best
-        regret.now }
+    requires rival { MatchResult rival.now
+        (IsRegretOf exchange.now (opening_bounds exchange.now) found.now.best)
+        (IsSpentBy (rival_search exchange.now (opening_bounds exchange.now) found.now.best)
+        branches) }
     ensures { WritesBehind (begun_records exchange.now) (IsRegretJournal exchange.now)
         (K.taken out.old) (K.taken out.new) result }
 {
     match put_final(exchange, found, out) {
-        Ok(()) => ended(put_ending(exchange, regret, out), Status::Done),
-        Err(SinkFault::Failed) => Status::WriteFault,
-    }
-}
-
-/// Writes the final group, and behind it what was found of its rival where the branches were spent.
-fn write_rival_spent<K: Sink>(
-    exchange: &Exchange,
-    found: &Found,
-    branches: u32,
-    spent: &Spent,
-    out: &mut K,
-) -> Status
-    requires lawful { IsExchange exchange.now }
-    requires found { IsFinal exchange.now branches found.now }
-    requires spent { IsSpentBy
-        (rival_search exchange.now (opening_bounds exchange.now) found.now.best) branches
-        spent.now }
-    ensures { WritesBehind (begun_records exchange.now) (IsRegretJournal exchange.now)
-        (K.taken out.old) (K.taken out.new) result }
-{
-    match put_final(exchange, found, out) {
-        Ok(()) => ended(put_spent(exchange, spent, out), Status::Spent),
+        Ok(()) => match rival {
+            Ok(regret) => ended(put_ending(exchange, regret, out), Status::Done),
+            Err(spent) => ended(put_spent(exchange, spent, out), Status::Spent),
+        },
         Err(SinkFault::Failed) => Status::WriteFault,
     }
 }
@@ -102,8 +86,10 @@ fn write_found<K: Sink>(
 {
     let mut left = branches;
     match regret_among_ties(alloc, exchange, exchange.bounds(), &mut found, &mut left) {
-        Ok(regret) => write_whole(exchange, &found, branches, &regret, out),
-        Err(SearchEnd::Spent(spent)) => write_rival_spent(exchange, &found, branches, &spent, out),
+        Ok(regret) => write_with_rival(exchange, &found, branches, &Ok(regret), out),
+        Err(SearchEnd::Spent(spent)) => {
+            write_with_rival(exchange, &found, branches, &Err(spent), out)
+        }
         Err(SearchEnd::NoMemory) => Status::NoMemory,
     }
 }

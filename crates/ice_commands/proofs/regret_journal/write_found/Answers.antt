@@ -17,24 +17,24 @@ regret_among_ties-requires-clause-bounds g c = subst (AreBoundsOf (trees_of c.ar
 pub regret_among_ties-requires-clause-found : goal.regret_among_ties-requires-clause-found
 regret_among_ties-requires-clause-found g c = subst (λ (b : List Bounds). IsFoundBy (lower_search c.args.exchange.now b) c.args.found) (sym c.bounds.ensures.value) c.requires.found.found
 
-pub write_whole-requires-clause-found : goal.write_whole-requires-clause-found
-write_whole-requires-clause-found g c = record {
+pub write_with_rival-requires-clause-found : goal.write_with_rival-requires-clause-found
+write_with_rival-requires-clause-found g c = record {
   found = subst (λ (b : List Bounds). IsFoundBy (lower_search c.args.exchange.now b) c.regret_among_ties.new.best) c.bounds.ensures.value c.in-Ok.ensures.found;
   branches = omega (arith, ap branch_count c.in-Ok.ensures.log, c.requires.found.branches);
 }
 
-pub write_whole-requires-clause-regret : goal.write_whole-requires-clause-regret
-write_whole-requires-clause-regret g c =
+pub write_with_rival-requires-clause-rival : goal.write_with_rival-requires-clause-rival
+write_with_rival-requires-clause-rival g c =
     subst (λ (b : List Bounds). IsRegretOf c.args.exchange.now b c.regret_among_ties.new.best.best c.in-Ok.regret) c.bounds.ensures.value c.in-Ok.ensures.regret
 
-pub write_rival_spent-requires-clause-found : goal.write_rival_spent-requires-clause-found
-write_rival_spent-requires-clause-found g c = record {
+pub write_with_rival-requires-in-Err-Spent-clause-found : goal.write_with_rival-requires-in-Err-Spent-clause-found
+write_with_rival-requires-in-Err-Spent-clause-found g c = record {
   found = subst (λ (b : List Bounds). IsFoundBy (lower_search c.args.exchange.now b) c.regret_among_ties.new.best) c.bounds.ensures.value c.in-Err-Spent.ensures.found;
   branches = omega (arith, ap branch_count c.in-Err-Spent.ensures.log, c.requires.found.branches);
 }
 
-pub write_rival_spent-requires-clause-spent : goal.write_rival_spent-requires-clause-spent
-write_rival_spent-requires-clause-spent g c =
+pub write_with_rival-requires-in-Err-Spent-clause-rival : goal.write_with_rival-requires-in-Err-Spent-clause-rival
+write_with_rival-requires-in-Err-Spent-clause-rival g c =
     let end = rw c.in-Err-Spent.field-0-is at c.in-Err-Spent.ensures.end in
     subst (λ (b : List Bounds). IsSpentBy (rival_search c.args.exchange.now b c.regret_among_ties.new.best.best) c.args.branches c.in-Err-Spent.spent) c.bounds.ensures.value end.0
 
