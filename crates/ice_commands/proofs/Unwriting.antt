@@ -1,11 +1,12 @@
 -- From why nothing is said of the bytes of a file to what a command answers.
-use Rattle.std.proofs.Common.{◌≡◌, ◌∙◌, ap, subst, ℕ, List}
+use Rattle.std.proofs.Common.{◌≡◌, ◌∙◌, ap, subst, sym, ℕ, List}
 use Rattle.ice_defs.specs.FileFault.{FileFault}
 use Rattle.ice_edge.specs.declared.status.Status.{Status}
 use Rattle.ice_edge.specs.declared.status.Status.TheVariants.{Input, No, ReadFault}
 use Rattle.ice_edge.specs.declared.status.Status.TheVariants as status
 use Rattle.ice_edge.specs.Told.{Told}
 use Rattle.ice_journal_laws.specs.declared.rule.Rule.{Rule}
+use Rattle.ice_journal_laws.specs.declared.answer.CheckEnd.{CheckEnd}
 use Rattle.ice_reading.specs.declared.end.JournalEnd.{JournalEnd}
 use Rattle.ice_reading.specs.declared.end.JournalEnd.TheVariants.{FailsTest}
 use Rattle.ice_command_parts.specs.declared.refusal.Refusal.{Refusal}
@@ -15,12 +16,12 @@ use Rattle.ice_commands.specs.declared.unwritten.Unwritten.TheVariants.{Fails, R
 use Rattle.ice_command_parts.specs.Call.{Call, journal_limit, OfFile}
 use Rattle.ice_command_parts.specs.Lines.{refused_line, unread_line}
 use Rattle.ice_command_parts.specs.Parts.{AreFetched, Answers}
-use Rattle.ice_command_parts.specs.Refusals.{fault_of, refusal_text, refusal_status, Refuses}
+use Rattle.ice_command_parts.specs.Refusals.{fault_of, refusal_text, refusal_status, Refuses, NoFault, IsFaultOf}
 use Rattle.ice_commands.specs.Output.{no_line}
-use Rattle.ice_commands.specs.Ends.{IsJournalFault, TellsEnd, RefusesFile}
+use Rattle.ice_commands.specs.Ends.{IsEndFault, IsJournalFault, TellsEnd, RefusesFile}
 use Rattle.ice_commands.specs.Unwritten.{unwritten_text, unwritten_status, IsUnwrittenOf, IsUnwritten}
 use Rattle.ice_command_parts.proofs.Parts.{told_in_call}
-use Rattle.ice_command_parts.proofs.Refusing.{fault_of_fetched, fault_anyway}
+use Rattle.ice_command_parts.proofs.Refusing.{fault_of_fetched, fault_anyway, not_had}
 
 -- why nothing is said of a journal is why nothing is written of its bytes
 pub unwritten_is : (EndsSo : List ℕ → JournalEnd → Type 0) (HasFault : List ℕ → FileFault → Type 0) (bytes : List ℕ) (end : JournalEnd) (unwritten : Unwritten)
@@ -48,7 +49,18 @@ module _ (Served : Call → Status → Type 0) (HasFault : List ℕ → FileFaul
       unread call (h.1, text ∙ ap unread_line h.0)
   refusal_answers before after NoMemory refuses call part text = in_want call text
 
-  -- or fails a test
+  -- the file isn't had
+  pub unfetched_answers : (before after : Told) (refusal : Refusal) → Refuses 1 file journal_limit NoFault before after refusal → Answers Served before after (refusal_text refusal) (refusal_status refusal)
+  unfetched_answers before after refusal is = refusal_answers before after refusal (λ call part. not_had call 1 file journal_limit HasFault refusal (is call part))
+
+  -- or nothing is said of its bytes
+  pub end_answers : (before after : Told) (bytes read : List ℕ) (end : CheckEnd) (refusal : Refusal) → read ≡ bytes → AreFetched before file journal_limit bytes
+      → ((fault : FileFault) → IsEndFault end fault → HasFault read fault) → IsFaultOf 1 (IsEndFault end) refusal → Answers Served before after (refusal_text refusal) (refusal_status refusal)
+  end_answers before after bytes read end refusal same told faults is =
+      refusal_answers before after refusal
+      (fault_of_fetched before after 1 file journal_limit read HasFault refusal (subst (λ (all : List ℕ). AreFetched before file journal_limit all) (sym same) told) (fault_anyway 1 (IsEndFault end) (HasFault read) refusal faults is))
+
+  -- or it fails a test
   pub unwritten_answers : (EndsSo : List ℕ → JournalEnd → Type 0)
       → ((call : Call) (line : ℕ) (rule : Rule) (bytes : List ℕ) → EndsSo bytes (FailsTest line rule) → OfFile call file journal_limit (λ told. told ≡ bytes) → call.text ≡ no_line (record { line = line; rule = rule }) → Served call No)
       → (before after : Told) (unwritten : Unwritten) → IsUnwritten EndsSo HasFault file before after unwritten → Answers Served before after (unwritten_text unwritten) (unwritten_status unwritten)

@@ -1,46 +1,20 @@
 //! `audit`: whether a statement passes its tests, with no journal in sight.
-ghost use Rattle.std.specs.Prelude.{◌≡◌, [], ℕ, List, IfOk, IfErr, OnOk};
-ghost use Rattle.ice_commands.specs.AuditServed.{paid_line, IsAuditFault, AuditAnswers};
-ghost use Rattle.ice_commands.specs.AuditParts.{IsAnswerTo, answer_text, answer_status};
+ghost use Rattle.std.specs.Prelude.{◌≡◌, []};
+ghost use Rattle.ice_commands.specs.AuditServed.{paid_line, AuditAnswers};
+ghost use Rattle.ice_commands.specs.AuditParts.{answer_text, answer_status};
 ghost use Rattle.ice_command_parts.specs.Keeping.{KeepsTold};
-ghost use Rattle.ice_command_parts.specs.Parts.{AreFetched, IsSaid, Serves};
-ghost use Rattle.ice_command_parts.specs.Refusals.{refusal_status, IsFaultOf, Refuses};
+ghost use Rattle.ice_command_parts.specs.Parts.{IsSaid, Serves};
 
 use crate::answer::{say_answer, write_fraction};
 use crate::check::JOURNAL_LIMIT;
 use crate::ends::refusal_of;
 use ice_audit::AuditAnswer;
 use ice_check::Answer;
-use ice_command_parts::{Refusal, ended, fetch};
+use ice_command_parts::{ended, fetch};
 use ice_edge::{Shelf, Sink, Status};
 use ice_frac::Frac;
 use ice_line::LineWriter;
 use std::alloc::Global;
-
-/// The audit's answer on the bytes of the first file, or why there is none.
-fn answer_to(alloc: Global, bytes: &[u8]) -> Result<AuditAnswer, Refusal>
-    ensures answer { IfOk result (IsAnswerTo bytes.now) }
-    ensures refusal { IfErr result (IsFaultOf 1 (IsAuditFault bytes.now)) }
-{
-    match ice_audit::audit(alloc, bytes) {
-        Ok(answer) => Ok(answer),
-        Err(end) => Err(refusal_of(end)),
-    }
-}
-
-/// The audit's answer on the statement of this name, or why there is none.
-fn answer_of<H: Shelf>(alloc: Global, name: &str, shelf: &mut H) -> Result<AuditAnswer, Refusal>
-    ensures answer { IfOk result (λ answer. (bytes : List ℕ) × IsAnswerTo bytes answer
-        × AreFetched (H.told shelf.old) name.now JOURNAL_LIMIT bytes) }
-    ensures refusal { IfErr result
-        (Refuses 1 name.now JOURNAL_LIMIT IsAuditFault (H.told shelf.old) (H.told shelf.new)) }
-    ensures kept { OnOk result (H.told shelf.new ≡ H.told shelf.old) }
-    ensures kept_at_refusal { IfErr result (λ refusal.
-        KeepsTold (H.told shelf.old) (H.told shelf.new) (refusal_status refusal)) }
-{
-    let bytes = fetch(alloc, 1, name, JOURNAL_LIMIT, shelf)?;
-    answer_to(alloc, &bytes)
-}
 
 /// The line of a yes with its newline, written into an empty writer.
 fn write_yes<'a>(payment: &Frac, to: &'a mut LineWriter) -> &'a [u8]
@@ -85,8 +59,11 @@ pub fn audit<H: Shelf, K: Sink>(alloc: Global, file: &str, shelf: &mut H, out: &
         (H.told shelf.old) (H.told shelf.new) (K.taken out.old) (K.taken out.new) result }
     ensures kept { KeepsTold (H.told shelf.old) (H.told shelf.new) result }
 {
-    match answer_of(alloc, file, shelf) {
-        Ok(answer) => say(&answer, out),
+    match fetch(alloc, 1, file, JOURNAL_LIMIT, shelf) {
+        Ok(bytes) => match ice_audit::audit(alloc, &bytes) {
+            Ok(answer) => say(&answer, out),
+            Err(end) => refusal_of(end).say(out),
+        },
         Err(refusal) => refusal.say(out),
     }
 }

@@ -1,16 +1,13 @@
 //! `gap`: what a journal shows that stops at a search that spent its branches.
-ghost use Rattle.std.specs.Prelude.{◌≡◌, ◌≤◌, ◌+◌, [], ℕ, List, length, IfOk, IfErr, OnOk, Ok};
-ghost use Rattle.ice_gap_laws.specs.Answers.{AnswersGap};
-ghost use Rattle.ice_commands.specs.CheckServed.{IsCheckFault};
+ghost use Rattle.std.specs.Prelude.{◌≡◌, ◌≤◌, ◌+◌, [], length};
 ghost use Rattle.ice_commands.specs.GapServed.{with_group, gap_line, gap_status, GapAnswers};
 ghost use Rattle.ice_command_parts.specs.Keeping.{KeepsTold};
-ghost use Rattle.ice_command_parts.specs.Parts.{AreFetched, IsSaid, Serves};
-ghost use Rattle.ice_command_parts.specs.Refusals.{refusal_status, IsFaultOf, Refuses};
+ghost use Rattle.ice_command_parts.specs.Parts.{IsSaid, Serves};
 
 use crate::answer::rule_word;
 use crate::check::JOURNAL_LIMIT;
 use crate::ends::refusal_of;
-use ice_command_parts::{Refusal, ended, fetch};
+use ice_command_parts::{ended, fetch};
 use ice_defs::Group;
 use ice_edge::{Shelf, Sink, Status};
 use ice_gap::GapAnswer;
@@ -84,40 +81,17 @@ fn say_gap<K: Sink>(answer: &GapAnswer, out: &mut K) -> Status
     ended(out.put(write_gap(answer, &mut writer)), status_of(answer))
 }
 
-/// The gap that the bytes of the first file state, or why there is no answer.
-fn answer_to(alloc: Global, bytes: &[u8]) -> Result<GapAnswer, Refusal>
-    ensures answer { IfOk result (λ answer. AnswersGap bytes.now (Ok answer)) }
-    ensures refusal { IfErr result (IsFaultOf 1 (IsCheckFault bytes.now)) }
-{
-    match ice_gap::gap(alloc, bytes) {
-        Ok(answer) => Ok(answer),
-        Err(end) => Err(refusal_of(end)),
-    }
-}
-
-/// The gap that the journal of this name states, or why there is no answer.
-fn answer_of<H: Shelf>(alloc: Global, name: &str, shelf: &mut H) -> Result<GapAnswer, Refusal>
-    ensures answer { IfOk result (λ answer. (bytes : List ℕ)
-        × AnswersGap bytes (Ok answer)
-        × AreFetched (H.told shelf.old) name.now JOURNAL_LIMIT bytes) }
-    ensures refusal { IfErr result
-        (Refuses 1 name.now JOURNAL_LIMIT IsCheckFault (H.told shelf.old) (H.told shelf.new)) }
-    ensures kept { OnOk result (H.told shelf.new ≡ H.told shelf.old) }
-    ensures kept_at_refusal { IfErr result (λ refusal.
-        KeepsTold (H.told shelf.old) (H.told shelf.new) (refusal_status refusal)) }
-{
-    let bytes = fetch(alloc, 1, name, JOURNAL_LIMIT, shelf)?;
-    answer_to(alloc, &bytes)
-}
-
 /// Writes the gap that the journal of this name states.
 pub fn gap<H: Shelf, K: Sink>(alloc: Global, journal: &str, shelf: &mut H, out: &mut K) -> Status
     ensures served { Serves (λ call. GapAnswers call journal.now)
         (H.told shelf.old) (H.told shelf.new) (K.taken out.old) (K.taken out.new) result }
     ensures kept { KeepsTold (H.told shelf.old) (H.told shelf.new) result }
 {
-    match answer_of(alloc, journal, shelf) {
-        Ok(answer) => say_gap(&answer, out),
+    match fetch(alloc, 1, journal, JOURNAL_LIMIT, shelf) {
+        Ok(bytes) => match ice_gap::gap(alloc, &bytes) {
+            Ok(answer) => say_gap(&answer, out),
+            Err(end) => refusal_of(end).say(out),
+        },
         Err(refusal) => refusal.say(out),
     }
 }

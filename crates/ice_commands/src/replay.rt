@@ -1,10 +1,10 @@
 //! `replay`: what a session says of one settlement.
-ghost use Rattle.std.specs.Prelude.{◌≡◌, ℕ, List, IfOk, IfErr, OnOk, Ok as Found};
+ghost use Rattle.std.specs.Prelude.{IfOk, IfErr, Ok as Found};
 ghost use Rattle.ice_replay.specs.Replays.{ReplaysBytes};
 ghost use Rattle.ice_command_parts.specs.Keeping.{KeepsTold};
-ghost use Rattle.ice_command_parts.specs.Parts.{AreFetched, Serves};
+ghost use Rattle.ice_command_parts.specs.Parts.{Serves};
 ghost use Rattle.ice_commands.specs.ReplayServed.{NotReplayed, IsReplayFault, ReplayAnswers};
-ghost use Rattle.ice_commands.specs.Unwritten.{unwritten_status, IsUnwrittenOf, IsUnwritten};
+ghost use Rattle.ice_commands.specs.Unwritten.{IsUnwrittenOf};
 
 use crate::check::JOURNAL_LIMIT;
 use crate::ends::unwritten_of;
@@ -31,30 +31,6 @@ fn replay_in(alloc: Global, bytes: &[u8], number: u8) -> Result<Replay, Unwritte
     }
 }
 
-/// The replay of the settlement with this number from the journal of this name, or why there is
-/// none.
-fn replay_of<H: Shelf>(
-    alloc: Global,
-    journal: &str,
-    number: u8,
-    shelf: &mut H,
-) -> Result<Replay, Unwritten>
-    ensures replay { IfOk result (λ replay. (bytes : List ℕ)
-        × ReplaysBytes bytes number (Found replay)
-        × AreFetched (H.told shelf.old) journal.now JOURNAL_LIMIT bytes) }
-    ensures none { IfErr result (IsUnwritten (NotReplayed number) (IsReplayFault number) journal.now
-        (H.told shelf.old) (H.told shelf.new)) }
-    ensures kept { OnOk result (H.told shelf.new ≡ H.told shelf.old) }
-    ensures kept_without { IfErr result (λ unwritten.
-        KeepsTold (H.told shelf.old) (H.told shelf.new) (unwritten_status unwritten)) }
-{
-    let bytes = match fetch(alloc, 1, journal, JOURNAL_LIMIT, shelf) {
-        Ok(bytes) => bytes,
-        Err(refusal) => return Err(Unwritten::Refused(refusal)),
-    };
-    replay_in(alloc, &bytes, number)
-}
-
 /// Writes what the session in the journal of this name says of the settlement with this number.
 pub fn replay<H: Shelf, K: Sink>(
     alloc: Global,
@@ -67,8 +43,11 @@ pub fn replay<H: Shelf, K: Sink>(
         (H.told shelf.old) (H.told shelf.new) (K.taken out.old) (K.taken out.new) result }
     ensures kept { KeepsTold (H.told shelf.old) (H.told shelf.new) result }
 {
-    match replay_of(alloc, journal, number, shelf) {
-        Ok(replay) => ended(put_replay(&replay, out), Status::Done),
-        Err(unwritten) => unwritten.say(out),
+    match fetch(alloc, 1, journal, JOURNAL_LIMIT, shelf) {
+        Ok(bytes) => match replay_in(alloc, &bytes, number) {
+            Ok(replay) => ended(put_replay(&replay, out), Status::Done),
+            Err(unwritten) => unwritten.say(out),
+        },
+        Err(refusal) => refusal.say(out),
     }
 }

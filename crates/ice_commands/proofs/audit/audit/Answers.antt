@@ -1,26 +1,43 @@
+use Rattle.std.proofs.Common.{ℕ, List, sym, subst}
+use Rattle.ice_command_parts.specs.Call.{journal_limit}
+use Rattle.ice_command_parts.specs.Parts.{AreFetched}
 use Rattle.ice_command_parts.specs.Refusals.{refusal_text, refusal_status}
 use Rattle.ice_commands.specs.AuditServed.{IsAuditFault, AuditAnswers}
 use Rattle.ice_commands.specs.AuditParts.{answer_text, answer_status}
 use Rattle.ice_commands.proofs.Auditing.{answer_answers}
-use Rattle.ice_commands.proofs.Unwriting.{refusal_answers}
+use Rattle.ice_commands.proofs.Unwriting.{unfetched_answers, end_answers}
 use Rattle.ice_commands.proofs.audit.audit.Goals as goal
 
-pub returns-in-Ok-clause-served : goal.returns-in-Ok-clause-served
-returns-in-Ok-clause-served g c = (
-  answer_text c.in-Ok.answer,
-  answer_status c.in-Ok.answer,
-  answer_answers (g.H.Shelf.told c.args.shelf.now) (g.H.Shelf.told c.answer_of.new.shelf) c.args.file.now c.in-Ok.answer c.in-Ok.ensures.answer,
-  c.say.ensures,
-)
-
-pub returns-in-Err-clause-served : goal.returns-in-Err-clause-served
-returns-in-Err-clause-served g c =
+pub returns-in-Ok-audit-clause-served : goal.returns-in-Ok-audit-clause-served
+returns-in-Ok-audit-clause-served g c =
     let before = g.H.Shelf.told c.args.shelf.now in
-    let after = g.H.Shelf.told c.answer_of.new.shelf in
     let file = c.args.file.now in
+    let answer = c.in-Ok-audit.answer in
+    let told : AreFetched before file journal_limit c.deref.result.now = subst (λ (read : List ℕ). AreFetched before file journal_limit read) (sym c.deref.ensures.value) c.in-Ok.ensures.bytes in (
+      answer_text answer,
+      answer_status answer,
+      answer_answers before (g.H.Shelf.told c.fetch.new.shelf) file answer (c.deref.result.now, c.in-Ok-audit.ensures, told),
+      c.say.ensures,
+    )
+
+pub returns-in-Ok-clause-served : goal.returns-in-Ok-clause-served
+returns-in-Ok-clause-served g c =
+    let before = g.H.Shelf.told c.args.shelf.now in
+    let file = c.args.file.now in
+    let end = c.in-Err-audit.end in
+    let refusal = c.refusal_of.result in (
+      refusal_text refusal,
+      refusal_status refusal,
+      end_answers (λ call. AuditAnswers call file) IsAuditFault file (λ call h. h) (λ call h. h) (λ call h. h) before (g.H.Shelf.told c.fetch.new.shelf) c.in-Ok.bytes.items c.deref.result.now end refusal
+          c.deref.ensures.value c.in-Ok.ensures.bytes (λ fault h. (end, c.in-Err-audit.ensures, h)) c.refusal_of.ensures,
+      c.say-in-Err-audit.ensures,
+    )
+
+pub returns-clause-served : goal.returns-clause-served
+returns-clause-served g c =
     let refusal = c.in-Err.refusal in (
       refusal_text refusal,
       refusal_status refusal,
-      refusal_answers (λ call. AuditAnswers call file) IsAuditFault file (λ call h. h) (λ call h. h) (λ call h. h) before after refusal c.in-Err.ensures.refusal,
+      unfetched_answers (λ call. AuditAnswers call c.args.file.now) IsAuditFault c.args.file.now (λ call h. h) (λ call h. h) (λ call h. h) (g.H.Shelf.told c.args.shelf.now) (g.H.Shelf.told c.fetch.new.shelf) refusal c.in-Err.ensures.refusal,
       c.say-in-Err.ensures,
     )

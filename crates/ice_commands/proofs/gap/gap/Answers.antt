@@ -1,26 +1,43 @@
+use Rattle.std.proofs.Common.{ℕ, List, sym, subst}
+use Rattle.ice_command_parts.specs.Call.{journal_limit}
+use Rattle.ice_command_parts.specs.Parts.{AreFetched}
 use Rattle.ice_command_parts.specs.Refusals.{refusal_text, refusal_status}
 use Rattle.ice_commands.specs.CheckServed.{IsCheckFault}
 use Rattle.ice_commands.specs.GapServed.{GapAnswers, gap_line, gap_status}
 use Rattle.ice_commands.proofs.Gaps.{gap_answers}
-use Rattle.ice_commands.proofs.Unwriting.{refusal_answers}
+use Rattle.ice_commands.proofs.Unwriting.{unfetched_answers, end_answers}
 use Rattle.ice_commands.proofs.gap.gap.Goals as goal
 
-pub returns-in-Ok-clause-served : goal.returns-in-Ok-clause-served
-returns-in-Ok-clause-served g c = (
-  gap_line c.in-Ok.answer,
-  gap_status c.in-Ok.answer,
-  gap_answers (g.H.Shelf.told c.args.shelf.now) (g.H.Shelf.told c.answer_of.new.shelf) c.args.journal.now c.in-Ok.answer c.in-Ok.ensures.answer,
-  c.say_gap.ensures,
-)
-
-pub returns-in-Err-clause-served : goal.returns-in-Err-clause-served
-returns-in-Err-clause-served g c =
+pub returns-in-Ok-gap-clause-served : goal.returns-in-Ok-gap-clause-served
+returns-in-Ok-gap-clause-served g c =
     let before = g.H.Shelf.told c.args.shelf.now in
-    let after = g.H.Shelf.told c.answer_of.new.shelf in
     let file = c.args.journal.now in
+    let answer = c.in-Ok-gap.answer in
+    let told : AreFetched before file journal_limit c.deref.result.now = subst (λ (read : List ℕ). AreFetched before file journal_limit read) (sym c.deref.ensures.value) c.in-Ok.ensures.bytes in (
+      gap_line answer,
+      gap_status answer,
+      gap_answers before (g.H.Shelf.told c.fetch.new.shelf) file answer (c.deref.result.now, c.in-Ok-gap.ensures, told),
+      c.say_gap.ensures,
+    )
+
+pub returns-in-Ok-clause-served : goal.returns-in-Ok-clause-served
+returns-in-Ok-clause-served g c =
+    let before = g.H.Shelf.told c.args.shelf.now in
+    let file = c.args.journal.now in
+    let end = c.in-Err-gap.end in
+    let refusal = c.refusal_of.result in (
+      refusal_text refusal,
+      refusal_status refusal,
+      end_answers (λ call. GapAnswers call file) IsCheckFault file (λ call h. h) (λ call h. h) (λ call h. h) before (g.H.Shelf.told c.fetch.new.shelf) c.in-Ok.bytes.items c.deref.result.now end refusal
+          c.deref.ensures.value c.in-Ok.ensures.bytes (λ fault h. (end, c.in-Err-gap.ensures, h)) c.refusal_of.ensures,
+      c.say.ensures,
+    )
+
+pub returns-clause-served : goal.returns-clause-served
+returns-clause-served g c =
     let refusal = c.in-Err.refusal in (
       refusal_text refusal,
       refusal_status refusal,
-      refusal_answers (λ call. GapAnswers call file) IsCheckFault file (λ call h. h) (λ call h. h) (λ call h. h) before after refusal c.in-Err.ensures.refusal,
-      c.say.ensures,
+      unfetched_answers (λ call. GapAnswers call c.args.journal.now) IsCheckFault c.args.journal.now (λ call h. h) (λ call h. h) (λ call h. h) (g.H.Shelf.told c.args.shelf.now) (g.H.Shelf.told c.fetch.new.shelf) refusal c.in-Err.ensures.refusal,
+      c.say-in-Err.ensures,
     )
