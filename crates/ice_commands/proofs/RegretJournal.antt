@@ -89,9 +89,6 @@ module _ (ex : Exchange) (lawful : IsExchange ex) where
   abbrev goods : ℕ
   goods = length (exact_of ex)
 
-  abbrev InFile : Call → List ℕ → Type 0
-  InFile call name = OfFile call name file_limit (λ bytes. IsExchangeOf bytes (Ok ex))
-
   -- ---- shown groups
 
   shown_final : (left : ℕ) (f : Found) → IsFinal ex left f → IsShown (trees_of ex) (exact_of ex) (lower_weights (opening_bounds ex)) Final (proved_found f)

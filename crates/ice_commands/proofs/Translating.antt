@@ -1,24 +1,16 @@
 -- From the line of a translation, or why there is none, to what `xor` answers.
-use Rattle.std.proofs.Common.{◌≡◌, ◌∙◌, ℕ, List, Ok, ap, inr}
+use Rattle.std.proofs.Common.{◌≡◌, ◌∙◌, ℕ, List, Ok, ap}
 use Rattle.ice_edge.specs.Told.{Told}
 use Rattle.ice_edge.specs.declared.status.Status.TheVariants as status
-use Rattle.ice_xor.specs.FlatBids.{FlatExchange}
 use Rattle.ice_xor.specs.FlatFile.{flat_of}
-use Rattle.ice_xor.specs.Translating.{translate_refusal}
 use Rattle.ice_command_parts.specs.declared.refusal.Refusal as declared
 use Rattle.ice_command_parts.specs.declared.refusal.Refusal.TheVariants.{File, Unread, NoMemory}
 use Rattle.ice_command_parts.specs.Call.{file_limit}
 use Rattle.ice_command_parts.specs.Lines.{refused_line, unread_line}
 use Rattle.ice_command_parts.specs.Parts.{AreFetched, Answers}
-use Rattle.ice_command_parts.specs.Refusals.{fault_of, refusal_text, refusal_status, IsFaultOf, Refuses}
+use Rattle.ice_command_parts.specs.Refusals.{fault_of, refusal_text, refusal_status, Refuses}
 use Rattle.ice_commands.specs.XorServed.{IsFlatFault, IsTranslationOf, XorAnswers}
-use Rattle.ice_commands.specs.XorParts.{IsBidderFault}
 use Rattle.ice_command_parts.proofs.Parts.{told_in_call, of_fetched}
-use Rattle.ice_command_parts.proofs.Refusing.{fault_anyway}
-
--- a refusal of a maker is a fault of the bytes
-pub flat_fault : (bytes : List ℕ) (flat : FlatExchange) (refusal : declared.Refusal) → flat_of bytes ≡ Ok flat → IsFaultOf 1 (IsBidderFault (translate_refusal flat)) refusal → IsFaultOf 1 (IsFlatFault bytes) refusal
-flat_fault bytes flat refusal is = fault_anyway 1 (IsBidderFault (translate_refusal flat)) (IsFlatFault bytes) refusal (λ fault h. inr (flat, h.0, is, h.1, h.2))
 
 pub line_answers : (before after : Told) (file line : List ℕ) → (bytes : List ℕ) × IsTranslationOf bytes line × AreFetched before file file_limit bytes → Answers (λ call. XorAnswers call file) before after line status.Done
 line_answers before after file line (bytes, made, told) call part text = (
