@@ -1,5 +1,6 @@
-//! Tests of best sets, sweeps, logs, heuristics, duals and plans. They stand apart so that the
-//! crates they try are not proved again with them. Bounds are tried by logs, as rows of `check`.
+//! Tests of best sets, sweeps, logs, derived goods, heuristics, duals and plans. They stand apart
+//! so that the crates they try are not proved again with them. Bounds by goods alone are tried by
+//! logs, as rows of `check`.
 #![tactic(auto)]
 
 #[cfg(test)]
@@ -10,6 +11,8 @@ mod duals;
 mod heuristics;
 #[cfg(test)]
 mod logs;
+#[cfg(test)]
+mod pairs;
 #[cfg(test)]
 mod plans;
 #[cfg(test)]
