@@ -1,4 +1,4 @@
--- A derived good that may be added follows: a log of one leaf shows it.
+-- A leaf's numbers are its multipliers and tolls, and a leaf that passes shows a derived good.
 use Rattle.std.proofs.Common.{ℕ, ◌+◌, ◌-◌, ◌<◌, ◌≤◌, ◌≡◌, Bool, false, List, [], ◌∷◌, ◌++◌, length, get_or, take, drop, replicate, ℤ, pos, arith, sym, subst, ap, ◌∙◌, ◌⊎◌, inl, inr, length-append}
 use Rattle.std.specs.Prelude.{◌<ℤ◌, int_le}
 use Rattle.std.proofs.lemmas.Int.{ints}
@@ -12,10 +12,11 @@ use Rattle.ice_defs.specs.Fixing.{Fixing}
 use Rattle.ice_defs.specs.Bound.{Multipliers}
 use Rattle.ice_defs.specs.Derived.{Derived, Tolls, toll_of, IsBoundWith, with_derived, flags_of, IsBoundBy}
 use Rattle.ice_defs.specs.Steps.{leaf}
-use Rattle.ice_defs.specs.Log.{HasWrongSign, closes}
+use Rattle.ice_defs.specs.Log.{HasWrongSign, closes, is_dead_leaf}
 use Rattle.ice_defs.specs.Group.{free_side}
-use Rattle.ice_derived.specs.Adding.{HasWrongSigns}
-use Rattle.ice_derived.specs.Laws.{AddedFollows}
+use Rattle.ice_defs.specs.Follows.{Follows}
+use Rattle.ice_refute.specs.Passing.{PassesAtBy}
+use Rattle.ice_derived.specs.Signs.{HasWrongSigns}
 
 pub int_le-above : (a b : ℤ) → int_le a b ≡ false → b <ℤ a
 int_le-above a b e = grind (arith, ints)
@@ -59,8 +60,8 @@ module _ (exact : List Bool) (ds : List Derived) (m : Multipliers) (tolls : Toll
         omega (arith, ints, same, below),
       )
 
-pub added_follows : AddedFollows
-added_follows ts exact ds d m tolls size few may =
-    let v = may.bound.0 in
-    let is : IsBoundBy (with_derived ds) ts exact d.amounts (m ++ tolls) (free_side ts) v = bound_of_leaf exact ds m tolls size ts d.amounts (free_side ts) v may.bound.1 in
-    (leaf (m ++ tolls) ∷ [], closes (λ w. may.signs (sign_of_leaf exact ds m tolls size w)) is may.bound.2)
+-- a derived good follows where a leaf passes with all nodes free
+pub leaf_follows : (ts : List Tree) (exact : List Bool) (ds : List Derived) (d : Derived) (m : Multipliers)
+    → PassesAtBy (with_derived ds) ts exact d.amounts d.limit (free_side ts) (leaf m) → Follows ts exact ds d
+leaf_follows ts exact ds d m (signs, inl dead) = (leaf m ∷ [], is_dead_leaf signs dead)
+leaf_follows ts exact ds d m (signs, inr (v, is, low)) = (leaf m ∷ [], closes signs is low)

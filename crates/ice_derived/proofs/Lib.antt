@@ -1,14 +1,14 @@
 -- bounds of a product
 pub mod Products
--- one derived good after another is charged
-pub mod Charging
--- the value of a set at nets with tolls
+-- what lies where in the list of numbers
+pub mod Rows
+-- the value of a set at charged nets
 pub mod Values
 -- the sum of the bidders' greatest nets, less their tolls
 pub mod Totals
--- with all nodes free no bidder is dead
-pub mod Free
--- derived goods that fit the trees, one more
+-- another toll changes what nodes are charged
+pub mod Charging
+-- amounts as weights
 pub mod Fitting
--- a derived good that may be added follows
+-- a leaf's numbers, and derived goods that it shows
 pub mod Following

@@ -1,26 +1,20 @@
 -- The sum of the bidders' greatest nets, less their tolls, one bidder after another.
-use Rattle.std.proofs.Common.{ℕ, ◌+◌, ◌*ℤ◌, ◌≤ℤ◌, ◌<ℤ◌, ◌<◌, ◌≤◌, ◌≡◌, ◌≢◌, cond, eqb, List, length, ℤ, pos, ◌+ℤ◌, refl, arith, ap, sym, ◌∙◌, subst, below_more}
+use Rattle.std.proofs.Common.{ℕ, ◌+◌, ◌*ℤ◌, ◌≤ℤ◌, ◌<ℤ◌, ◌<◌, ◌≡◌, ◌≢◌, cond, eqb, List, length, ℤ, pos, ◌+ℤ◌, refl, arith, ap, sym, ◌∙◌, subst, below_more}
 use Rattle.std.proofs.lemmas.Int.{ints}
 use Rattle.std.proofs.lemmas.Bool.{eq-eqb, ne_eqb}
 use Rattle.ice_defs.specs.Sum.{sum_below}
 use Rattle.ice_defs.specs.Tree.{Tree}
-use Rattle.ice_defs.specs.Set.{NodeSet, Weights}
+use Rattle.ice_defs.specs.Set.{NodeSet, Weights, weight_of}
 use Rattle.ice_defs.specs.Fixing.{Fixing}
 use Rattle.ice_defs.specs.Greatest.{IsGreatest}
 use Rattle.ice_defs.specs.Trade.{tree_of, weights_of, fixing_of}
 use Rattle.ice_defs.specs.Bound.{Multipliers, IsOpen, IsDead}
 use Rattle.ice_defs.proofs.Sums.{sum_below-same, sum_below_more}
 use Rattle.ice_bound.specs.Answer.{IsFirstDead}
-use Rattle.ice_defs.specs.Derived.{Derived, derived_at, Tolls, net_with, tolls_on_limits, IsNetSumWith, IsBoundWith}
-use Rattle.ice_derived.specs.Ranges.{FitsTrees, FitTrees}
-use Rattle.ice_derived.specs.Nets.{HaveNodes, limits_of}
-use Rattle.ice_derived.proofs.Values.{limits-first}
-
--- derived goods that fit the trees have an amount for each node
-pub have_nodes : (ts : List Tree) (ds : List Derived) (b : ℕ) (t : Tree) → FitTrees ts ds → b < length ts → t ≡ tree_of ts b → HaveNodes ds b t
-have_nodes ts ds b t fit there tree k l =
-    let fits : FitsTrees ts (derived_at ds k) = fit k l in
-    (omega (arith, fits.bidders, there), fits.nodes b there ∙ sym (ap length tree))
+use Rattle.ice_defs.specs.Derived.{Derived, Tolls, net_with, tolls_on_limits, IsNetSumWith, IsBoundWith}
+use Rattle.ice_bound.specs.Laws.{tolls_on_node}
+use Rattle.ice_derived.specs.Nets.{net_less}
+use Rattle.ice_derived.proofs.Values.{greatest-with}
 
 module _ (ds : List Derived) (tolls : Tolls) (ts : List Tree) (ws : List Weights) (m : Multipliers) (xs : List Fixing) where
   abbrev pub IsGreatestNet : ℕ → ℤ → Type 0
@@ -67,13 +61,14 @@ module _ (ds : List Derived) (tolls : Tolls) (ts : List Tree) (ws : List Weights
       by : IsPartialSum (length ts) total → IsNetSumWith ds tolls ts ws m xs total
       by all = (all.best, all.each, all.sum)
 
-  -- the code's tree, weights and fixing are those of the bidder
-  pub greatest_at : (b : ℕ) (t : Tree) (w : Weights) (x : Fixing) (v : ℤ) → t ≡ tree_of ts b → w ≡ weights_of ws b → x ≡ fixing_of xs b
-      → IsGreatest (IsOpen t x) (net_with ds tolls b t w m) v → IsGreatestNet b v
-  greatest_at b t w x v tree weights fixing is =
+  -- the code's tree, weights and fixing are those of the bidder, and its charges are the tolls
+  pub greatest_at : (b : ℕ) (t : Tree) (w charges : Weights) (x : Fixing) (v : ℤ) → t ≡ tree_of ts b → w ≡ weights_of ws b → x ≡ fixing_of xs b
+      → ((n : ℕ) → n < length t → weight_of charges n ≡ tolls_on_node ds tolls b n)
+      → IsGreatest (IsOpen t x) (net_less t w m charges) v → IsGreatestNet b v
+  greatest_at b t w charges x v tree weights fixing each is =
       subst (λ u. IsGreatest (IsOpen u (fixing_of xs b)) (net_with ds tolls b u (weights_of ws b) m) v) tree
       (subst (λ u. IsGreatest (IsOpen t (fixing_of xs b)) (net_with ds tolls b t u m) v) weights
-      (subst (λ u. IsGreatest (IsOpen t u) (net_with ds tolls b t w m) v) fixing is))
+      (subst (λ u. IsGreatest (IsOpen t u) (net_with ds tolls b t w m) v) fixing (greatest-with ds tolls b t w m charges x v each is)))
 
   pub first_dead : (b : ℕ) (total : ℤ) (t : Tree) (x : Fixing) → b < length ts → t ≡ tree_of ts b → x ≡ fixing_of xs b → IsPartialSum b total
       → ((s : NodeSet) → IsOpen t x s → ⊥) → IsFirstDead ts xs b
@@ -84,8 +79,6 @@ module _ (ds : List Derived) (tolls : Tolls) (ts : List Tree) (ws : List Weights
   }
 
   -- the floor of a 4096th of the sum and the tolls on the limits is the bound
-  pub floor_bound : (total limits v : ℤ) → length tolls ≤ length ds → limits ≡ limits_of ds tolls (length tolls) → IsNetSumWith ds tolls ts ws m xs total
+  pub floor_bound : (total limits v : ℤ) → limits ≡ tolls_on_limits ds tolls → IsNetSumWith ds tolls ts ws m xs total
       → (pos 4096 *ℤ v) ≤ℤ (total +ℤ limits) → (total +ℤ limits) <ℤ (pos 4096 *ℤ v +ℤ pos 4096) → IsBoundWith ds tolls ts ws m xs v
-  floor_bound total limits v few same is low high =
-      let e : tolls_on_limits ds tolls ≡ limits_of ds tolls (length tolls) = limits-first ds tolls few in
-      (total, is, omega (arith, ints, same, e, low), omega (arith, ints, same, e, high))
+  floor_bound total limits v same is low high = (total, is, omega (arith, ints, same, low), omega (arith, ints, same, high))

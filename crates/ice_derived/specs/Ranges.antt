@@ -13,6 +13,9 @@ pub record IsAmount (z : ℤ) : Type 0 where
 abbrev pub AreAmounts : Weights → Type 0
 AreAmounts w = (n : ℕ) → n < length w → IsAmount (weight_of w n)
 
+abbrev pub AreAllAmounts : List Weights → Type 0
+AreAllAmounts ws = (b : ℕ) → b < length ws → AreAmounts (weights_of ws b)
+
 -- at most 2^40 in size
 pub record IsLimit (z : ℤ) : Type 0 where
   pub low : neg_ℤ (pos (2 ^ 40)) ≤ℤ z

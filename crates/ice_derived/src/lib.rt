@@ -1,21 +1,19 @@
-//! Derived goods: what assignments take of them is bounded, though no tree names them. The bound
-//! with them, the test by which a derived good follows from those before it, and leaves with tolls.
+//! Derived goods: what assignments take of them is bounded, though no tree names them. A list of
+//! them with tolls, the bound with these, leaves with tolls in a walk, and derived goods that one
+//! leaf shows.
 #![tactic(auto)]
 
-mod add;
 mod amounts;
 mod bounds;
 mod goods;
-mod laws;
+mod leaf;
 mod nets;
+mod packed;
 mod rates;
-mod tolls;
 mod walk;
 
-pub use add::DerivedFault;
-pub use bounds::{TollRoom, bound_with};
-pub use goods::{Derived, DerivedGoods};
-pub use laws::added_goods_follow;
+pub use amounts::Amounts;
+pub use bounds::{TollRoom, Weighing, bound_with};
+pub use goods::DerivedGoods;
 pub use rates::Rates;
-pub use tolls::Tolls;
 pub use walk::take_leaf;

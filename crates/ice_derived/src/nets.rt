@@ -1,103 +1,59 @@
-//! What the nodes of a tree net beside tolls.
-ghost use Rattle.std.specs.Prelude.{◌≡◌, ℕ, ◌+◌, ◌<◌, ◌≤◌, ◌^◌, ◌-ℤ◌, ◌*ℤ◌, length, pos, neg_ℤ, ◌≤ℤ◌};
+//! What the nodes of a tree net beside what they are charged.
+ghost use Rattle.std.specs.Prelude.{◌≡◌, ℕ, ◌<◌, ◌≤◌, ◌-ℤ◌, length};
 ghost use Rattle.ice_defs.specs.Set.{weight_of, IsSmall};
-ghost use Rattle.ice_defs.specs.Trade.{weights_of};
 ghost use Rattle.ice_defs.specs.Conditions.{AreModest};
-ghost use Rattle.ice_defs.specs.Derived.{derived_at, toll_of};
-ghost use Rattle.ice_derived.specs.Ranges.{IsAmount, IsToll};
-ghost use Rattle.ice_derived.specs.Nets.{IsChargedSmall, AreNetsWith, HaveNodes};
+ghost use Rattle.ice_best.specs.Nets.{IsNet, AllNets};
+ghost use Rattle.ice_derived.specs.Charges.{IsCharge, AreCharges};
+ghost use Rattle.ice_derived.specs.Nets.{AreNetsLess};
 
-use crate::goods::DerivedGoods;
 use crate::rates::Rates;
-use crate::tolls::Tolls;
 use ice_best::fill_net_weights;
 use ice_tree::{Tree, Weights};
 
 /// Multipliers and tolls are counted in so many parts of the unit of values.
 const PARTS: u64 = 4096;
 
-/// A toll so many times, for an amount.
-fn toll_on(toll: i64, amount: i64) -> i128
-    requires toll { IsToll toll }
-    requires amount { IsAmount amount }
-    ensures value { result ≡ toll *ℤ amount }
-    ensures low { neg_ℤ (pos (2 ^ 82)) ≤ℤ result }
-    ensures high { result ≤ℤ pos (2 ^ 82) }
+/// A net less a charge.
+fn less(net: i128, charge: i128) -> i128
+    requires net { IsNet net }
+    requires charge { IsCharge charge }
+    ensures value { result ≡ net -ℤ charge }
+    ensures small { IsSmall result }
 {
-    i128::from(toll) * i128::from(amount)
+    net - charge
 }
 
-/// A net less the toll on an amount.
-fn charged(net: i128, toll: i64, amount: i64) -> i128
-    requires net { IsSmall net }
-    requires toll { IsToll toll }
-    requires amount { IsAmount amount }
-    ensures { result ≡ net -ℤ (toll *ℤ amount) }
+/// Takes off each net what the node is charged.
+fn charge(nets: &mut Weights, charges: &Weights, nodes: u16)
+    requires nodes { length nets.old ≡ nodes }
+    requires charges { length charges.now ≡ nodes }
+    requires range { AreCharges charges.now }
+    requires small { AllNets nets.old }
+    ensures nodes { length nets.new ≡ nodes }
+    ensures each { (n : ℕ) → n < nodes → weight_of nets.new n
+        ≡ weight_of nets.old n -ℤ weight_of charges.now n }
+    ensures small { (n : ℕ) → n < nodes → IsSmall (weight_of nets.new n) }
 {
-    net - toll_on(toll, amount)
-}
-
-/// Takes the toll on the derived good with this number off what each node of the bidder's tree
-/// nets.
-fn charge(
-    nets: &mut Weights,
-    tree: &Tree,
-    derived: &DerivedGoods,
-    tolls: &Tolls,
-    bidder: u8,
-    number: u16,
-)
-    requires number { number < length tolls.now }
-    requires tolls { length tolls.now ≤ length derived.now }
-    requires derived { HaveNodes derived.now bidder tree.now }
-    requires nodes { length nets.old ≡ length tree.now }
-    requires small { (n : ℕ) → n < length tree.now → IsChargedSmall number
-        (weight_of nets.old n) }
-    ensures nodes { length nets.new ≡ length tree.now }
-    ensures each { (n : ℕ) → n < length tree.now → weight_of nets.new n
-        ≡ weight_of nets.old n -ℤ (toll_of tolls.now number
-        *ℤ weight_of (weights_of (derived_at derived.now number).amounts bidder) n) }
-    ensures small { (n : ℕ) → n < length tree.now → IsChargedSmall (number + 1)
-        (weight_of nets.new n) }
-{
-    let toll = tolls.get(number);
-    if toll == 0 {
-        return;
-    }
-    // there are at most 2,000
-    let _count = tolls.len();
-    let good = derived.get(number);
-    let amounts = good.of(bidder);
-    for node in 0..tree.nodes() {
-        let before = nets.get(node);
-        let amount = amounts.get(node);
-        nets.put(node, charged(before, toll, amount));
+    for node in 0..nodes {
+        let net = nets.get(node);
+        let charge = charges.get(node);
+        let rest = less(net, charge);
+        nets.put(node, rest);
     }
 }
 
-/// The weights by which the value of a set of this bidder is its net at the multipliers, less its
-/// tolls.
-pub(crate) fn nets_with(
-    tree: &Tree,
-    weights: &Weights,
-    m: &Rates,
-    derived: &DerivedGoods,
-    tolls: &Tolls,
-    bidder: u8,
-) -> Weights
+/// The weights by which the value of a set is its net at the multipliers, less what its nodes are
+/// charged.
+pub(crate) fn nets_with(tree: &Tree, weights: &Weights, m: &Rates, charges: &Weights) -> Weights
     requires nodes { length weights.now ≡ length tree.now }
     requires modest { AreModest weights.now }
-    requires tolls { length tolls.now ≤ length derived.now }
-    requires derived { HaveNodes derived.now bidder tree.now }
-    ensures nets { AreNetsWith derived.now tolls.now bidder tree.now weights.now m.now
-        (length tolls.now) result }
+    requires charges { length charges.now ≡ length tree.now }
+    requires range { AreCharges charges.now }
+    ensures nets { AreNetsLess tree.now weights.now m.now charges.now result }
     ensures few { length tree.now ≤ 200 }
-    ensures short { length tolls.now ≤ 2000 }
 {
     let mut nets = Weights::zero(tree.nodes());
     fill_net_weights(&mut nets, tree, weights, PARTS, m.as_slice(), 1);
-    for number in 0..tolls.len() {
-        charge(&mut nets, tree, derived, tolls, bidder, number);
-    }
+    charge(&mut nets, charges, tree.nodes());
     nets
 }

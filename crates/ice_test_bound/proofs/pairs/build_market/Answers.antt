@@ -1,4 +1,4 @@
-use Rattle.ice_test_bound.proofs.Four.{four}
+use Rattle.ice_test_bound.proofs.Four.{four, four_nodes}
 use Rattle.ice_test_bound.proofs.pairs.build_market.Goals as goal
 
 pub lower-requires : goal.lower-requires
@@ -7,8 +7,7 @@ lower-requires c =
     c.in_ok-a.ensures.node c.in_ok-b.ensures.node c.in_ok-c.ensures.node c.in_ok-d.ensures.node
     c.in_ok-a.ensures.bounds c.in_ok-b.ensures.bounds c.in_ok-c.ensures.bounds c.in_ok-d.ensures.bounds
 
-pub lower-requires-2 : goal.lower-requires-2
-lower-requires-2 c =
-    four c.in_ok-a.a c.in_ok-b.b c.in_ok-c.c c.in_ok-d.d c.in_ok-_a.a_amount c.in_ok-_b.b_amount c.in_ok-_c.c_amount c.in_ok-_d.d_amount
+pub pairs-requires : goal.pairs-requires
+pairs-requires c =
+    four_nodes c.in_ok-a.a c.in_ok-b.b c.in_ok-c.c c.in_ok-d.d
     c.in_ok-a.ensures.node c.in_ok-b.ensures.node c.in_ok-c.ensures.node c.in_ok-d.ensures.node
-    c.in_ok-_a.ensures.bounds c.in_ok-_b.ensures.bounds c.in_ok-_c.ensures.bounds c.in_ok-_d.ensures.bounds

@@ -1,7 +1,0 @@
-use Rattle.std.proofs.Common.{◌≡◌, ◌<◌, ℕ, false, pos, get_or}
-use Rattle.std.specs.Prelude.{◌<ℤ◌}
-use Rattle.ice_defs.specs.Trade.{is_exact}
-use Rattle.ice_derived.proofs.add.has_wrong_sign.Given as goal
-
-abbrev pub invariant-loop-good : goal.invariant-loop-good
-invariant-loop-good l = (g : ℕ) → g < l.good → is_exact l.exact g ≡ false → get_or l.m g (pos 0) <ℤ pos 0 → ⊥

@@ -1,7 +1,0 @@
-use Rattle.std.proofs.Common.{◌<◌, ℕ, pos}
-use Rattle.std.specs.Prelude.{◌<ℤ◌}
-use Rattle.ice_defs.specs.Derived.{toll_of}
-use Rattle.ice_derived.proofs.tolls.Tolls.has_negative.Given as goal
-
-abbrev pub invariant-loop-number : goal.invariant-loop-number
-invariant-loop-number l = (k : ℕ) → k < l.number → toll_of l.self k <ℤ pos 0 → ⊥
