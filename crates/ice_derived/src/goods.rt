@@ -16,9 +16,10 @@ use std::alloc::{AllocError, Global};
 use std::marker::Model;
 
 /// A list of derived goods of some trees, with room for so many, at most 2,000, and one toll on
-/// each of them, at most 2^62 in size and counted in 4096ths. What each node is charged at these
-/// tolls is kept: so a leaf costs one look at the nodes more than a leaf without tolls, and one for
-/// each toll in which it differs from the leaf before it.
+/// each of them, at most 2^62 in size and counted in 4096ths. A node is charged each toll times
+/// what it takes of that derived good. These charges are kept: so a leaf costs one look at the
+/// nodes more than a leaf without tolls, and one for each toll in which it differs from the leaf
+/// before it.
 ///
 /// Its memory is taken once. That is at most 16,016,000 bytes for 2,000 derived goods of trees with
 /// 2,000 nodes together, 4 bytes for each amount and 8 for each limit, and 150,000 for tolls and
@@ -27,7 +28,9 @@ use std::marker::Model;
 pub struct DerivedGoods {
     packed: PackedGoods,
     tolls: Vec<i64>,
+    /// What each node is charged at these tolls.
     charges: Vec<Weights>,
+    /// The sum of each toll times its limit.
     on_limits: i128,
 }
 
@@ -65,7 +68,7 @@ fn rise(toll: i64, before: i64) -> i128
     i128::from(toll) - i128::from(before)
 }
 
-/// A rise of a toll so many times, for a limit.
+/// What a rise of the toll on a derived good with this limit adds to the tolls on limits.
 fn on_limit(rise: i128, limit: i64) -> i128
     requires rise { IsChange rise }
     requires limit { IsLimit limit }
@@ -145,7 +148,7 @@ impl DerivedGoods {
         self.packed.len()
     }
 
-    /// How many have room.
+    /// How many there is room for, with those that are in it.
     pub fn most(&self) -> u16
         ensures { result ≡ self.now.most }
     {
@@ -197,7 +200,7 @@ impl DerivedGoods {
         ensures nodes { self.new.nodes ≡ self.old.nodes }
         ensures most { self.new.most ≡ self.old.most }
     {
-        // each derived good is in range
+        // amounts and limits are in range
         let _count = self.packed.len();
         let rise = rise(toll, self.toll(number));
         self.packed.charge(&mut self.charges, number, rise);

@@ -19,13 +19,16 @@ use std::marker::Model;
 /// give each node an amount of each derived good; what no amounts are written to isn't touched.
 #[derive(Drop)]
 pub(crate) struct PackedGoods {
-    /// The number of nodes of each bidder's tree, and of all.
+    /// The number of nodes of each bidder's tree.
     nodes: ArrayVec<u16, 40>,
+    /// Their sum.
     size: u16,
+    /// How many derived goods there is room for.
     most: u16,
     /// The amounts of one derived good after those of another, and in a good those of one bidder
     /// after those of another.
     numbers: Vec<i32>,
+    /// The limit of each derived good.
     limits: Vec<i64>,
 }
 
@@ -156,7 +159,7 @@ impl PackedGoods {
         self.limits.len() as u16
     }
 
-    /// How many have room.
+    /// How many there is room for, with those that are in it.
     pub(crate) fn most(&self) -> u16
         ensures { result ≡ self.now.most }
     {
@@ -181,7 +184,7 @@ impl PackedGoods {
         ensures nodes { self.new.nodes ≡ self.old.nodes }
         ensures most { self.new.most ≡ self.old.most }
     {
-        // each is in range
+        // each amount is in range
         let _bidders = amounts.bidders();
         push_rows(&mut self.numbers, amounts, &self.nodes);
         push_limit(&mut self.limits, limit);
@@ -197,13 +200,13 @@ impl PackedGoods {
     }
 }
 
-/// A change of a toll so many times, for an amount.
-fn times_amount(change: i128, amount: i32) -> i128
-    requires change { IsChange change }
+/// So many times an amount.
+fn times_amount(times: i128, amount: i32) -> i128
+    requires times { IsChange times }
     requires amount { IsAmount amount }
-    ensures { result ≡ change *ℤ amount }
+    ensures { result ≡ times *ℤ amount }
 {
-    change * i128::from(amount)
+    times * i128::from(amount)
 }
 
 /// Adds so many times the amount to what the node is charged.

@@ -98,7 +98,7 @@ impl DerivedGoods {
         ensures nodes { self.new.nodes ≡ self.old.nodes }
         ensures most { self.new.most ≡ self.old.most }
     {
-        // each is in range
+        // each amount is in range
         let _bidders = amounts.bidders();
         let weights = Weighing::Derivation(amounts);
         let target = i128::from(limit);
