@@ -1,6 +1,9 @@
 -- From the searches to the final sets, their rival and the regret.
-use Rattle.std.proofs.Common.{◌≡◌, ◌<◌, ℕ, List, [], ◌∷◌, ◌++◌, length, pos, ◌≤ℤ◌, refl, sym, ap, subst, arith, length-append}
+use Rattle.std.proofs.Common.{◌≡◌, ◌∙◌, ◌<◌, ◌≤◌, ℕ, ℤ, List, [], ◌∷◌, ◌++◌, length, pos, ◌≤ℤ◌, refl, sym, ap, subst, arith, length-append}
 use Rattle.std.specs.List.{AllByRecursion}
+use Rattle.std.proofs.lemmas.List.{length-map, map_push}
+use Rattle.std.proofs.lemmas.List.Sums.{sum_by_push}
+use Rattle.ice_defs.specs.Steps.{branch_count}
 use Rattle.ice_defs.specs.Set.{Weights}
 use Rattle.ice_defs.specs.Trade.{Assignment}
 use Rattle.ice_defs.specs.Bounds.{Bounds}
@@ -22,7 +25,8 @@ use Rattle.ice_vickrey.specs.Marginals.{IsMarginalOf, AreMarginalsFrom, AreMargi
 use Rattle.ice_vickrey.specs.declared.marginal.Marginal.{Marginal}
 use Rattle.ice_round.specs.SessionAt.{SessionAt, IsSessionAt}
 use Rattle.ice_round.specs.Searches.{final_search, economy_of, IsSettlementOf}
-use Rattle.ice_round.specs.Settling.{SettlingAt, IsSettling, IsOneMore}
+use Rattle.ice_round.specs.Settling.{SettlingAt, IsSettling}
+use Rattle.ice_round.specs.Held.{Held, settling_with, HasFound, HasOneMore}
 use Rattle.ice_round.proofs.Growing.{marginals_push}
 
 -- sets that a search found with all nodes free are the best of all
@@ -81,12 +85,26 @@ more_settling x done m is next marginal grown = record {
       (marginals_push (economy_of x.session x.best) 0 x.done m is.each (subst (λ (n : ℕ). IsMarginalOf (economy_of x.session x.best) n m) (omega arith) marginal));
 }
 
--- all of them are
-pub all_marginals : (x y : SettlingAt) → x ≡ y → IsSettling x → length y.done ≡ length (trees_of y.session.exchange) → AreMarginals (economy_of x.session x.best) x.done
-all_marginals x y same is all = record {
-  count = subst (λ (z : SettlingAt). length z.done ≡ length (trees_of z.session.exchange)) (sym same) all;
-  each = is.each;
-}
+-- ---- what is held of it
 
-pub one_more_settling : (x y : SettlingAt) → IsSettling x → length x.done < length (trees_of x.session.exchange) → IsOneMore x y → IsSettling y
-one_more_settling x y is next more = subst IsSettling (sym more.then) (more_settling x (x.done ++ more.marginal ∷ []) more.marginal is next more.is refl)
+-- the discounts count the bidders that are done
+pub done_count : (h : Held) (done : List Marginal) → HasFound h done → length done ≡ length h.discounts
+done_count h done is = sym (ap length is.discounts ∙ length-map done (λ (m : Marginal). m.discount))
+
+pub done_few : (h : Held) (done : List Marginal) → HasFound h done → length h.discounts ≤ length (trees_of h.session.exchange)
+done_few h done is = omega (arith, done_count h done is, is.found.few)
+
+-- one more
+pub found_more : (h next : Held) (done : List Marginal) (m : Marginal) → HasFound h done → length h.discounts < length (trees_of h.session.exchange) → HasOneMore h m next → HasFound next (done ++ m ∷ [])
+found_more h next done m is left more =
+    let count = done_count h done is in
+    let all : List Marginal = done ++ m ∷ [] in
+    subst (λ (z : Held). HasFound z all) (sym more.then) (record {
+      found = more_settling (settling_with h done) all m is.found (omega (arith, count, left)) (subst (λ (n : ℕ). IsMarginalOf (economy_of h.session h.best) n m) (sym count) more.is) refl;
+      discounts = ap (λ (vs : List ℤ). vs ++ m.discount ∷ []) is.discounts ∙ sym (map_push (λ (x : Marginal). x.discount) done m);
+      branches = omega (arith, sum_by_push (λ (x : Marginal). branch_count x.log) done m, more.branches, is.branches);
+    })
+
+-- all of them
+pub all_found : (h : Held) (done : List Marginal) → HasFound h done → length h.discounts ≡ length (trees_of h.session.exchange) → AreMarginals (economy_of h.session h.best) done
+all_found h done is all = record { count = done_count h done is ∙ all; each = is.found.each }

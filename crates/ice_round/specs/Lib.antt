@@ -5,4 +5,5 @@ pub mod Paying
 pub mod Shown
 pub mod Ends
 pub mod Settling
+pub mod Held
 pub mod KeptSettling

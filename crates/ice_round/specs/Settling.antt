@@ -1,5 +1,5 @@
 -- A settlement whose final sets and regret are found, and what its further steps find.
-use Rattle.std.specs.Prelude.{◌+◌, ◌≤◌, ◌≡◌, List, [], ◌∷◌, ◌++◌, length, Some}
+use Rattle.std.specs.Prelude.{◌+◌, ◌≤◌, ◌≡◌, List, length, Some}
 use Rattle.ice_defs.specs.Steps.{branch_count}
 use Rattle.ice_defs.specs.Exchange.{trees_of}
 use Rattle.ice_defs.specs.Weighing.{weighted_weights}
@@ -10,7 +10,7 @@ use Rattle.ice_regret.specs.declared.lead.Regret.{Regret}
 use Rattle.ice_pricing.specs.Provisional.{ProvisionalTrade, provisional_of}
 use Rattle.ice_price.specs.declared.ends.PriceEnd.{PriceEnd}
 use Rattle.ice_price.specs.declared.ends.PriceEnd.TheVariants as price
-use Rattle.ice_vickrey.specs.Marginals.{IsMarginalOf, AreMarginalsFrom}
+use Rattle.ice_vickrey.specs.Marginals.{AreMarginalsFrom}
 use Rattle.ice_vickrey.specs.declared.marginal.Marginal.{Marginal}
 use Rattle.ice_settled.specs.declared.settled.Closing.{Closing}
 use Rattle.ice_settled.specs.declared.settled.Opening.{Opening}
@@ -33,12 +33,6 @@ pub record IsSettling (x : SettlingAt) : Type 0 where
   pub settlement : IsSettlementOf x.session x.best x.regret
   pub few : length x.done ≤ length (trees_of x.session.exchange)
   pub each : AreMarginalsFrom (economy_of x.session x.best) 0 x.done
-
--- one more bidder is done
-pub record IsOneMore (x y : SettlingAt) : Type 0 where
-  pub marginal : Marginal
-  pub is : IsMarginalOf (economy_of x.session x.best) (length x.done) marginal
-  pub then : y ≡ record x { done = x.done ++ marginal ∷ [] }
 
 -- a search that came next ended early
 abbrev pub IsStoppedBehind : SettlingAt → ends.SearchEnd → Type 0

@@ -2,6 +2,7 @@
 #![tactic(auto)]
 
 mod in_round;
+mod keeping;
 mod offer;
 mod payments;
 mod ready;

@@ -1,5 +1,5 @@
 //! What the bidders of a settlement that closes pay.
-ghost use Rattle.std.specs.Prelude.{◌≡◌, ◌<◌, ◌≤◌, length, map, pos, neg_ℤ, ◌≤ℤ◌, All, IfOk};
+ghost use Rattle.std.specs.Prelude.{◌≡◌, ◌<◌, ◌≤◌, length, pos, neg_ℤ, ◌≤ℤ◌, All, IfOk};
 ghost use Rattle.ice_defs.specs.Exchange.{trees_of, exact_of};
 ghost use Rattle.ice_headline_laws.specs.Right.{own_values};
 ghost use Rattle.ice_defs.specs.Set.{value};
@@ -7,16 +7,13 @@ ghost use Rattle.ice_defs.specs.Trade.{set_of, weights_of, IsFeasible, total_val
 ghost use Rattle.ice_defs.specs.Weighing.{lower_weights};
 ghost use Rattle.ice_defs.specs.Conditions.{AreBoundsOf};
 ghost use Rattle.ice_tree.specs.Alike.{AreChosen};
-ghost use Rattle.ice_threshold.specs.Limits.{IsValueLimit};
-ghost use Rattle.ice_vickrey.specs.Economy.{economy_at};
-ghost use Rattle.ice_vickrey.specs.Marginals.{AreMarginals};
+ghost use Rattle.ice_threshold.specs.Limits.{IsValueLimit, IsVickreyLimit};
 ghost use Rattle.ice_round.specs.Paying.{ArePaymentsOf};
 
 use ice_search::Found;
 use ice_threshold::{Payments, threshold};
 use ice_trade::Exchange;
 use ice_tree::{Assignment, Bounds};
-use ice_vickrey::Marginal;
 use std::alloc::{AllocError, Global};
 
 /// The lower value of the bidder's set.
@@ -45,35 +42,24 @@ fn own_values(alloc: Global, bounds: &[Bounds], sets: &Assignment) -> Result<Vec
     Ok(values)
 }
 
-/// The Vickrey discounts.
-fn vickreys(alloc: Global, marginals: &[Marginal]) -> Result<Vec<i128>, AllocError>
-    ensures { IfOk result (λ vickreys. vickreys.items ≡ map (λ m. m.discount) marginals.now) }
-{
-    marginals
-        .iter()
-        .map(|marginal| marginal.discount)
-        .collect(alloc)
-}
-
 /// The Threshold payments for the lower values of the final sets and the Vickrey discounts.
 pub(crate) fn pay(
     alloc: Global,
     exchange: &Exchange,
     bounds: &[Bounds],
     best: &Found,
-    marginals: &[Marginal],
+    vickreys: &[i128],
 ) -> Result<Payments, AllocError>
     requires bounds { AreBoundsOf (trees_of exchange.now) bounds.now }
     requires feasible { IsFeasible (trees_of exchange.now) (exact_of exchange.now) best.now.best }
     requires value { total_value best.now.best (lower_weights bounds.now) ≡ best.now.value }
     requires rich { pos 0 ≤ℤ best.now.value }
-    requires marginals { AreMarginals (economy_at exchange.now bounds.now best.now.value)
-        marginals.now }
-    ensures { IfOk result (ArePaymentsOf bounds.now best.now marginals.now) }
+    requires count { length vickreys.now ≡ length (trees_of exchange.now) }
+    requires limited { All IsVickreyLimit vickreys.now }
+    ensures { IfOk result (ArePaymentsOf bounds.now best.now vickreys.now) }
 {
     // There are from 1 to 40 bidders.
     let _bidders = exchange.bidders();
     let values = own_values(alloc, bounds, &best.best)?;
-    let vickreys = vickreys(alloc, marginals)?;
-    threshold(alloc, &values, &vickreys, best.value)
+    threshold(alloc, &values, vickreys, best.value)
 }

@@ -2,7 +2,7 @@
 ghost use Rattle.std.specs.Prelude.{◌≡◌, [], IfOk, IfErr};
 ghost use Rattle.ice_defs.specs.Exchange.{opening_bounds};
 ghost use Rattle.ice_round.specs.Ends.{IsHaltedBy, IsSettledAs};
-ghost use Rattle.ice_round.specs.Settling.{IsSettling};
+ghost use Rattle.ice_round.specs.Held.{HasFound};
 
 use crate::session::Session;
 use crate::settled::Settled;
@@ -92,9 +92,8 @@ impl Ready {
     ///
     /// An error has what was found before the search that ended early.
     pub fn search(self) -> Result<Settling, (Halt, SearchEnd)>
-        ensures settling { IfOk result IsSettling }
+        ensures settling { IfOk result (λ x. HasFound x []) }
         ensures session { IfOk result (λ x. x.session ≡ self) }
-        ensures fresh { IfOk result (λ x. x.done ≡ []) }
         ensures end { IfErr result (λ e. IsHaltedBy self e.0 e.1) }
     {
         self.session.search()

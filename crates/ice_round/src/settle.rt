@@ -8,7 +8,7 @@ ghost use Rattle.ice_round.specs.Kept.{session_at, IsKept};
 ghost use Rattle.ice_round.specs.Searches.{final_search, provisional_search, settlement_branches, IsSettlementOf};
 ghost use Rattle.ice_round.specs.Shown.{priced_trade, IsOpening};
 ghost use Rattle.ice_round.specs.Ends.{IsHaltOf, IsStoppedAt, IsHaltedBy};
-ghost use Rattle.ice_round.specs.Settling.{IsSettling};
+ghost use Rattle.ice_round.specs.Held.{HasFound};
 
 use crate::in_round::InRound;
 use crate::session::Session;
@@ -109,9 +109,8 @@ impl Session {
     /// The final sets with their regret, by ties too.
     pub(crate) fn search(self) -> Result<Settling, (Halt, SearchEnd)>
         requires { IsKept self }
-        ensures settling { IfOk result IsSettling }
+        ensures settling { IfOk result (λ x. HasFound x []) }
         ensures session { IfOk result (λ x. x.session ≡ session_at self) }
-        ensures fresh { IfOk result (λ x. x.done ≡ []) }
         ensures end { IfErr result (λ e. IsHaltedBy (session_at self) e.0 e.1) }
     {
         let mut left = self.branches;
@@ -129,12 +128,14 @@ impl Session {
             Ok(regret) => regret,
             Err(end) => return Err(self.stop(end, Some(best))),
         };
-        let done = Vec::new(self.alloc);
+        let witnesses = Vec::new(self.alloc);
+        let discounts = Vec::new(self.alloc);
         Ok(Settling {
             session: self,
             best,
             regret,
-            done,
+            witnesses,
+            discounts,
             left,
         })
     }

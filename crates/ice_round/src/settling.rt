@@ -1,13 +1,15 @@
 //! A settlement whose final sets and regret are found: what follows of it, step by step.
-ghost use Rattle.std.specs.Prelude.{◌≡◌, ◌<◌, length, false, [], IsTrue, IfOk, IfErr, OnErr};
+ghost use Rattle.std.specs.Prelude.{◌≡◌, ◌<◌, [], length, false, IsTrue, List, IfOk, IfErr, OnErr};
 ghost use Rattle.ice_defs.specs.Exchange.{trees_of};
 ghost use Rattle.ice_defs.specs.Session.{closes as closing};
 ghost use Rattle.ice_price.specs.Ends.{IsPriced};
-ghost use Rattle.ice_round.specs.Settling.{IsOneMore, IsStoppedBehind, IsChargedFor, IsOfferOf, IsUnpriced, IsOpenedBy, offered_trade};
-ghost use Rattle.ice_round.specs.Shown.{IsClosing, IsOpening};
+ghost use Rattle.ice_round.specs.Held.{settling_with, HasFound, HasOneMore, IsChargeOf};
+ghost use Rattle.ice_round.specs.Settling.{IsStoppedBehind, IsOfferOf, IsUnpriced, IsOpenedBy, offered_trade};
+ghost use Rattle.ice_round.specs.Shown.{IsOpening};
 ghost use Rattle.ice_round.specs.Ends.{IsHaltOf, IsSettledAs};
 
 use crate::in_round::InRound;
+use crate::keeping::keep;
 use crate::offer::Offer;
 use crate::payments::pay;
 use crate::session::Session;
@@ -15,19 +17,25 @@ use crate::settled::Settled;
 use ice_price::{PriceEnd, Pricing, price};
 use ice_regret::Regret;
 use ice_search::{Found, SearchEnd};
-use ice_settled::{Closing, Halt, Opening};
+use ice_settled::{Charged, Halt, Opening};
 use ice_trade::Exchange;
-use ice_vickrey::{Marginal, without_next};
+use ice_tree::Assignment;
+use ice_vickrey::{Marginal, without_bidder};
 use std::alloc::AllocError;
 use std::marker::Model;
 
 /// A settlement whose final sets and regret are found. It is seen as the session before it, these,
-/// and what the market is worth without the first bidders, of whom there are none at first.
+/// the Vickrey discounts of the first bidders, of whom there are none at first, and the branches
+/// that are left.
+///
+/// What the market is worth without these bidders is handed out as it is found, and isn't kept: of
+/// each of them it holds the discount and, as a hint for the searches to come, the sets.
 pub struct Settling {
     pub(crate) session: Session,
     pub(crate) best: Found,
     pub(crate) regret: Regret,
-    pub(crate) done: Vec<Marginal>,
+    pub(crate) witnesses: Vec<Assignment>,
+    pub(crate) discounts: Vec<i128>,
     pub(crate) left: u32,
 }
 
@@ -38,21 +46,22 @@ impl Drop for Settling {
             session: _,
             best: _,
             regret: _,
-            done: _,
+            witnesses: _,
+            discounts: _,
             left: _,
         } = self;
     }
 }
 
 impl Model for Settling {
-    ghost use Rattle.ice_round.specs.Settling.{SettlingAt};
-    ghost use Rattle.ice_round.specs.KeptSettling.{settling_at, IsKeptSettling};
+    ghost use Rattle.ice_round.specs.Held.{Held};
+    ghost use Rattle.ice_round.specs.KeptSettling.{held_at, IsKeptSettling};
 
-    ghost Value = { SettlingAt };
+    ghost Value = { Held };
 
-    ghost view = { λ x. settling_at x.session x.best x.regret x.done.items };
+    ghost view = { λ x. held_at x.session x.best x.regret x.discounts.items x.left };
 
-    ghost invariant = { λ x. IsKeptSettling x.session x.best x.regret x.done.items x.left };
+    ghost invariant = { λ x. IsKeptSettling x.session x.best x.regret x.discounts.items x.left };
 }
 
 impl Settling {
@@ -84,13 +93,6 @@ impl Settling {
         &self.regret
     }
 
-    /// What the market is worth without the first bidders, in order.
-    pub fn done(&self) -> &[Marginal]
-        ensures { result.now ≡ self.now.done }
-    {
-        &self.done
-    }
-
     /// Whether the close test closes the session.
     pub fn closes(&self) -> bool
         ensures { result ≡ closing self.now.session.exchange.settings self.now.session.number
@@ -106,11 +108,11 @@ impl Settling {
     /// Whether it is known without each bidder what the market is worth.
     pub fn is_done(&self) -> bool
         ensures all { IsTrue result
-            → length self.now.done ≡ length (trees_of self.now.session.exchange) }
+            → length self.now.discounts ≡ length (trees_of self.now.session.exchange) }
         ensures more { result ≡ false
-            → length self.now.done < length (trees_of self.now.session.exchange) }
+            → length self.now.discounts < length (trees_of self.now.session.exchange) }
     {
-        self.done.len() == usize::from(self.session.exchange.bidders())
+        self.discounts.len() == usize::from(self.session.exchange.bidders())
     }
 
     /// What the market is worth without the next bidder, by a search from the empty assignment with
@@ -118,45 +120,57 @@ impl Settling {
     ///
     /// `Spent` comes only where the search used all branches that those before it left. After an
     /// error the settlement is as it was.
-    pub fn find_without(&mut self) -> Result<(), SearchEnd>
+    pub fn find_without(&mut self) -> Result<Marginal, SearchEnd>
         requires closes { IsTrue (closing self.old.session.exchange.settings
             self.old.session.number self.old.regret.amount) }
-        requires next { length self.old.done < length (trees_of self.old.session.exchange) }
-        ensures more { IfOk result (λ _. IsOneMore self.old self.new) }
-        ensures end { IfErr result (IsStoppedBehind self.old) }
+        requires next { length self.old.discounts < length (trees_of self.old.session.exchange) }
+        ensures more { IfOk result (λ m. HasOneMore self.old m self.new) }
+        // Whatever was found before
+        ensures end { (done : List Marginal) → HasFound self.old done
+            → IfErr result (IsStoppedBehind (settling_with self.old done)) }
         ensures kept { OnErr result (self.new ≡ self.old) }
     {
+        // There are at most 40 bidders.
+        let _bidders = self.session.exchange.bidders();
+        let bidder = self.discounts.len() as u8;
         let mut left = self.left;
-        let marginal = without_next(
+        let marginal = without_bidder(
             self.session.alloc,
             &self.session.exchange,
             self.session.judge.bounds(),
             &self.best,
-            &self.done,
+            &self.witnesses,
+            bidder,
             &mut left,
         )?;
-        match self.done.push(marginal) {
+        match keep(
+            self.session.alloc,
+            self.session.exchange.trees(),
+            &marginal,
+            &mut self.witnesses,
+            &mut self.discounts,
+        ) {
             Ok(()) => {
                 self.left = left;
-                Ok(())
+                Ok(marginal)
             }
             Err(_) => Err(SearchEnd::NoMemory),
         }
     }
 
     /// The payments, where it is known without each bidder what the market is worth.
-    pub fn pay(self) -> Result<Closing, AllocError>
+    pub fn pay(self) -> Result<Charged, AllocError>
         requires closes { IsTrue (closing self.session.exchange.settings self.session.number
             self.regret.amount) }
-        requires all { length self.done ≡ length (trees_of self.session.exchange) }
-        ensures closing { IfOk result (IsClosing self.session) }
-        ensures made { IfOk result (IsChargedFor self) }
+        requires all { length self.discounts ≡ length (trees_of self.session.exchange) }
+        ensures { IfOk result (IsChargeOf self) }
     {
         let Settling {
             session,
             best,
             regret,
-            done,
+            witnesses: _,
+            discounts,
             left: _,
         } = self;
         let payments = pay(
@@ -164,15 +178,15 @@ impl Settling {
             &session.exchange,
             session.judge.bounds(),
             &best,
-            &done,
+            &discounts,
         )?;
-        Ok(Closing {
+        Ok(Charged {
             exchange: session.exchange,
             bounds: session.judge.into_bounds(),
             number: session.number,
             best,
             regret,
-            marginals: done,
+            vickreys: discounts,
             payments,
         })
     }
@@ -183,9 +197,9 @@ impl Settling {
     pub fn offer(&self) -> Result<Offer, SearchEnd>
         requires goes_on { closing self.now.session.exchange.settings self.now.session.number
             self.now.regret.amount ≡ false }
-        requires fresh { self.now.done ≡ [] }
-        ensures offer { IfOk result (IsOfferOf self.now) }
-        ensures end { IfErr result (IsStoppedBehind self.now) }
+        requires fresh { HasFound self.now [] }
+        ensures offer { IfOk result (IsOfferOf (settling_with self.now [])) }
+        ensures end { IfErr result (IsStoppedBehind (settling_with self.now [])) }
     {
         let mut left = self.left;
         let provisional = self.session.provisional_sets(&mut left)?;
@@ -196,10 +210,11 @@ impl Settling {
     pub fn price(&self, offer: &Offer) -> Result<Pricing, PriceEnd>
         requires goes_on { closing self.now.session.exchange.settings self.now.session.number
             self.now.regret.amount ≡ false }
-        requires fresh { self.now.done ≡ [] }
-        requires offer { IsOfferOf self.now offer.now }
-        ensures priced { IfOk result (IsPriced (offered_trade self.now offer.now)) }
-        ensures ended { IfErr result (IsUnpriced self.now offer.now) }
+        requires fresh { HasFound self.now [] }
+        requires offer { IsOfferOf (settling_with self.now []) offer.now }
+        ensures priced { IfOk result
+            (IsPriced (offered_trade (settling_with self.now []) offer.now)) }
+        ensures ended { IfErr result (IsUnpriced (settling_with self.now []) offer.now) }
     {
         price(
             self.session.alloc,
@@ -213,17 +228,18 @@ impl Settling {
     pub fn open(self, offer: Offer, pricing: Pricing) -> (InRound, Opening)
         requires goes_on { closing self.session.exchange.settings self.session.number
             self.regret.amount ≡ false }
-        requires fresh { self.done ≡ [] }
-        requires offer { IsOfferOf self offer }
-        requires pricing { IsPriced (offered_trade self offer) pricing }
+        requires fresh { HasFound self [] }
+        requires offer { IsOfferOf (settling_with self []) offer }
+        requires pricing { IsPriced (offered_trade (settling_with self []) offer) pricing }
         ensures opening { IsOpening self.session result.0 result.1 }
-        ensures made { IsOpenedBy self offer result.1 }
+        ensures made { IsOpenedBy (settling_with self []) offer result.1 }
     {
         let Settling {
             session,
             best,
             regret,
-            done: _,
+            witnesses: _,
+            discounts: _,
             left: _,
         } = self;
         let opening = Opening {
@@ -237,63 +253,84 @@ impl Settling {
     }
 
     /// The halt of a settlement that goes no further.
-    fn halt(self, provisional: Option<Found>) -> Halt
+    fn halt(self, provisional: Option<Found>, marginals: Vec<Marginal>) -> Halt
         ensures session { IsHaltOf self.session result }
         ensures best { result.best ≡ Some self.best }
         ensures regret { result.regret ≡ Some self.regret }
         ensures provisional { result.provisional ≡ provisional }
-        ensures marginals { result.marginals.items ≡ self.done }
+        ensures marginals { result.marginals.items ≡ marginals.items }
     {
         let Settling {
             session,
             best,
             regret,
-            done,
+            witnesses: _,
+            discounts: _,
             left: _,
         } = self;
-        session.halt(Some(best), Some(regret), provisional, done)
+        session.halt(Some(best), Some(regret), provisional, marginals)
     }
 
-    /// The end where a search found nothing.
-    fn stop(self, end: SearchEnd) -> Settled
-        requires { IsStoppedBehind self end }
+    /// The end where a search found nothing, behind these.
+    fn stop(self, end: SearchEnd, marginals: Vec<Marginal>) -> Settled
+        requires { IsStoppedBehind (settling_with self marginals.items) end }
         ensures { IsSettledAs self.session result }
     {
         match end {
-            SearchEnd::Spent(spent) => Settled::Spent(self.halt(None), spent),
+            SearchEnd::Spent(spent) => Settled::Spent(self.halt(None, marginals), spent),
             SearchEnd::NoMemory => Settled::NoMemory,
         }
     }
 
-    /// The settlement closes the session: the bidders that are left, one by one, and the payments.
-    fn close(self) -> Settled
-        requires { IsTrue (closing self.session.exchange.settings self.session.number
+    /// The payments, with all that was found.
+    fn charge(self, marginals: Vec<Marginal>) -> Settled
+        requires closes { IsTrue (closing self.session.exchange.settings self.session.number
             self.regret.amount) }
+        requires found { HasFound self marginals.items }
+        requires all { length self.discounts ≡ length (trees_of self.session.exchange) }
+        ensures { IsSettledAs self.session result }
+    {
+        match self.pay() {
+            Ok(charged) => Settled::Closed(charged.with(marginals)),
+            Err(_) => Settled::NoMemory,
+        }
+    }
+
+    /// The settlement closes the session: the bidders that are left, one by one, and the payments.
+    /// All that is found is held.
+    fn close(self, marginals: Vec<Marginal>) -> Settled
+        requires closes { IsTrue (closing self.session.exchange.settings self.session.number
+            self.regret.amount) }
+        requires found { HasFound self marginals.items }
         ensures { IsSettledAs self.session result }
     {
         let mut settling = self;
         if settling.is_done() {
-            return match settling.pay() {
-                Ok(closing) => Settled::Closed(closing),
-                Err(_) => Settled::NoMemory,
-            };
+            return settling.charge(marginals);
         }
         match settling.find_without() {
-            Ok(()) => settling.close(),
-            Err(end) => settling.stop(end),
+            Ok(marginal) => {
+                let mut marginals = marginals;
+                match marginals.push(marginal) {
+                    Ok(()) => settling.close(marginals),
+                    Err(_) => Settled::NoMemory,
+                }
+            }
+            Err(end) => settling.stop(end, marginals),
         }
     }
 
     /// The settlement goes on: the provisional sets, their prices, and a round.
-    fn go_on(self) -> Settled
+    fn go_on(self, none: Vec<Marginal>) -> Settled
         requires goes_on { closing self.session.exchange.settings self.session.number
             self.regret.amount ≡ false }
-        requires fresh { self.done ≡ [] }
+        requires fresh { HasFound self [] }
+        requires none { none.items ≡ [] }
         ensures { IsSettledAs self.session result }
     {
         let offer = match self.offer() {
             Ok(offer) => offer,
-            Err(end) => return self.stop(end),
+            Err(end) => return self.stop(end, none),
         };
         match self.price(&offer) {
             Ok(pricing) => {
@@ -301,7 +338,7 @@ impl Settling {
                 Settled::Going(round, opening)
             }
             Err(PriceEnd::Limit(limit)) => {
-                Settled::Limit(self.halt(Some(offer.provisional)), limit)
+                Settled::Limit(self.halt(Some(offer.provisional), none), limit)
             }
             Err(PriceEnd::NoMemory) => Settled::NoMemory,
         }
@@ -309,13 +346,14 @@ impl Settling {
 
     /// The rest of the settlement: what closes the session, or opens a round.
     pub(crate) fn finish(self) -> Settled
-        requires { self.done ≡ [] }
+        requires { HasFound self [] }
         ensures { IsSettledAs self.session result }
     {
+        let none = Vec::new(self.session.alloc);
         if self.closes() {
-            self.close()
+            self.close(none)
         } else {
-            self.go_on()
+            self.go_on(none)
         }
     }
 }

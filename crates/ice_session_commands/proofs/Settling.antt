@@ -1,14 +1,15 @@
 -- A settlement ends the session or opens a round: what it puts, group by group, is put behind what
 -- was put before.
-use Rattle.std.proofs.Common.{◌≡◌, ◌∙◌, ◌<◌, ◌≤◌, ◌-◌, ℕ, suc, false, List, [], ◌∷◌, ◌++◌, length, map, refl, sym, ap, subst, arith, append_assoc, length-append, Option, None, Some, inl, inr}
+use Rattle.std.proofs.Common.{◌≡◌, ◌∙◌, ◌<◌, ◌≤◌, ◌-◌, ◌^◌, ℕ, ℤ, suc, false, List, [], ◌∷◌, ◌++◌, length, map, refl, sym, ap, subst, arith, append_assoc, length-append, Option, None, Some, inl, inr}
 use Rattle.std.specs.Prelude.{IsTrue, ◌+◌}
+use Rattle.std.specs.Global.{Vec}
 use Rattle.std.specs.List.{AllByRecursion}
 use Rattle.std.proofs.lemmas.List.{append-nil}
 use Rattle.ice_edge.specs.Puts.{Takes, FailsIn}
 use Rattle.ice_edge.specs.declared.status.Status.{Status}
 use Rattle.ice_edge.specs.declared.status.Status.TheVariants.{Done, Spent, Limit, WriteFault, NoMemory}
 use Rattle.ice_edge.specs.Taken.{Taken}
-use Rattle.ice_defs.specs.Exchange.{Exchange, exact_of, trees_of}
+use Rattle.ice_defs.specs.Exchange.{Exchange, exact_of, names_of, trees_of}
 use Rattle.ice_defs.specs.Session.{Going, closes}
 use Rattle.ice_terms.specs.Terms.{ArePriceTerms}
 use Rattle.ice_journal.specs.Records.{Record, version_2, closed_end}
@@ -26,20 +27,22 @@ use Rattle.ice_price.specs.declared.ends.PriceLimit.{PriceLimit}
 use Rattle.ice_vickrey.specs.Marginals.{proved_without}
 use Rattle.ice_vickrey.specs.declared.marginal.Marginal.{Marginal}
 use Rattle.ice_round.specs.SessionAt.{SessionAt, RoundAt}
-use Rattle.ice_round.specs.Settling.{SettlingAt, IsSettling, IsOneMore, IsChargedFor, IsOfferOf, IsOpenedBy}
+use Rattle.ice_round.specs.Settling.{SettlingAt, IsSettling, IsChargedFor, IsOfferOf, IsOpenedBy}
+use Rattle.ice_round.specs.Held.{Held, settling_with, HasFound, HasOneMore, IsChargeOf}
 use Rattle.ice_round.specs.declared.offer.Offer.{Offer}
-use Rattle.ice_settled.specs.Shown.{settlement_of, closed_of, going_of}
+use Rattle.ice_settled.specs.Shown.{settlement_of, discounts_of, payments_of, charges_of, closing_with, going_of}
 use Rattle.ice_round.specs.Shown.{IsClosing, IsOpening}
 use Rattle.ice_round.specs.Ends.{IsHaltOf, IsSpentAt, IsLimitAt, at_pricing}
 use Rattle.ice_round.proofs.GoingOn.{more_rounds}
 use Rattle.ice_settled.specs.declared.settled.Closing.{Closing}
+use Rattle.ice_settled.specs.declared.settled.Charged.{Charged}
 use Rattle.ice_settled.specs.declared.settled.Opening.{Opening}
 use Rattle.ice_settled.specs.declared.settled.Halt.{Halt}
 use Rattle.ice_write_session.specs.Records.{regret_records, provisional_records, one_without, without_records, pricing_records, charged_records, opening_records, closing_records, halted_records, halt_records, spent_records, limit_records}
-use Rattle.ice_write_session.specs.Writable.{IsWritable, IsWritableLimit}
+use Rattle.ice_write_session.specs.Writable.{IsWritable, IsWritableCharged, IsWritableLimit}
 use Rattle.ice_write_session.proofs.Puts.{takes_then}
 use Rattle.ice_write_session.proofs.Halts.{halts_before_final, halts_before_rival, halts_before_without, halts_before_provisional, halts_at_prices}
-use Rattle.ice_write_session.proofs.Lawful.{settling_are_records, offered_are_records, opening_are_records, closing_are_records, halt_are_records, spent_are_records, limit_are_records}
+use Rattle.ice_write_session.proofs.Lawful.{settling_are_records, offered_are_records, opening_are_records, closing_are_records, charged_may, halt_are_records, spent_are_records, limit_are_records}
 use Rattle.ice_session_laws.specs.Running.{IsRunning, IsInRound}
 use Rattle.ice_session_laws.specs.Stops.{ComesTo, to_final, to_rival, to_provisional, to_without}
 use Rattle.ice_session_laws.specs.Laws.{PricesSought, sought_records}
@@ -195,53 +198,68 @@ one_more_records x y m e =
     ∙ ap (λ (rs : List Record). (line.settle x.session.number ∷ regret_records x.session.exchange x.best x.regret) ++ rs) (withouts_more x.session.exchange x.done m)
     ∙ sym (append_assoc (line.settle x.session.number ∷ regret_records x.session.exchange x.best x.regret) (without_records x.session.exchange x.done) (one_without x.session.exchange (length x.done) m))
 
-module _ (x y : SettlingAt) (more : IsOneMore x y) where
-  pub same_session : y.session ≡ x.session
-  same_session = ap (λ (z : SettlingAt). z.session) more.then
+module _ (h next : Held) (done : List Marginal) (m : Marginal) (more : HasOneMore h m next) where
+  abbrev x : SettlingAt
+  x = settling_with h done
 
-  pub grown : y.done ≡ x.done ++ more.marginal ∷ []
-  grown = ap (λ (z : SettlingAt). z.done) more.then
+  abbrev y : SettlingAt
+  y = settling_with next (done ++ m ∷ [])
 
-  pub same_regret_amount : y.regret ≡ x.regret
-  same_regret_amount = ap (λ (z : SettlingAt). z.regret) more.then
+  same_session : next.session ≡ h.session
+  same_session = ap (λ (z : Held). z.session) more.then
 
-  pub still_running : (going : List Going) → IsRunning going x.session → IsRunning going y.session
+  same_regret_amount : next.regret ≡ h.regret
+  same_regret_amount = ap (λ (z : Held). z.regret) more.then
+
+  grown : settling_with next (done ++ m ∷ []) ≡ record (settling_with h done) { done = done ++ m ∷ [] }
+  grown = ap (λ (z : Held). settling_with z (done ++ m ∷ [])) more.then
+
+  pub still_running : (going : List Going) → IsRunning going h.session → IsRunning going next.session
   still_running going run = subst (IsRunning going) (sym same_session) run
 
-  pub still_closes : IsTrue (closes x.session.exchange.settings x.session.number x.regret.amount) → IsTrue (closes y.session.exchange.settings y.session.number y.regret.amount)
+  pub still_closes : IsTrue (closes h.session.exchange.settings h.session.number h.regret.amount) → IsTrue (closes next.session.exchange.settings next.session.number next.regret.amount)
   still_closes closing =
-      subst (λ (s : SessionAt). IsTrue (closes s.exchange.settings s.number y.regret.amount)) (sym same_session)
-      (subst (λ (r : Regret). IsTrue (closes x.session.exchange.settings x.session.number r.amount)) (sym same_regret_amount) closing)
+      subst (λ (s : SessionAt). IsTrue (closes s.exchange.settings s.number next.regret.amount)) (sym same_session)
+      (subst (λ (r : Regret). IsTrue (closes h.session.exchange.settings h.session.number r.amount)) (sym same_regret_amount) closing)
 
   -- a bidder less is left
-  pub fewer : length x.done < length (trees_of x.session.exchange) → length (trees_of y.session.exchange) - length y.done < length (trees_of x.session.exchange) - length x.done
-  fewer next =
-      subst (λ (s : SessionAt). length (trees_of s.exchange) - length y.done < length (trees_of x.session.exchange) - length x.done) (sym same_session)
-      (omega (arith, next, ap length grown, length-append x.done (more.marginal ∷ [])))
+  pub fewer : length h.discounts < length (trees_of h.session.exchange) → length (trees_of next.session.exchange) - length next.discounts < length (trees_of h.session.exchange) - length h.discounts
+  fewer left =
+      subst (λ (s : SessionAt). length (trees_of s.exchange) - length next.discounts < length (trees_of h.session.exchange) - length h.discounts) (sym same_session)
+      (omega (arith, left, ap (λ (z : Held). length z.discounts) more.then, length-append h.discounts (m.discount ∷ [])))
 
-  pub one_more_ends : (old mid new : Taken) (result : Status) → Takes (bytes_of (one_without y.session.exchange (length x.done) more.marginal)) old mid → EndsBehind y mid new result → EndsBehind x old new result
+  pub one_more_ends : (old mid new : Taken) (result : Status) → Takes (bytes_of (one_without next.session.exchange (length done) m)) old mid → EndsBehind (settling_with next (done ++ m ∷ [])) mid new result → EndsBehind (settling_with h done) old new result
   one_more_ends old mid new result takes ends going run =
-      let ex : Exchange = x.session.exchange in
-      let group : List Record = one_without ex (length x.done) more.marginal in
+      let ex : Exchange = h.session.exchange in
+      let group : List Record = one_without ex (length done) m in
       let ended = subst (λ (s : SessionAt). WritesBehind (run_records s.exchange going ++ settling_records y) (EndsSettling going s) mid new result) same_session (ends going (still_running going run)) in
-      piece_then (run_records ex going ++ settling_records x) (EndsSettling going x.session) group result old mid new
-      (subst (λ (s : SessionAt). Takes (bytes_of (one_without s.exchange (length x.done) more.marginal)) old mid) same_session takes)
-      (subst (λ (rs : List Record). WritesBehind rs (EndsSettling going x.session) mid new result)
-      (ap (λ (rs : List Record). run_records ex going ++ rs) (one_more_records x y more.marginal more.then) ∙ sym (append_assoc (run_records ex going) (settling_records x) group)) ended)
+      piece_then (run_records ex going ++ settling_records x) (EndsSettling going h.session) group result old mid new
+      (subst (λ (s : SessionAt). Takes (bytes_of (one_without s.exchange (length done) m)) old mid) same_session takes)
+      (subst (λ (rs : List Record). WritesBehind rs (EndsSettling going h.session) mid new result)
+      (ap (λ (rs : List Record). run_records ex going ++ rs) (one_more_records x y m grown) ∙ sym (append_assoc (run_records ex going) (settling_records x) group)) ended)
 
-  pub one_more_fails : (old new : Taken) → IsSettling y → IsTrue (closes y.session.exchange.settings y.session.number y.regret.amount) → FailsIn (bytes_of (one_without y.session.exchange (length x.done) more.marginal)) old new → EndsBehind x old new WriteFault
+  pub one_more_fails : (old new : Taken) → IsSettling (settling_with next (done ++ m ∷ [])) → IsTrue (closes next.session.exchange.settings next.session.number next.regret.amount) → FailsIn (bytes_of (one_without next.session.exchange (length done) m)) old new
+      → EndsBehind (settling_with h done) old new WriteFault
   one_more_fails old new found closing fails going run =
-      let ex : Exchange = x.session.exchange in
-      let group : List Record = one_without ex (length x.done) more.marginal in
+      let ex : Exchange = h.session.exchange in
+      let group : List Record = one_without ex (length done) m in
       let unended = settling_is_unended going y (still_running going run) found (inl closing) in
-      let ends : EndsSettling going y.session (run_records y.session.exchange going ++ settling_records y) NoMemory = finds (before_without (settlement_of y.best y.regret) (map proved_without y.done)) unended in
-      failed_piece (run_records ex going ++ settling_records x) (EndsSettling going x.session) group NoMemory old new
-      (subst (λ (rs : List Record). EndsSettling going x.session rs NoMemory)
-      (ap (λ (rs : List Record). run_records ex going ++ rs) (one_more_records x y more.marginal more.then) ∙ sym (append_assoc (run_records ex going) (settling_records x) group))
+      let ends : EndsSettling going next.session (run_records next.session.exchange going ++ settling_records y) NoMemory = finds (before_without (settlement_of next.best next.regret) (map proved_without y.done)) unended in
+      failed_piece (run_records ex going ++ settling_records x) (EndsSettling going h.session) group NoMemory old new
+      (subst (λ (rs : List Record). EndsSettling going h.session rs NoMemory)
+      (ap (λ (rs : List Record). run_records ex going ++ rs) (one_more_records x y m grown) ∙ sym (append_assoc (run_records ex going) (settling_records x) group))
       (subst (λ (s : SessionAt). EndsSettling going s (run_records s.exchange going ++ settling_records y) NoMemory) same_session ends))
-      (subst (λ (s : SessionAt). FailsIn (bytes_of (one_without s.exchange (length x.done) more.marginal)) old new) same_session fails)
+      (subst (λ (s : SessionAt). FailsIn (bytes_of (one_without s.exchange (length done) m)) old new) same_session fails)
+
+pub last_writable : (goods : ℕ) (ms : List Marginal) (m : Marginal) → AllByRecursion (λ x. IsWritable goods (proved_without x)) (ms ++ m ∷ []) → IsWritable goods (proved_without m)
+last_writable goods [] m all = all.0
+last_writable goods (x ∷ ms) m all = last_writable goods ms m all.1
 
 -- ---- the payments
+
+-- a list with the place of another one
+listed : {X : Type 0} → Vec X → (ms : List Marginal) → length ms < 2 ^ 63 → Vec Marginal
+listed v ms small = record { ptr = v.ptr; len = length ms; cap = length ms; alloc = v.alloc; items = ms; ok = (refl, omega arith); small = small }
 
 settled_as : (x : SettlingAt) (c : Closing) → IsClosing x.session c → IsChargedFor x c
     → (line.settle c.number ∷ regret_records c.exchange c.best c.regret) ++ without_records c.exchange c.marginals.items ≡ settling_records x
@@ -252,19 +270,36 @@ settled_as x c is made =
     ∙ ap (λ (r : Regret). (line.settle x.session.number ∷ regret_records x.session.exchange x.best r) ++ without_records x.session.exchange c.marginals.items) made.regret
     ∙ ap (λ (ms : List Marginal). (line.settle x.session.number ∷ regret_records x.session.exchange x.best x.regret) ++ without_records x.session.exchange ms) made.marginals
 
-charged_is : (x : SettlingAt) (c : Closing) → IsClosing x.session c → IsChargedFor x c → closing_records c ≡ settling_records x ++ charged_records c
-charged_is x c is made =
-    let charges : List Record = line.threshold c.payments.cut c.payments.surplus ∷ map payment_record (closed_of c.exchange c).payments in
+charged_is : (x : SettlingAt) (c : Charged) (ms : Vec Marginal) → c.vickreys.items ≡ discounts_of ms.items → IsClosing x.session (closing_with c ms) → IsChargedFor x (closing_with c ms)
+    → closing_records (closing_with c ms) ≡ settling_records x ++ charged_records c
+charged_is x c ms same is made =
+    let all : Closing = closing_with c ms in
+    let front : List Record = (line.settle c.number ∷ regret_records c.exchange c.best c.regret) ++ without_records c.exchange ms.items in
+    let charges : List Record = line.threshold c.payments.cut c.payments.surplus ∷ map payment_record (charges_of c) in
     let last : List Record = line.end closed_end ∷ [] in
-    ap (λ (rs : List Record). (rs ++ charges) ++ last) (settled_as x c is made) ∙ append_assoc (settling_records x) charges last
+    ap (λ (vs : List ℤ). (front ++ (line.threshold c.payments.cut c.payments.surplus ∷ map payment_record (payments_of (names_of c.exchange) vs c.payments.discounts.items c.payments.payments.items))) ++ last) (sym same)
+    ∙ ap (λ (rs : List Record). (rs ++ charges) ++ last) (settled_as x all is made)
+    ∙ append_assoc (settling_records x) charges last
 
-pub ends_charged : (x : SettlingAt) (c : Closing) (old new : Taken) (result : Status) → IsClosing x.session c → IsChargedFor x c → IsSaid (bytes_of (charged_records c)) Done old new result → EndsBehind x old new result
-ends_charged x c old new result is made said going run =
-    let s = x.session in
+-- they are at most 40
+few : (going : List Going) (h : Held) (done : List Marginal) → IsRunning going h.session → HasFound h done → length done < 2 ^ 63
+few going h done run has = omega (arith, (settling_may_be_written going (settling_with h done) run has.found).withouts.few)
+
+pub charged_may_be_written : (going : List Going) (h : Held) (c : Charged) → IsRunning going h.session → (done : List Marginal) → HasFound h done → IsChargeOf h c → IsWritableCharged c
+charged_may_be_written going h c run done has is =
+    let ms = listed c.bounds done (few going h done run has) in
+    charged_may c ms (is.vickreys ∙ has.discounts) (closing_may_be_written going h.session (closing_with c ms) run (is.closing ms has))
+
+pub ends_charged : (h : Held) (done : List Marginal) (c : Charged) (old new : Taken) (result : Status) → HasFound h done → IsChargeOf h c → IsSaid (bytes_of (charged_records c)) Done old new result → EndsBehind (settling_with h done) old new result
+ends_charged h done c old new result has is said going run =
+    let s = h.session in
+    let x = settling_with h done in
+    let ms = listed c.bounds done (few going h done run has) in
+    let closing = is.closing ms has in
     said_piece (run_records s.exchange going ++ settling_records x) (EndsSettling going s) (charged_records c) Done result old new
     (subst (λ (rs : List Record). EndsSettling going s rs Done)
-    (ap (λ (rs : List Record). run_records s.exchange going ++ rs) (charged_is x c is made) ∙ sym (append_assoc (run_records s.exchange going) (settling_records x) (charged_records c)))
-    (settling.closes c is (closing_are_records c (closing_may_be_written going s c run is)))) said
+    (ap (λ (rs : List Record). run_records s.exchange going ++ rs) (charged_is x c ms (is.vickreys ∙ has.discounts) closing (is.made ms has)) ∙ sym (append_assoc (run_records s.exchange going) (settling_records x) (charged_records c)))
+    (settling.closes (closing_with c ms) closing (closing_are_records (closing_with c ms) (closing_may_be_written going s (closing_with c ms) run closing)))) said
 
 -- ---- it goes on
 

@@ -4,14 +4,16 @@ ghost use Rattle.ice_defs.specs.Exchange.{exact_of, trees_of, IsBetween};
 ghost use Rattle.ice_defs.specs.Session.{Going, closes as closing};
 ghost use Rattle.ice_edge.specs.Puts.{IsPut};
 ghost use Rattle.ice_journal.specs.Records as line;
-ghost use Rattle.ice_journal.specs.Ranges.{IsRecord};
+ghost use Rattle.ice_journal.specs.Ranges.{IsBidderNumber, IsRecord};
 ghost use Rattle.ice_journal.specs.Journal.{bytes_of};
 ghost use Rattle.ice_search.specs.Results.{proved_spent};
-ghost use Rattle.ice_write_session.specs.Records.{halt_records, spent_records, limit_records};
+ghost use Rattle.ice_vickrey.specs.Marginals.{proved_without};
+ghost use Rattle.ice_write_session.specs.Records.{one_without, halt_records, spent_records, limit_records};
 ghost use Rattle.ice_write_session.specs.Writable.{IsWritable, IsWritableHalt, IsWritableLimit};
 ghost use Rattle.ice_round.specs.SessionAt.{SessionAt};
 ghost use Rattle.ice_round.specs.Ends.{IsHaltedBy};
-ghost use Rattle.ice_round.specs.Settling.{IsSettling, IsOfferOf};
+ghost use Rattle.ice_round.specs.Held.{settling_with, HasFound};
+ghost use Rattle.ice_round.specs.Settling.{IsOfferOf};
 ghost use Rattle.ice_session_laws.specs.Running.{IsRunning};
 ghost use Rattle.ice_session_laws.specs.Written.{begun_records};
 ghost use Rattle.ice_command_parts.specs.Parts.{IsSaid};
@@ -26,10 +28,11 @@ use ice_search::{SearchEnd, Spent};
 use ice_settled::Halt;
 use ice_terms::Bid;
 use ice_trade::Exchange;
+use ice_vickrey::Marginal;
 use ice_write::{put_record, put_section};
 use ice_write_session::{
-    put_charged, put_halt, put_judged, put_last_without, put_limit, put_pricing, put_provisional,
-    put_settlement, put_spent,
+    put_charged, put_halt, put_judged, put_limit, put_pricing, put_provisional, put_settlement,
+    put_spent, put_without,
 };
 
 /// Puts the head and the exchange.
@@ -117,34 +120,47 @@ fn stop_limited<K: Sink>(limit: &PriceLimit, out: &mut K) -> Status
 #[tactic(none)]
 fn charge<K: Sink>(settling: Settling, out: &mut K) -> Status
     requires running { (going : List Going) × IsRunning going settling.session }
-    requires found { IsSettling settling }
+    requires found { (done : List Marginal) × HasFound settling done }
     requires closes { IsTrue (closing settling.session.exchange.settings settling.session.number
         settling.regret.amount) }
-    requires all { length settling.done ≡ length (trees_of settling.session.exchange) }
-    ensures { EndsBehind settling (K.taken out.old) (K.taken out.new) result }
+    requires all { length settling.discounts ≡ length (trees_of settling.session.exchange) }
+    ensures { (done : List Marginal) → HasFound settling done
+        → EndsBehind (settling_with settling done) (K.taken out.old) (K.taken out.new) result }
 {
     match settling.pay() {
-        Ok(closing) => ended(put_charged(&closing, out), Status::Done),
+        Ok(charged) => ended(put_charged(&charged, out), Status::Done),
         Err(_) => Status::NoMemory,
     }
 }
 
+/// Puts the group without a bidder, and lets it go.
+fn put_found<K: Sink>(exchange: &Exchange, marginal: Marginal, out: &mut K) -> Result<(), SinkFault>
+    requires bidder { IsBidderNumber marginal.bidder }
+    requires written { IsWritable (length (exact_of exchange.now)) (proved_without marginal) }
+    ensures { IsPut (bytes_of (one_without exchange.now marginal.bidder marginal)) result
+        (K.taken out.old) (K.taken out.new) }
+{
+    put_without(exchange, &marginal, out)
+}
+
 /// Closes the session: finds what the market is worth without each bidder that is left, puts each
-/// group as soon as its search has ended, and then what the bidders pay.
+/// group as soon as its search has ended, and then what the bidders pay. Of these groups there is
+/// one at a time.
 #[tactic(none)]
 fn close<K: Sink>(settling: Settling, out: &mut K) -> Status
     requires running { (going : List Going) × IsRunning going settling.session }
-    requires found { IsSettling settling }
+    requires found { (done : List Marginal) × HasFound settling done }
     requires closes { IsTrue (closing settling.session.exchange.settings settling.session.number
         settling.regret.amount) }
-    ensures { EndsBehind settling (K.taken out.old) (K.taken out.new) result }
+    ensures { (done : List Marginal) → HasFound settling done
+        → EndsBehind (settling_with settling done) (K.taken out.old) (K.taken out.new) result }
 {
     let mut settling = settling;
     if settling.is_done() {
         return charge(settling, out);
     }
     match settling.find_without() {
-        Ok(()) => match put_last_without(settling.exchange(), settling.done(), out) {
+        Ok(marginal) => match put_found(settling.exchange(), marginal, out) {
             Ok(()) => close(settling, out),
             Err(SinkFault::Failed) => Status::WriteFault,
         },
@@ -157,14 +173,15 @@ fn close<K: Sink>(settling: Settling, out: &mut K) -> Status
 #[tactic(none)]
 fn open<K: Sink>(settling: Settling, offer: Offer, out: &mut K) -> Result<InRound, Status>
     requires running { (going : List Going) × IsRunning going settling.session }
-    requires found { IsSettling settling }
+    requires found { HasFound settling [] }
     requires goes_on { closing settling.session.exchange.settings settling.session.number
         settling.regret.amount ≡ false }
-    requires fresh { settling.done ≡ [] }
-    requires offer { IsOfferOf settling offer }
+    requires offer { IsOfferOf (settling_with settling []) offer }
     ensures { MatchResult result
-        (λ round. OpensOffering settling offer round (K.taken out.old) (K.taken out.new))
-        (λ status. EndsOffering settling offer (K.taken out.old) (K.taken out.new) status) }
+        (λ round. OpensOffering (settling_with settling []) offer round
+        (K.taken out.old) (K.taken out.new))
+        (λ status. EndsOffering (settling_with settling []) offer
+        (K.taken out.old) (K.taken out.new) status) }
 {
     match settling.price(&offer) {
         Ok(pricing) => {
@@ -184,13 +201,14 @@ fn open<K: Sink>(settling: Settling, offer: Offer, out: &mut K) -> Result<InRoun
 #[tactic(none)]
 fn go_on<K: Sink>(settling: Settling, out: &mut K) -> Result<InRound, Status>
     requires running { (going : List Going) × IsRunning going settling.session }
-    requires found { IsSettling settling }
+    requires found { HasFound settling [] }
     requires goes_on { closing settling.session.exchange.settings settling.session.number
         settling.regret.amount ≡ false }
-    requires fresh { settling.done ≡ [] }
     ensures { MatchResult result
-        (λ round. OpensBehind settling round (K.taken out.old) (K.taken out.new))
-        (λ status. EndsBehind settling (K.taken out.old) (K.taken out.new) status) }
+        (λ round. OpensBehind (settling_with settling []) round
+        (K.taken out.old) (K.taken out.new))
+        (λ status. EndsBehind (settling_with settling [])
+        (K.taken out.old) (K.taken out.new) status) }
 {
     let offer = match settling.offer() {
         Ok(offer) => offer,
@@ -209,11 +227,12 @@ fn go_on<K: Sink>(settling: Settling, out: &mut K) -> Result<InRound, Status>
 #[tactic(none)]
 fn follow<K: Sink>(settling: Settling, out: &mut K) -> Result<InRound, Status>
     requires running { (going : List Going) × IsRunning going settling.session }
-    requires found { IsSettling settling }
-    requires fresh { settling.done ≡ [] }
+    requires found { HasFound settling [] }
     ensures { MatchResult result
-        (λ round. OpensBehind settling round (K.taken out.old) (K.taken out.new))
-        (λ status. EndsBehind settling (K.taken out.old) (K.taken out.new) status) }
+        (λ round. OpensBehind (settling_with settling []) round
+        (K.taken out.old) (K.taken out.new))
+        (λ status. EndsBehind (settling_with settling [])
+        (K.taken out.old) (K.taken out.new) status) }
 {
     if settling.closes() {
         return Err(close(settling, out));

@@ -35,7 +35,7 @@ use Rattle.ice_journal_laws.specs.Tests.{IsThresholdLine}
 use Rattle.ice_journal_laws.specs.ShowingSession.{AreShownWithout, vickreys_by, worth_of, AreShownPayments, IsShownClosed}
 use Rattle.ice_round.specs.SessionAt.{SessionAt}
 use Rattle.ice_round.specs.Searches.{economy_of}
-use Rattle.ice_settled.specs.Shown.{payments_of, closed_of}
+use Rattle.ice_settled.specs.Shown.{discounts_of, payments_of, closed_of}
 use Rattle.ice_round.specs.Shown.{IsClosing}
 use Rattle.ice_settled.specs.declared.settled.Closing.{Closing}
 use Rattle.ice_round.proofs.Settlements.{final_rich}
@@ -133,13 +133,13 @@ payments_shown names vs worth cut b (q ∷ qs) name vickrey discount payment =
     )
 
 -- where there is a payment for each name, their discounts are those that were given
-discounts_in : (names : List (List ℕ)) (ms : List Marginal) (ds ps : List Fraction) → length (payments_of names ms ds ps) ≡ length names → length ds ≡ length names → map (λ (q : Payment). q.discount) (payments_of names ms ds ps) ≡ ds
-discounts_in [] ms [] ps count same = refl
-discounts_in [] ms (d ∷ ds) ps count same = absurd (omega (arith, same))
+discounts_in : (names : List (List ℕ)) (vs : List ℤ) (ds ps : List Fraction) → length (payments_of names vs ds ps) ≡ length names → length ds ≡ length names → map (λ (q : Payment). q.discount) (payments_of names vs ds ps) ≡ ds
+discounts_in [] vs [] ps count same = refl
+discounts_in [] vs (d ∷ ds) ps count same = absurd (omega (arith, same))
 discounts_in (name ∷ names) [] ds ps count same = absurd (omega (arith, count))
-discounts_in (name ∷ names) (m ∷ ms) [] ps count same = absurd (omega (arith, same))
-discounts_in (name ∷ names) (m ∷ ms) (d ∷ ds) [] count same = absurd (omega (arith, count))
-discounts_in (name ∷ names) (m ∷ ms) (d ∷ ds) (p ∷ ps) count same = ap (λ (xs : List Fraction). d ∷ xs) (discounts_in names ms ds ps (omega (arith, count)) (omega (arith, same)))
+discounts_in (name ∷ names) (v ∷ vs) [] ps count same = absurd (omega (arith, same))
+discounts_in (name ∷ names) (v ∷ vs) (d ∷ ds) [] count same = absurd (omega (arith, count))
+discounts_in (name ∷ names) (v ∷ vs) (d ∷ ds) (p ∷ ps) count same = ap (λ (xs : List Fraction). d ∷ xs) (discounts_in names vs ds ps (omega (arith, count)) (omega (arith, same)))
 
 -- ---- ranges
 
@@ -154,7 +154,7 @@ short_field f is = record {
     between z k small = (grind (arith, ints), grind (arith, ints))
 
 payments_may_be_written : (e : Economy) (b : ℕ) (names : List (List ℕ)) (ms : List Marginal) (ds ps : List Fraction) → AllByRecursion (λ name. IsTrue (is_name name)) names → AreMarginalsFrom e b ms → All IsShort ds → All IsShort ps
-    → AllByRecursion IsWritablePayment (payments_of names ms ds ps)
+    → AllByRecursion IsWritablePayment (payments_of names (discounts_of ms) ds ps)
 payments_may_be_written e b [] ms ds ps named are short paid = tt
 payments_may_be_written e b (name ∷ names) [] ds ps named are short paid = tt
 payments_may_be_written e b (name ∷ names) (m ∷ ms) [] ps named are short paid = tt
@@ -190,7 +190,7 @@ module _ (s : SessionAt) (lawful : IsExchange s.exchange) (are : AreBoundsOf (tr
 
   given_discounts : right.discounts_of (closed_of s.exchange c) ≡ c.payments.discounts.items
   given_discounts =
-      discounts_in (names_of s.exchange) c.marginals.items c.payments.discounts.items c.payments.payments.items (payments_count ∙ sym (length-names s.exchange))
+      discounts_in (names_of s.exchange) (discounts_of c.marginals.items) c.payments.discounts.items c.payments.payments.items (payments_count ∙ sym (length-names s.exchange))
       (AreCutDown-length c.payments.cut c.payments.discounts.items (map (λ m. m.discount) c.marginals.items) is.cut_down ∙ count_is ∙ sym (length-names s.exchange))
 
   cut_is : IsCut (map (λ m. m.discount) c.marginals.items) c.best.value c.payments.cut

@@ -4,4 +4,4 @@
 
 mod settled;
 
-pub use settled::{Closing, Halt, Opening};
+pub use settled::{Charged, Closing, Halt, Opening};

@@ -1,4 +1,6 @@
 //! What a settlement gives.
+ghost use Rattle.std.specs.Prelude.{◌≡◌};
+ghost use Rattle.ice_settled.specs.Shown.{closing_with};
 
 use ice_price::Pricing;
 use ice_regret::Regret;
@@ -38,6 +40,66 @@ impl Drop for Closing {
             marginals: _,
             payments: _,
         } = self;
+    }
+}
+
+/// What is left of the last settlement of a session behind the groups without each bidder: all but
+/// these.
+pub struct Charged {
+    /// The exchange.
+    pub exchange: Exchange,
+    /// The bidders' bounds, one of each bidder.
+    pub bounds: Vec<Bounds>,
+    /// The settlement's number, from 0.
+    pub number: u8,
+    /// The final sets: the best assignment at lower values.
+    pub best: Found,
+    /// Their regret, which closes the session, unless no round is left.
+    pub regret: Regret,
+    /// The Vickrey discount of each bidder in order.
+    pub vickreys: Vec<i128>,
+    /// What the bidders pay.
+    pub payments: Payments,
+}
+
+// By hand, so that each exit that drops one has one call to prove, and not all its parts.
+impl Drop for Charged {
+    fn drop(self) {
+        let Charged {
+            exchange: _,
+            bounds: _,
+            number: _,
+            best: _,
+            regret: _,
+            vickreys: _,
+            payments: _,
+        } = self;
+    }
+}
+
+impl Charged {
+    /// The whole of it, with what the market is worth without each bidder.
+    pub fn with(self, marginals: Vec<Marginal>) -> Closing
+        ensures { result ≡ closing_with self marginals }
+    {
+        let Charged {
+            exchange,
+            bounds,
+            number,
+            best,
+            regret,
+            vickreys: _,
+            payments,
+        } = self;
+        Closing {
+            exchange,
+            bounds,
+            number,
+            best,
+            regret,
+            marginals,
+            payments,
+        }
     }
 }
 

@@ -93,21 +93,13 @@ impl<'a> Economy<'a> {
         })
     }
 
-    /// The number of bidders.
-    pub(crate) fn bidders(&self) -> u8
-        ensures value { result ≡ length (trees_of self.now.exchange) }
-        ensures few { result ≤ 40 }
-    {
-        self.exchange.bidders()
-    }
-
-    /// What the market is worth without the bidder. Hints are the final log's multipliers and all
-    /// assignments that are known, with the bidder's set emptied.
+    /// What the market is worth without the bidder. Hints are the final log's multipliers, and its
+    /// sets and those that are known, with the bidder's emptied.
     pub(crate) fn without(
         &self,
         alloc: Global,
         bidder: u8,
-        done: &[Marginal],
+        known: &[Assignment],
         branches: &mut u32,
     ) -> Result<Marginal, SearchEnd>
         requires bidder { bidder < length (trees_of self.now.exchange) }
@@ -120,7 +112,7 @@ impl<'a> Economy<'a> {
         let trees = self.exchange.trees();
         let mut start = Fixings::free(alloc, trees)?;
         start.mark(bidder, 0, Mark::Never);
-        let candidates = candidates(alloc, trees, self.best, done, bidder)?;
+        let candidates = candidates(alloc, trees, self.best, known, bidder)?;
         let known = Known {
             from: &self.from,
             candidates: &candidates,

@@ -3,7 +3,6 @@
 ghost use Rattle.std.specs.Prelude.{◌≤◌, length};
 ghost use Rattle.ice_defs.specs.Conditions.{AreMultipliersOf};
 
-use crate::marginal::Marginal;
 use ice_bound::Multipliers;
 use ice_refute::{Log, Step};
 use ice_tree::{Assignment, NodeSet, Tree};
@@ -66,18 +65,18 @@ fn emptied(
     Ok(made)
 }
 
-/// The best assignment of all and the witnesses so far, each with the bidder's set emptied.
+/// The best assignment of all and those that are known, each with the bidder's set emptied.
 pub(crate) fn candidates(
     alloc: Global,
     trees: &[Tree],
     best: &Assignment,
-    done: &[Marginal],
+    known: &[Assignment],
     bidder: u8,
 ) -> Result<Vec<Assignment>, AllocError> {
     let mut made = Vec::new(alloc);
     made.push(emptied(alloc, trees, best, bidder)?)?;
-    for marginal in done {
-        made.push(emptied(alloc, trees, &marginal.witness, bidder)?)?;
+    for sets in known {
+        made.push(emptied(alloc, trees, sets, bidder)?)?;
     }
     Ok(made)
 }

@@ -7,5 +7,5 @@ mod entry;
 mod hints;
 mod marginal;
 
-pub use entry::without_next;
+pub use entry::without_bidder;
 pub use marginal::Marginal;

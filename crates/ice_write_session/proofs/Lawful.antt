@@ -1,10 +1,11 @@
 -- The records of settlements are records: all numbers are in their ranges.
-use Rattle.std.proofs.Common.{ℕ, suc, ◌+◌, ◌≤◌, List, [], ◌∷◌, ◌++◌, length, map, Option, Some, None, arith}
+use Rattle.std.proofs.Common.{ℕ, ℤ, suc, ◌+◌, ◌≤◌, ◌≡◌, sym, subst, List, [], ◌∷◌, ◌++◌, length, map, Option, Some, None, arith}
 use Rattle.std.specs.Prelude.{IfSome}
+use Rattle.std.specs.Global.{Vec}
 use Rattle.std.specs.List.{AllByRecursion}
 use Rattle.ice_defs.specs.Rows.{Row}
 use Rattle.ice_defs.specs.PricingRun.{Member}
-use Rattle.ice_defs.specs.Exchange.{Exchange, exact_of}
+use Rattle.ice_defs.specs.Exchange.{Exchange, exact_of, names_of}
 use Rattle.ice_defs.specs.Session.{Proved, Settlement, Payment}
 use Rattle.ice_defs.proofs.Lists.{all-append}
 use Rattle.ice_journal.specs.Records.{Record, version_2, spent_end, limit_end, closed_end}
@@ -24,13 +25,14 @@ use Rattle.ice_defs.specs.declared.PricingStage.{PricingStage}
 use Rattle.ice_defs.specs.declared.PricingStage.TheVariants.{Accuracy, Balance}
 use Rattle.ice_vickrey.specs.Marginals.{proved_without}
 use Rattle.ice_vickrey.specs.declared.marginal.Marginal.{Marginal}
-use Rattle.ice_settled.specs.Shown.{settlement_of, closed_of}
+use Rattle.ice_settled.specs.Shown.{settlement_of, discounts_of, payments_of, closed_of, closing_with}
 use Rattle.ice_settled.specs.declared.settled.Opening.{Opening}
 use Rattle.ice_settled.specs.declared.settled.Closing.{Closing}
+use Rattle.ice_settled.specs.declared.settled.Charged.{Charged}
 use Rattle.ice_settled.specs.declared.settled.Halt.{Halt}
 use Rattle.ice_write.proofs.Groups.{group_are_records}
 use Rattle.ice_write_session.specs.Records.{member_record, rival_records, provisional_records, without_records, regret_records, opening_records, spent_records, found_final, found_regret, found_provisional, halt_records, closing_records, limit_records}
-use Rattle.ice_write_session.specs.Writable.{IsWritable, IsWritableRegret, IsWritableSettlement, IsWritableRow, AreWritableWithout, IsWritableOpening, IsWritablePayment, IsWritableClosing, IsWritableHalt, IsWritableMember, IsWritableLimit}
+use Rattle.ice_write_session.specs.Writable.{IsWritable, IsWritableRegret, IsWritableSettlement, IsWritableRow, AreWritableWithout, IsWritableOpening, IsWritablePayment, IsWritableClosing, IsWritableCharged, IsWritableHalt, IsWritableMember, IsWritableLimit}
 
 group_are : (goods : ℕ) (first : Record) (p : Proved) → IsRecord first → IsWritable goods p → AllByRecursion IsRecord (group_records version_2 goods first p)
 group_are goods first p is may = group_are_records first goods p.sets p.log is may.group
@@ -101,6 +103,19 @@ closing_are_records c may =
     (withouts_are goods 0 c.marginals.items (omega (arith, may.withouts.few)) may.withouts.each))
     ((may.cut, may.surplus), payments_are (closed_of c.exchange c).payments may.payments))
     (tt, tt)
+
+-- what is put behind the groups without each bidder may be written where all of it may
+pub charged_may : (c : Charged) (ms : Vec Marginal) → c.vickreys.items ≡ discounts_of ms.items → IsWritableClosing (closing_with c ms) → IsWritableCharged c
+charged_may c ms same may =
+    let names = names_of c.exchange in
+    let ds = c.payments.discounts.items in
+    let ps = c.payments.payments.items in
+    record {
+      cut = may.cut;
+      surplus = may.surplus;
+      payments_count = subst (λ (vs : List ℤ). length (payments_of names vs ds ps) ≡ length c.exchange.bidders) (sym same) may.payments_count;
+      payments = subst (λ (vs : List ℤ). AllByRecursion IsWritablePayment (payments_of names vs ds ps)) (sym same) may.payments;
+    }
 
 -- where the head is a record too
 pub spent_are_records : (ex : Exchange) (s : Spent) → IsWritable (length (exact_of ex)) (proved_spent s) → IsRecord (line.spent s.value s.bound) → AllByRecursion IsRecord (spent_records ex s)

@@ -18,9 +18,10 @@ use Rattle.ice_pricing.specs.declared.certificate.Pricing.{Pricing}
 use Rattle.ice_price.specs.declared.ends.PriceLimit.{PriceLimit}
 use Rattle.ice_vickrey.specs.Marginals.{proved_without}
 use Rattle.ice_vickrey.specs.declared.marginal.Marginal.{Marginal}
-use Rattle.ice_settled.specs.Shown.{settlement_of, closed_of, going_of}
+use Rattle.ice_settled.specs.Shown.{settlement_of, closed_of, charges_of, going_of}
 use Rattle.ice_settled.specs.declared.settled.Opening.{Opening}
 use Rattle.ice_settled.specs.declared.settled.Closing.{Closing}
+use Rattle.ice_settled.specs.declared.settled.Charged.{Charged}
 use Rattle.ice_settled.specs.declared.settled.Halt.{Halt}
 
 abbrev pub member_record : Member → Record
@@ -82,9 +83,8 @@ module _ (ex : Exchange) where
       line.settle number ∷ found_final best ++ found_regret regret ++ without_records done ++ found_provisional provisional
 
 -- what the settlement that closes a session has behind the groups without each bidder
-abbrev pub charged_records : Closing → List Record
-charged_records c =
-    line.threshold c.payments.cut c.payments.surplus ∷ map payment_record (closed_of c.exchange c).payments ++ line.end closed_end ∷ []
+abbrev pub charged_records : Charged → List Record
+charged_records c = line.threshold c.payments.cut c.payments.surplus ∷ map payment_record (charges_of c) ++ line.end closed_end ∷ []
 
 -- prices with their certificates
 abbrev pub pricing_records : Pricing → List Record

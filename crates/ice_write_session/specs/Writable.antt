@@ -14,9 +14,10 @@ use Rattle.ice_regret.specs.declared.lead.Regret.{Regret}
 use Rattle.ice_regret.specs.Regretted.{proved_rival}
 use Rattle.ice_journal.specs.Ranges.{IsTotal, IsDen, IsViolationField, IsFractionField, IsRecord}
 use Rattle.ice_journal_laws.specs.Written.{row_record, payment_record}
-use Rattle.ice_settled.specs.Shown.{settlement_of, closed_of}
+use Rattle.ice_settled.specs.Shown.{settlement_of, closed_of, charges_of}
 use Rattle.ice_settled.specs.declared.settled.Opening.{Opening}
 use Rattle.ice_settled.specs.declared.settled.Closing.{Closing}
+use Rattle.ice_settled.specs.declared.settled.Charged.{Charged}
 use Rattle.ice_settled.specs.declared.settled.Halt.{Halt}
 use Rattle.ice_write.specs.Writable.{AreWritable}
 use Rattle.ice_write_session.specs.Records.{member_record}
@@ -73,6 +74,13 @@ pub record IsWritableClosing (c : Closing) : Type 0 where
   pub surplus : IsFractionField c.payments.surplus
   pub payments_count : length (closed_of c.exchange c).payments ≡ length c.exchange.bidders
   pub payments : AllByRecursion IsWritablePayment (closed_of c.exchange c).payments
+
+-- what is put behind the groups without each bidder: one payment for each bidder
+pub record IsWritableCharged (c : Charged) : Type 0 where
+  pub cut : IsFractionField c.payments.cut
+  pub surplus : IsFractionField c.payments.surplus
+  pub payments_count : length (charges_of c) ≡ length c.exchange.bidders
+  pub payments : AllByRecursion IsWritablePayment (charges_of c)
 
 -- as far as it came
 pub record IsWritableHalt (h : Halt) : Type 0 where

@@ -21,4 +21,4 @@ pub use pricing::{put_accuracy, put_pricing, put_rows};
 pub use record::{put_end, put_line};
 pub use regret::{put_regret, put_settlement};
 pub use submission::put_judged;
-pub use without::put_last_without;
+pub use without::put_without;

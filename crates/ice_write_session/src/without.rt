@@ -1,5 +1,5 @@
 //! What a market is worth without each bidder.
-ghost use Rattle.std.specs.Prelude.{◌≡◌, ◌∷◌, ◌++◌, [], List, length};
+ghost use Rattle.std.specs.Prelude.{length};
 ghost use Rattle.ice_defs.specs.Exchange.{exact_of};
 ghost use Rattle.ice_edge.specs.Puts.{IsPut};
 ghost use Rattle.ice_journal.specs.Ranges.{IsBidderNumber};
@@ -14,8 +14,8 @@ use ice_trade::Exchange;
 use ice_vickrey::Marginal;
 use ice_write::put_group;
 
-/// Puts the group without this bidder.
-fn put_without<K: Sink>(
+/// Puts the group without the bidder of this number.
+fn put_numbered<K: Sink>(
     exchange: &Exchange,
     bidder: u8,
     marginal: &Marginal,
@@ -39,22 +39,19 @@ fn put_without<K: Sink>(
     )
 }
 
-/// Puts the group without the last of the first bidders, whose numbers are in the ranges of their
-/// records. It takes no memory.
-pub fn put_last_without<K: Sink>(
+/// Puts the group without a bidder. All numbers are in the ranges of their records. It takes no
+/// memory.
+pub fn put_without<K: Sink>(
     exchange: &Exchange,
-    marginals: &[Marginal],
+    marginal: &Marginal,
     out: &mut K,
 ) -> Result<(), SinkFault>
-    requires { AreWritableWithout (length (exact_of exchange.now)) marginals.now }
-    ensures { (before : List Marginal) (last : Marginal) → marginals.now ≡ before ++ last ∷ []
-        → IsPut (bytes_of (one_without exchange.now (length before) last)) result
+    requires bidder { IsBidderNumber marginal.now.bidder }
+    requires written { IsWritable (length (exact_of exchange.now)) (proved_without marginal.now) }
+    ensures { IsPut (bytes_of (one_without exchange.now marginal.now.bidder marginal.now)) result
         (K.taken out.old) (K.taken out.new) }
 {
-    match marginals.split_last() {
-        Some((last, before)) => put_without(exchange, before.len() as u8, last, out),
-        None => Ok(()),
-    }
+    put_numbered(exchange, marginal.bidder, marginal, out)
 }
 
 /// Puts the groups without the first bidders, in order.
@@ -68,7 +65,7 @@ pub(crate) fn put_withouts<K: Sink>(
         (K.taken out.old) (K.taken out.new) }
 {
     for bidder in 0..marginals.len() as u8 {
-        put_without(exchange, bidder, &marginals[usize::from(bidder)], out)?;
+        put_numbered(exchange, bidder, &marginals[usize::from(bidder)], out)?;
     }
     Ok(())
 }

@@ -1,17 +1,11 @@
-use Rattle.std.proofs.Common.{◌≡◌, ◌∙◌, ap, sym, subst, rules, arith, length, All, ℤ}
+use Rattle.std.proofs.Common.{◌≡◌, ◌∙◌, ap, sym, rules, arith, length, ℤ}
 use Rattle.std.proofs.lemmas.Int.{to_z-of_z}
-use Rattle.std.proofs.lemmas.List.{length-map}
 use mir.Syntax.{w128}
 use mir.Val.{SFits}
 use Rattle.ice_defs.specs.Sum.{sum_over}
 use Rattle.ice_headline_laws.specs.Right.{own_values}
 use Rattle.ice_headline_laws.proofs.OwnValues.{own_count, own_sum}
-use Rattle.ice_threshold.specs.Limits.{IsVickreyLimit}
 use Rattle.ice_trade.proofs.Weighted.{length-trees}
-use Rattle.ice_vickrey.specs.Economy.{economy_at}
-use Rattle.ice_vickrey.specs.declared.marginal.Marginal.{Marginal}
-use Rattle.ice_round.specs.Paying.{discounts_of}
-use Rattle.ice_round.proofs.Limiting.{vickrey_limits}
 use Rattle.ice_round.proofs.payments.pay.Goals as goal
 
 pub threshold-requires-clause-some : goal.threshold-requires-clause-some
@@ -27,13 +21,10 @@ threshold-requires-clause-few c =
 pub threshold-requires-clause-same_length : goal.threshold-requires-clause-same_length
 threshold-requires-clause-same_length c =
     let values : c.deref.result.now ≡ own_values c.args.bounds.now c.args.best.now.best = c.deref.ensures.value ∙ c.in_ok-values.ensures.value in
-    let vickreys : c.deref-2.result.now ≡ discounts_of c.args.marginals.now = c.deref-2.ensures.value ∙ c.in_ok-vickreys.ensures in
-    omega (arith, ap length values, ap length vickreys, own_count c.args.bounds.now c.args.best.now.best, length-map c.args.marginals.now (λ (m : Marginal). m.discount), c.requires.marginals.count, c.requires.bounds.same_length)
+    omega (arith, ap length values, own_count c.args.bounds.now c.args.best.now.best, c.requires.count, c.requires.bounds.same_length)
 
 pub threshold-requires-clause-limited : goal.threshold-requires-clause-limited
-threshold-requires-clause-limited c =
-    let vickreys : c.deref-2.result.now ≡ discounts_of c.args.marginals.now = c.deref-2.ensures.value ∙ c.in_ok-vickreys.ensures in
-    subst (All IsVickreyLimit) (sym vickreys) (vickrey_limits (economy_at c.args.exchange.now c.args.bounds.now c.args.best.now.value) 0 c.args.marginals.now c.requires.marginals.each)
+threshold-requires-clause-limited c = c.requires.limited
 
 pub threshold-requires-clause-summed : goal.threshold-requires-clause-summed
 threshold-requires-clause-summed c =

@@ -11,8 +11,8 @@ use Rattle.ice_write_session.specs.Writable.{IsWritable}
 use Rattle.ice_write_session.proofs.Withouts.{groups_from, without_opens}
 use Rattle.ice_write_session.proofs.without.put_withouts.Goals as goal
 
-pub returns-in_err-put_without : goal.returns-in_err-put_without
-returns-in_err-put_without g c =
+pub returns-in_err-put_numbered : goal.returns-in_err-put_numbered
+returns-in_err-put_numbered g c =
     let goods = length (exact_of c.args.exchange.now) in
     let ms = c.args.marginals.now in
     let i = c.loop-bidder.bidder in
@@ -22,7 +22,7 @@ returns-in_err-put_without g c =
     let p = err_from_is_err_and c.from_residual.result c.from_residual.ensures.1 in
     fails_as (groups_from goods 0 ms) (groups_from goods 0 ms) c.from_residual.result p.0 p.1 refl
     (next_fails (bytes_of (group_records version_2 goods (line.without i m.without) (proved_without m))) (groups_from goods (i + 1) (drop (i + 1) ms)) (groups_from goods i (drop i ms)) (groups_from goods 0 ms)
-    (without_opens goods ms i m there is) c.loop-bidder.invariant.left c.in_err-put_without.ensures)
+    (without_opens goods ms i m there is) c.loop-bidder.invariant.left c.in_err-put_numbered.ensures)
 
 pub loop-bidder-preserved : goal.loop-bidder-preserved
 loop-bidder-preserved g c =
@@ -35,5 +35,5 @@ loop-bidder-preserved g c =
     record {
       each = (next_all (λ x. IsWritable goods (proved_without x)) ms i m there c.loop-bidder.invariant.each).1;
       left = next_taken (bytes_of (group_records version_2 goods (line.without i m.without) (proved_without m))) (groups_from goods (i + 1) (drop (i + 1) ms)) (groups_from goods i (drop i ms)) (groups_from goods 0 ms)
-          (without_opens goods ms i m there is) c.loop-bidder.invariant.left c.in_ok-put_without.ensures;
+          (without_opens goods ms i m there is) c.loop-bidder.invariant.left c.in_ok-put_numbered.ensures;
     }

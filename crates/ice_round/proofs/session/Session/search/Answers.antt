@@ -1,11 +1,10 @@
-use Rattle.std.proofs.Common.{ap, sym, subst, arith, List}
+use Rattle.std.proofs.Common.{ap, sym, subst, arith, refl, List, []}
 use Rattle.ice_defs.specs.Bounds.{Bounds}
 use Rattle.ice_defs.specs.Steps.{branch_count}
 use Rattle.ice_defs.specs.Exchange.{trees_of}
 use Rattle.ice_defs.specs.Conditions.{AreBoundsOf}
 use Rattle.ice_search.specs.Results.{IsFoundBy, IsEnd}
 use Rattle.ice_regret.specs.Regretted.{IsRegretOf, lower_search, rival_search}
-use Rattle.ice_vickrey.specs.Marginals.{branches_of}
 use Rattle.ice_round.specs.Kept.{session_at}
 use Rattle.ice_verdicts.proofs.Bounded.{round_bounds}
 use Rattle.ice_round.proofs.Settlements.{begun_settling}
@@ -38,10 +37,14 @@ invariant_of-result c =
     let regret = c.in-Ok-regret_among_ties.regret in
     record {
       session = c.requires;
-      found = begun_settling s best regret c.new-done.result.items (record { bounds = round_bounds s.exchange c.args.self.judge c.requires.round; number = c.requires.number; branches = c.requires.branches })
-          (subst (λ (bs : List Bounds). IsFoundBy (lower_search s.exchange bs) best) c.bounds.ensures c.in-Ok-regret_among_ties.ensures.found)
-          (subst (λ (bs : List Bounds). IsRegretOf s.exchange bs best.best regret) c.bounds.ensures c.in-Ok-regret_among_ties.ensures.regret) c.new-done.ensures.items;
-      branches = omega (arith, ap branch_count c.in-Ok-regret_among_ties.ensures.log, c.in-Ok.ensures.branches, c.in-Ok-regret_among_ties.ensures.branches, ap branches_of c.new-done.ensures.items);
+      done = [];
+      found = record {
+        found = begun_settling s best regret [] (record { bounds = round_bounds s.exchange c.args.self.judge c.requires.round; number = c.requires.number; branches = c.requires.branches })
+            (subst (λ (bs : List Bounds). IsFoundBy (lower_search s.exchange bs) best) c.bounds.ensures c.in-Ok-regret_among_ties.ensures.found)
+            (subst (λ (bs : List Bounds). IsRegretOf s.exchange bs best.best regret) c.bounds.ensures c.in-Ok-regret_among_ties.ensures.regret) refl;
+        discounts = c.new-discounts.ensures.items;
+        branches = omega (arith, ap branch_count c.in-Ok-regret_among_ties.ensures.log, c.in-Ok.ensures.branches, c.in-Ok-regret_among_ties.ensures.branches);
+      };
     }
 
 pub returns-clause-settling : goal.returns-clause-settling
@@ -49,6 +52,10 @@ returns-clause-settling c =
     let s = session_at c.args.self in
     let best = c.regret_among_ties.new.best in
     let regret = c.in-Ok-regret_among_ties.regret in
-    begun_settling s best regret c.new-done.result.items (record { bounds = round_bounds s.exchange c.args.self.judge c.requires.round; number = c.requires.number; branches = c.requires.branches })
-    (subst (λ (bs : List Bounds). IsFoundBy (lower_search s.exchange bs) best) c.bounds.ensures c.in-Ok-regret_among_ties.ensures.found)
-    (subst (λ (bs : List Bounds). IsRegretOf s.exchange bs best.best regret) c.bounds.ensures c.in-Ok-regret_among_ties.ensures.regret) c.new-done.ensures.items
+    record {
+      found = begun_settling s best regret [] (record { bounds = round_bounds s.exchange c.args.self.judge c.requires.round; number = c.requires.number; branches = c.requires.branches })
+          (subst (λ (bs : List Bounds). IsFoundBy (lower_search s.exchange bs) best) c.bounds.ensures c.in-Ok-regret_among_ties.ensures.found)
+          (subst (λ (bs : List Bounds). IsRegretOf s.exchange bs best.best regret) c.bounds.ensures c.in-Ok-regret_among_ties.ensures.regret) refl;
+      discounts = c.new-discounts.ensures.items;
+      branches = omega (arith, ap branch_count c.in-Ok-regret_among_ties.ensures.log, c.in-Ok.ensures.branches, c.in-Ok-regret_among_ties.ensures.branches);
+    }
