@@ -1,6 +1,7 @@
 """Want of memory: each request of a run refused in turn, alone and with all behind it, and limits
 of the system on what a run may have."""
 import re
+import subprocess
 import tempfile
 import unittest
 from collections.abc import Iterator, Sequence
@@ -8,7 +9,7 @@ from dataclasses import dataclass
 from pathlib import Path
 
 from harness.calls import CALLS, Word
-from harness.edge import Counts, counts, edge
+from harness.edge import Counts, Held, counts, edge, held
 from harness.program import IS_ALL, NO_MEMORY, ROOT, Program, Ran, programs
 
 EXAMPLES = ROOT / "examples"
@@ -95,6 +96,20 @@ class Memory(unittest.TestCase):
         behind = self.walk(["run", *GENERATED], 5, fail_on=1)
         self.assertLessEqual({b"settle", b"provisional", b"prices", b"without"}, behind)
 
+    def test_groups_that_stand_are_let_go(self) -> None:
+        # A step of a log takes more room than the bytes of its line. So who held the groups without
+        # each bidder to the end of the session held more than they have bytes.
+        market = [self.file.with_suffix(ending) for ending in (".json", ".t.json")]
+        drawn: list[str | Path] = [ROOT / "bench/market", "units", "2", "1", *market]
+        subprocess.run(drawn, stderr=subprocess.DEVNULL, check=True)
+        for program in programs():
+            with self.subTest(str(program)):
+                self.counts(program, ["run", *market])
+                ran = program.run(["run", *market], environment=edge(held=self.file))
+                first, behind = map(ran.output.index, (b"\nwithout 0 ", b"\nthreshold "))
+                writes = held(self.file)
+                self.assertLess(at_write(writes, behind) - at_write(writes, first), behind - first)
+
     def step(self, name: str) -> int:
         """Every request is refused of most calls, and of the long ones where all is tested."""
         return 1 if IS_ALL or name not in ("gen", "run, generated") else 10
@@ -116,6 +131,15 @@ class Memory(unittest.TestCase):
             ran = program.run(words, room=room)
             if (ran.status, ran.output) != (whole.status, whole.output):
                 self.is_front(ran, whole, str(words[0]))
+
+
+def at_write(writes: Sequence[Held], place: int) -> int:
+    """The bytes of memory that a run held as it wrote the byte at a place of its output."""
+    for write in writes:
+        if place < write.written:
+            return write.memory
+        place -= write.written
+    raise AssertionError("so much wasn't written")
 
 
 @dataclass(frozen=True)

@@ -7,7 +7,7 @@ import shutil
 import subprocess
 import tempfile
 import unittest
-from collections.abc import Mapping
+from collections.abc import Mapping, Sequence
 from dataclasses import dataclass
 from pathlib import Path
 
@@ -46,3 +46,16 @@ class Counts:
 def counts(file: Path) -> Counts:
     """What a run with `counts=file` has counted."""
     return Counts(*map(int, file.read_text().split()))
+
+
+@dataclass(frozen=True)
+class Held:
+    """The bytes of memory that a run holds as it writes, and those that it writes."""
+
+    memory: int
+    written: int
+
+
+def held(file: Path) -> Sequence[Held]:
+    """What a run with `held=file` has told, write by write."""
+    return [Held(*map(int, line.split())) for line in file.read_text().splitlines()]

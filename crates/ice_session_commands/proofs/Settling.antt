@@ -199,11 +199,11 @@ one_more_records x y m e =
     ∙ sym (append_assoc (line.settle x.session.number ∷ regret_records x.session.exchange x.best x.regret) (without_records x.session.exchange x.done) (one_without x.session.exchange (length x.done) m))
 
 module _ (h next : Held) (done : List Marginal) (m : Marginal) (more : HasOneMore h m next) where
-  abbrev x : SettlingAt
-  x = settling_with h done
+  abbrev before : SettlingAt
+  before = settling_with h done
 
-  abbrev y : SettlingAt
-  y = settling_with next (done ++ m ∷ [])
+  abbrev behind : SettlingAt
+  behind = settling_with next (done ++ m ∷ [])
 
   same_session : next.session ≡ h.session
   same_session = ap (λ (z : Held). z.session) more.then
@@ -232,23 +232,23 @@ module _ (h next : Held) (done : List Marginal) (m : Marginal) (more : HasOneMor
   one_more_ends old mid new result takes ends going run =
       let ex : Exchange = h.session.exchange in
       let group : List Record = one_without ex (length done) m in
-      let ended = subst (λ (s : SessionAt). WritesBehind (run_records s.exchange going ++ settling_records y) (EndsSettling going s) mid new result) same_session (ends going (still_running going run)) in
-      piece_then (run_records ex going ++ settling_records x) (EndsSettling going h.session) group result old mid new
+      let ended = subst (λ (s : SessionAt). WritesBehind (run_records s.exchange going ++ settling_records behind) (EndsSettling going s) mid new result) same_session (ends going (still_running going run)) in
+      piece_then (run_records ex going ++ settling_records before) (EndsSettling going h.session) group result old mid new
       (subst (λ (s : SessionAt). Takes (bytes_of (one_without s.exchange (length done) m)) old mid) same_session takes)
       (subst (λ (rs : List Record). WritesBehind rs (EndsSettling going h.session) mid new result)
-      (ap (λ (rs : List Record). run_records ex going ++ rs) (one_more_records x y m grown) ∙ sym (append_assoc (run_records ex going) (settling_records x) group)) ended)
+      (ap (λ (rs : List Record). run_records ex going ++ rs) (one_more_records before behind m grown) ∙ sym (append_assoc (run_records ex going) (settling_records before) group)) ended)
 
   pub one_more_fails : (old new : Taken) → IsSettling (settling_with next (done ++ m ∷ [])) → IsTrue (closes next.session.exchange.settings next.session.number next.regret.amount) → FailsIn (bytes_of (one_without next.session.exchange (length done) m)) old new
       → EndsBehind (settling_with h done) old new WriteFault
   one_more_fails old new found closing fails going run =
       let ex : Exchange = h.session.exchange in
       let group : List Record = one_without ex (length done) m in
-      let unended = settling_is_unended going y (still_running going run) found (inl closing) in
-      let ends : EndsSettling going next.session (run_records next.session.exchange going ++ settling_records y) NoMemory = finds (before_without (settlement_of next.best next.regret) (map proved_without y.done)) unended in
-      failed_piece (run_records ex going ++ settling_records x) (EndsSettling going h.session) group NoMemory old new
+      let unended = settling_is_unended going behind (still_running going run) found (inl closing) in
+      let ends : EndsSettling going next.session (run_records next.session.exchange going ++ settling_records behind) NoMemory = finds (before_without (settlement_of next.best next.regret) (map proved_without behind.done)) unended in
+      failed_piece (run_records ex going ++ settling_records before) (EndsSettling going h.session) group NoMemory old new
       (subst (λ (rs : List Record). EndsSettling going h.session rs NoMemory)
-      (ap (λ (rs : List Record). run_records ex going ++ rs) (one_more_records x y m grown) ∙ sym (append_assoc (run_records ex going) (settling_records x) group))
-      (subst (λ (s : SessionAt). EndsSettling going s (run_records s.exchange going ++ settling_records y) NoMemory) same_session ends))
+      (ap (λ (rs : List Record). run_records ex going ++ rs) (one_more_records before behind m grown) ∙ sym (append_assoc (run_records ex going) (settling_records before) group))
+      (subst (λ (s : SessionAt). EndsSettling going s (run_records s.exchange going ++ settling_records behind) NoMemory) same_session ends))
       (subst (λ (s : SessionAt). FailsIn (bytes_of (one_without s.exchange (length done) m)) old new) same_session fails)
 
 pub last_writable : (goods : ℕ) (ms : List Marginal) (m : Marginal) → AllByRecursion (λ x. IsWritable goods (proved_without x)) (ms ++ m ∷ []) → IsWritable goods (proved_without m)
@@ -258,7 +258,7 @@ last_writable goods (x ∷ ms) m all = last_writable goods ms m all.1
 -- ---- the payments
 
 -- a list with the place of another one
-listed : {X : Type 0} → Vec X → (ms : List Marginal) → length ms < 2 ^ 63 → Vec Marginal
+abbrev listed : {X : Type 0} → Vec X → (ms : List Marginal) → length ms < 2 ^ 63 → Vec Marginal
 listed v ms small = record { ptr = v.ptr; len = length ms; cap = length ms; alloc = v.alloc; items = ms; ok = (refl, omega arith); small = small }
 
 settled_as : (x : SettlingAt) (c : Closing) → IsClosing x.session c → IsChargedFor x c
@@ -282,19 +282,19 @@ charged_is x c ms same is made =
     ∙ append_assoc (settling_records x) charges last
 
 -- they are at most 40
-few : (going : List Going) (h : Held) (done : List Marginal) → IsRunning going h.session → HasFound h done → length done < 2 ^ 63
-few going h done run has = omega (arith, (settling_may_be_written going (settling_with h done) run has.found).withouts.few)
+is_few : (going : List Going) (h : Held) (done : List Marginal) → IsRunning going h.session → HasFound h done → length done < 2 ^ 63
+is_few going h done run has = omega (arith, (settling_may_be_written going (settling_with h done) run has.found).withouts.few)
 
 pub charged_may_be_written : (going : List Going) (h : Held) (c : Charged) → IsRunning going h.session → (done : List Marginal) → HasFound h done → IsChargeOf h c → IsWritableCharged c
 charged_may_be_written going h c run done has is =
-    let ms = listed c.bounds done (few going h done run has) in
+    let ms = listed c.bounds done (is_few going h done run has) in
     charged_may c ms (is.vickreys ∙ has.discounts) (closing_may_be_written going h.session (closing_with c ms) run (is.closing ms has))
 
 pub ends_charged : (h : Held) (done : List Marginal) (c : Charged) (old new : Taken) (result : Status) → HasFound h done → IsChargeOf h c → IsSaid (bytes_of (charged_records c)) Done old new result → EndsBehind (settling_with h done) old new result
 ends_charged h done c old new result has is said going run =
     let s = h.session in
     let x = settling_with h done in
-    let ms = listed c.bounds done (few going h done run has) in
+    let ms = listed c.bounds done (is_few going h done run has) in
     let closing = is.closing ms has in
     said_piece (run_records s.exchange going ++ settling_records x) (EndsSettling going s) (charged_records c) Done result old new
     (subst (λ (rs : List Record). EndsSettling going s rs Done)
