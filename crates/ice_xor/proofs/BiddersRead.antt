@@ -1,5 +1,5 @@
 -- Bidders that are read one after another.
-use Rattle.std.proofs.Common.{◌≡◌, ℕ, suc, ◌+◌, ◌<◌, false, List, [], ◌∷◌, ◌++◌, length, drop, get_or, Some, Ok, Err, sym, ap, ◌∙◌, subst, arith, add-one, drop-cons}
+use Rattle.std.proofs.Common.{◌≡◌, ℕ, suc, ◌<◌, false, List, [], ◌∷◌, ◌++◌, length, drop, get_or, Some, Ok, Err, sym, ap, ◌∙◌, subst, arith, drop-cons}
 use Rattle.std.specs.Prelude.{codes}
 use Rattle.std.specs.List.{IsDistinct, list_any}
 use Rattle.std.specs.Str.{bytes_eq}
@@ -56,9 +56,3 @@ module _ (goods : List (List ℕ)) (path : Path) (vs : List Value) (i : ℕ) (bi
 
   pub bad-bidder : (fault : FileFault) → flat_bidders_with goods (at_index path i) bidders (view v) ≡ Err fault → flat_bidders_from goods path i bidders (items_view (drop i vs)) ≡ Err fault
   bad-bidder fault read = here ∙ ap (λ r. r >>= λ more. flat_bidders_from goods path (suc i) more (items_view (drop (suc i) vs))) read
-
-  pub next-bidder : (more : List FlatBidder) → flat_bidders_with goods (at_index path i) bidders (view v) ≡ Ok more
-      → flat_bidders_from goods path i bidders (items_view (drop i vs)) ≡ flat_bidders_from goods path (i + 1) more (items_view (drop (i + 1) vs))
-  next-bidder more read =
-      here ∙ ap (λ r. r >>= λ more. flat_bidders_from goods path (suc i) more (items_view (drop (suc i) vs))) read
-      ∙ ap (λ n. flat_bidders_from goods path n more (items_view (drop n vs))) (sym (add-one i))

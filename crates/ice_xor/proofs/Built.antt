@@ -183,10 +183,6 @@ under_root most ps = record {
   parents = (omega arith, before-packages 1 (suc (length (packages_nodes 1 ps))) ps (omega arith) (omega arith));
 }
 
--- the root is not refused
-pub refused-root : (goods : ℕ) (b : FlatBidder) → tree_refusal goods b ≡ packages_left goods 1 b.packages
-refused-root goods b = refl
-
 -- the next package, and those behind it
 pub left-more : (goods number : ℕ) (p : Package) (later : List Package) → packages_left goods number (p ∷ later) ≡ or_later (package_refusal goods number p) (packages_left goods (suc (number + length p.units)) later)
 left-more goods number p later =

@@ -51,9 +51,6 @@ nodes-few goods number (n ∷ m ∷ t) (lo ∷ los) (hi ∷ his) l h some e =
 
 -- ---- depths
 
-pub depth-root : (parent : ℕ) → depth_of 0 parent ≡ 1
-depth-root parent = refl
-
 pub depth-package : (number : ℕ) → 0 < number → depth_of number 0 ≡ 2
 depth-package number some = ap (λ b. let d : ℕ = cond b 1 2 in d) (ne_eqb number 0 (λ e. absurd (omega (arith, e, some))))
 

@@ -1,5 +1,5 @@
 -- How far a package, and a tree of packages, is built: the state of each loop.
-use Rattle.std.proofs.Common.{ℕ, suc, ◌+◌, ◌<◌, ◌≤◌, ◌≡◌, min, [], ◌∷◌, ◌++◌, length, take, drop, get_or, Some, None, pos, refl, sym, ap, ◌∙◌, subst, arith, add-one, drop-cons}
+use Rattle.std.proofs.Common.{ℕ, suc, ◌+◌, ◌<◌, ◌≤◌, ◌≡◌, min, [], ◌∷◌, ◌++◌, length, take, drop, get_or, Some, None, pos, sym, ap, ◌∙◌, subst, arith, add-one, drop-cons}
 use Rattle.std.proofs.lemmas.List.{take_more, drop_all, take_all, length-take-le}
 use Rattle.ice_defs.specs.declared.NodeKind.TheVariants.{Choose}
 use Rattle.ice_defs.specs.Making.{TreeDraft, with_node, with_open, node_refusal, draft_refusal}
@@ -8,7 +8,7 @@ use Rattle.ice_xor.specs.declared.units.GoodUnits.{GoodUnits}
 use Rattle.ice_xor.specs.FlatBids.{Package, FlatBidder, leaf_kind}
 use Rattle.ice_xor.specs.Translating.{depth_of, or_later, tree_refusal}
 use Rattle.ice_xor.specs.Building.{IsUnderRoot, package_refusal, with_package}
-use Rattle.ice_xor.proofs.Built.{packed, left, opened-first, refused-first, packed-more, refused-leaf, closes, packed-whole, few-leaves, built, packages_left, built-more, under_root, refused-root, left-more, length-built, closes-root}
+use Rattle.ice_xor.proofs.Built.{packed, left, opened-first, refused-first, packed-more, refused-leaf, closes, packed-whole, few-leaves, built, packages_left, built-more, under_root, left-more, length-built, closes-root}
 
 -- ---- a package, leaf by leaf
 
@@ -87,9 +87,6 @@ pub record IsBuilding (goods : ℕ) (b : FlatBidder) (most : ℕ) (now : TreeDra
   pub rest : tree_refusal goods b ≡ packages_left goods (length now.tree) (drop i b.packages)
 
 module _ (goods : ℕ) (b : FlatBidder) (most : ℕ) where
-  pub building-begun : IsBuilding goods b most (built most []) 0
-  building-begun = record { is = refl; rest = refused-root goods b }
-
   pub building-root : (now : TreeDraft) (i : ℕ) → IsBuilding goods b most now i → IsUnderRoot now
   building-root now i building = subst IsUnderRoot (sym building.is) (under_root most (take i b.packages))
 

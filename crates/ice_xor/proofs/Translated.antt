@@ -1,14 +1,11 @@
 -- How far an exchange is translated: the state of the loop over the bidders.
-use Rattle.std.proofs.Common.{ℕ, zero, suc, ◌+◌, ◌<◌, ◌≡◌, false, cond, ◌||◌, eqb, List, [], ◌∷◌, ◌++◌, length, map, take, drop, get_or, Option, Some, None, refl, sym, ap, ◌∙◌, subst, arith, rules, add-one, drop-cons}
+use Rattle.std.proofs.Common.{ℕ, suc, ◌+◌, ◌<◌, ◌≡◌, List, [], ◌∷◌, ◌++◌, length, map, take, drop, get_or, Option, Some, None, refl, sym, ap, ◌∙◌, rules, add-one, drop-cons}
 use Rattle.std.specs.Prelude.{IsSome}
-use Rattle.std.specs.List.{AllByRecursion}
-use Rattle.std.proofs.lemmas.Bool.Decides.{nat_tests}
-use Rattle.std.proofs.lemmas.List.{take_more, drop_all, take_all, map-append, length-map}
+use Rattle.std.proofs.lemmas.List.{take_more, map-append}
 use Rattle.ice_defs.specs.Exchange.{Bidder, Exchange}
-use Rattle.ice_defs.specs.Making.{bidder_refusal, exchange_refusal}
+use Rattle.ice_defs.specs.Making.{bidder_refusal}
 use Rattle.ice_trade.specs.Parts.{with_bidder}
-use Rattle.ice_xor.specs.FlatBids.{FlatBidder, FlatExchange, translation, translated_bidder}
-use Rattle.ice_xor.specs.Lawful.{IsFlatExchange}
+use Rattle.ice_xor.specs.FlatBids.{FlatBidder, FlatExchange, translated_bidder}
 use Rattle.ice_xor.specs.Translating.{or_later, tree_refusal, refusal_of, refusal_from, translate_refusal}
 
 -- these bidders so far, and what is left decides
@@ -19,14 +16,6 @@ pub record IsTranslating (flat : FlatExchange) (ex : Exchange) (i : ℕ) : Type 
 -- what is due at a bidder
 abbrev pub due_at : ℕ → List Bidder → FlatBidder → Option ℕ
 due_at goods made b = or_later (tree_refusal goods b) (bidder_refusal goods made (translated_bidder b))
-
-pub translating-begun : (flat : FlatExchange) (ex : Exchange) → ex ≡ record { settings = flat.settings; goods = flat.goods; bidders = [] } → IsTranslating flat ex 0
-translating-begun flat ex is = record { is = is; rest = ap (λ (e : Exchange). refusal_from (length flat.goods) 0 e.bidders flat.bidders) (sym is) }
-
-pub at_bidder : {X : Type 0} (P : X → Type 0) (xs : List X) (i : ℕ) (x : X) → AllByRecursion P xs → i < length xs → x ≡ get_or xs i x → P x
-at_bidder P [] i x all l item = absurd (omega arith)
-at_bidder P (y ∷ xs) zero x all l item = subst P (sym item) all.0
-at_bidder P (y ∷ xs) (suc i) x all l item = at_bidder P xs i x all.1 (omega arith) item
 
 module _ (flat : FlatExchange) (ex : Exchange) (i : ℕ) (b : FlatBidder) (translating : IsTranslating flat ex i) (there : i < length flat.bidders) (item : b ≡ get_or flat.bidders i b) where
   next : translate_refusal flat ≡ refusal_of i (due_at (length flat.goods) ex.bidders b) (refusal_from (length flat.goods) (suc i) (ex.bidders ++ translated_bidder b ∷ []) (drop (suc i) flat.bidders))
@@ -53,25 +42,6 @@ module _ (flat : FlatExchange) (ex : Exchange) (i : ℕ) (b : FlatBidder) (trans
             ∙ ap (λ (e : Exchange). refusal_from (length flat.goods) (suc i) e.bidders (drop (suc i) flat.bidders)) (sym made)
             ∙ ap (λ n. refusal_from (length flat.goods) n after.bidders (drop n flat.bidders)) (sym (add-one i));
       }
-
-module _ (flat : FlatExchange) (ex : Exchange) (translating : IsTranslating flat ex (length flat.bidders)) where
-  pub translating-done : ex ≡ translation flat
-  translating-done = translating.is ∙ ap (λ bs. record { settings = flat.settings; goods = flat.goods; bidders = map translated_bidder bs }) (take_all (length flat.bidders) flat.bidders (omega arith))
-
-  pub translating-allowed : translate_refusal flat ≡ None
-  translating-allowed = translating.rest ∙ ap (refusal_from (length flat.goods) (length flat.bidders) ex.bidders) (drop_all (length flat.bidders) flat.bidders (omega arith))
-
-  pub translating-finishes : IsFlatExchange flat → exchange_refusal ex.goods ex.bidders ≡ None
-  translating-finishes lawful =
-      let goods : length ex.goods ≡ length flat.goods = ap (λ (e : Exchange). length e.goods) translating-done in
-      let bidders : length ex.bidders ≡ length flat.bidders = ap (λ (e : Exchange). length e.bidders) translating-done ∙ length-map flat.bidders translated_bidder in
-      some (length ex.goods) (length ex.bidders) (omega (arith, goods, lawful.goods_count.0)) (omega (arith, bidders, lawful.some))
-    where
-      some : (n m : ℕ) → 0 < n → 0 < m → cond {A = Option ℕ} (eqb n 0 || eqb m 0) (Some 16) None ≡ None
-      some n m a b =
-          let first : eqb n 0 ≡ false = grind (arith, nat_tests) in
-          let second : eqb m 0 ≡ false = grind (arith, nat_tests) in
-          ap (λ t. let o : Option ℕ = cond (t || eqb m 0) (Some 16) None in o) first ∙ ap (λ t. let o : Option ℕ = cond t (Some 16) None in o) second
 
 -- a refusal that is due has a number
 pub due_number : (due named : Option ℕ) → IsSome due → due ≡ named → (n : ℕ) × (named ≡ Some n) × (due ≡ Some n)
