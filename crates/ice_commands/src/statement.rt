@@ -1,10 +1,10 @@
 //! `statement`: what a closed session's journal says to one of its bidders.
-ghost use Rattle.std.specs.Prelude.{◌≡◌, IfOk, IfErr, OnOk};
+ghost use Rattle.std.specs.Prelude.{IfOk, IfErr};
 ghost use Rattle.ice_journal_laws.specs.Answers.{OfJournal};
 ghost use Rattle.ice_statement.specs.Judging.{HasStatement};
 ghost use Rattle.ice_command_parts.specs.Keeping.{KeepsTold};
-ghost use Rattle.ice_command_parts.specs.Parts.{AreFetched, Serves};
-ghost use Rattle.ice_commands.specs.Unwritten.{unwritten_status, IsUnwrittenOf, IsUnwritten};
+ghost use Rattle.ice_command_parts.specs.Parts.{Serves};
+ghost use Rattle.ice_commands.specs.Unwritten.{IsUnwrittenOf};
 ghost use Rattle.ice_commands.specs.StatementServed.{NotStated, IsStatementFault, StatementAnswers};
 
 use crate::check::JOURNAL_LIMIT;
@@ -31,30 +31,6 @@ fn judge_bytes(alloc: Global, bytes: &[u8], name: &str) -> Result<(), Unwritten>
     }
 }
 
-/// The bytes of the journal of this name, of which the bidder of that name has a statement, or why
-/// it has none.
-fn journal_of<H: Shelf>(
-    alloc: Global,
-    journal: &str,
-    name: &str,
-    shelf: &mut H,
-) -> Result<Vec<u8>, Unwritten>
-    ensures journal { IfOk result (λ bytes. OfJournal bytes.items (HasStatement name.now)
-        × AreFetched (H.told shelf.old) journal.now JOURNAL_LIMIT bytes.items) }
-    ensures unstated { IfErr result (IsUnwritten (NotStated name.now) (IsStatementFault name.now)
-        journal.now (H.told shelf.old) (H.told shelf.new)) }
-    ensures kept { OnOk result (H.told shelf.new ≡ H.told shelf.old) }
-    ensures kept_unstated { IfErr result (λ unwritten.
-        KeepsTold (H.told shelf.old) (H.told shelf.new) (unwritten_status unwritten)) }
-{
-    let bytes = match fetch(alloc, 1, journal, JOURNAL_LIMIT, shelf) {
-        Ok(bytes) => bytes,
-        Err(refusal) => return Err(Unwritten::Refused(refusal)),
-    };
-    judge_bytes(alloc, &bytes, name)?;
-    Ok(bytes)
-}
-
 /// Writes the statement of the bidder of this name: what the journal of a closed session, which
 /// passes every test, publishes, and what of it is the bidder's own; or why there is none. The
 /// journal is judged whole before the first line is put, and then no more memory is taken.
@@ -69,8 +45,11 @@ pub fn statement<H: Shelf, K: Sink>(
         (H.told shelf.old) (H.told shelf.new) (K.taken out.old) (K.taken out.new) result }
     ensures kept { KeepsTold (H.told shelf.old) (H.told shelf.new) result }
 {
-    match journal_of(alloc, journal, name, shelf) {
-        Ok(bytes) => ended(put_statement(&bytes, name.as_bytes(), out), Status::Done),
-        Err(unwritten) => unwritten.say(out),
+    match fetch(alloc, 1, journal, JOURNAL_LIMIT, shelf) {
+        Ok(bytes) => match judge_bytes(alloc, &bytes, name) {
+            Ok(()) => ended(put_statement(&bytes, name.as_bytes(), out), Status::Done),
+            Err(unwritten) => unwritten.say(out),
+        },
+        Err(refusal) => refusal.say(out),
     }
 }
