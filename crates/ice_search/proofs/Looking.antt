@@ -23,10 +23,6 @@ module _ (parts : List Part) (numbers : List ℕ) (value : ℤ) where
   higher_more n None is = tt
   higher_more n (Some place) is = (omega (arith, is.0), is.1, is.2)
 
-  pub higher_up : (n m : ℕ) (found : Option ℕ) → n ≤ m → IsHigher parts numbers value n found → IsHigher parts numbers value m found
-  higher_up n m None le is = tt
-  higher_up n m (Some place) le is = (omega (arith, is.0, le), is.1, is.2)
-
   above_more : (n : ℕ) (bound bound2 : ℤ) → IsAboveFirst parts numbers n bound → bound ≤ℤ bound2
       → ((part_at parts (slice_index numbers n)).split ≡ None → (part_at parts (slice_index numbers n)).key ≤ℤ bound2) → IsAboveFirst parts numbers (n + 1) bound2
   above_more n bound bound2 above le here i h = by (cases_lt i n)

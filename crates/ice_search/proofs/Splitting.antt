@@ -49,17 +49,8 @@ module _ (st : Standing) where
   pub free_there : (st2 : Standing) (b n : ℕ) → IsSameStanding st st2 → IsFreeNode st.trees st.marks b n → IsFreeNode st2.trees st2.marks b n
   free_there st2 b n same free = subst (λ ts. IsFreeNode ts st2.marks b n) (sym same.trees) (subst (λ xs. IsFreeNode st.trees xs b n) (sym same.marks) free)
 
-  pub free_back : (st2 : Standing) (b n : ℕ) → IsSameStanding st st2 → IsFreeNode st2.trees st2.marks b n → IsFreeNode st.trees st.marks b n
-  free_back st2 b n same free = subst (λ ts. IsFreeNode ts st.marks b n) same.trees (subst (λ xs. IsFreeNode st2.trees xs b n) same.marks free)
-
-  pub fit_there : (st2 : Standing) → IsSameStanding st st2 → AreFixingsOf st.trees st.marks → AreFixingsOf st2.trees st2.marks
-  fit_there st2 same fit = subst (λ ts. AreFixingsOf ts st2.marks) (sym same.trees) (subst (AreFixingsOf st.trees) (sym same.marks) fit)
-
   pub live_back : (st2 : Standing) (b n : ℕ) (m : Mark) → IsSameStanding st st2 → IsLive st2.trees (with_mark st2.marks b n m) → IsLive st.trees (with_mark st.marks b n m)
   live_back st2 b n m same live = live_there st.trees st2.trees (with_mark st2.marks b n m) (with_mark st.marks b n m) same.trees (ap (λ xs. with_mark xs b n m) same.marks) live
-
-  pub split_back : (st2 : Standing) (b n : ℕ) → IsSameStanding st st2 → IsSplitNode st2.trees st2.marks b n → IsSplitNode st.trees st.marks b n
-  split_back st2 b n same is = record { free = free_back st2 b n same is.free; must = live_back st2 b n Must same is.must; never = live_back st2 b n Never same is.never }
 
   pub none_back : (st2 : Standing) (b n : ℕ) → IsSameStanding st st2
       → (IsFreeNode st2.trees st2.marks b n → IsLive st2.trees (with_mark st2.marks b n Must) → ¬ IsLive st2.trees (with_mark st2.marks b n Never))
