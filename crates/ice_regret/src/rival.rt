@@ -9,8 +9,9 @@ ghost use Rattle.ice_regret.specs.Regretted.{IsRegretOf, rival_search};
 
 use crate::lead::Regret;
 use ice_best::Fixings;
+use ice_bound::Multipliers;
 use ice_refute::Log;
-use ice_search::{SearchEnd, search_alike};
+use ice_search::{Known, Problem, SearchEnd, search_from};
 use ice_trade::Exchange;
 use ice_tree::{AllWeights, Assignment, Bounds};
 use std::alloc::Global;
@@ -64,8 +65,14 @@ pub fn regret(
     let mut weights = AllWeights::new(alloc, trees)?;
     weights.fill_perturbed(bounds, chosen);
     let start = Fixings::free(alloc, trees)?;
-    let log = where_points(log, bounds);
-    let found = search_alike(alloc, exchange, &weights, &start, chosen, log, branches)?;
+    let problem = Problem::new(exchange, &weights, &start, chosen);
+    let zeros = Multipliers::zero(problem.goods());
+    let known = Known {
+        from: &zeros,
+        candidates: &[],
+        log: where_points(log, bounds),
+    };
+    let found = search_from(alloc, &problem, &known, branches)?;
     let value = found.best.value(trees, &weights);
     let amount = value - chosen.lower_value(bounds);
     Ok(Regret {

@@ -2,7 +2,7 @@
 use Rattle.std.specs.Prelude.{◌≤◌, Bool, List, length, sum_by, ℤ}
 use Rattle.ice_defs.specs.Tree.{Tree}
 use Rattle.ice_defs.specs.Set.{Weights}
-use Rattle.ice_defs.specs.Trade.{Assignment, IsFeasible, MeetsAll}
+use Rattle.ice_defs.specs.Trade.{Assignment, IsFeasible, MeetsAll, IsBest}
 use Rattle.ice_defs.specs.Bound.{Multipliers, IsBound}
 use Rattle.ice_defs.specs.Steps.{Side}
 use Rattle.ice_defs.specs.Sweep.{Sweeps, all_zero}
@@ -37,6 +37,10 @@ pub record IsInstance (x : Instance) : Type 0 where
   pub start : AreFixingsOf x.trees x.start
   pub feasible : IsFeasible x.trees x.exact x.first
   pub meets : MeetsAll x.first x.start
+
+-- the value of the best assignment that meets the marks
+abbrev pub IsBestOf : Instance → ℤ → Type 0
+IsBestOf x v = IsBest x.trees x.exact x.weights x.start v
 
 -- what holds of the parts of a search, and of the best assignment so far
 abbrev pub IsSearchOf : Instance → List Part → Type 0

@@ -2,10 +2,10 @@
 ghost use Rattle.std.specs.Prelude.{◌≡◌, ◌+◌, ◌^◌, ◌<◌, ◌≤◌, ◌∷◌, List, length, IfOk, IfErr};
 ghost use Rattle.ice_defs.specs.Exchange.{trees_of, exact_of};
 ghost use Rattle.ice_defs.specs.Steps.{Step as PlainStep, branch_count};
-ghost use Rattle.ice_defs.specs.Trade.{IsFeasible, MeetsAll, IsBest, IsBestOfAll};
-ghost use Rattle.ice_defs.specs.Conditions.{AreWeightsOf, AreFixingsOf, AreMultipliersOf};
+ghost use Rattle.ice_defs.specs.Trade.{IsBestOfAll};
+ghost use Rattle.ice_defs.specs.Conditions.{AreWeightsOf, AreMultipliersOf};
 ghost use Rattle.ice_refute.specs.Code.{step_of};
-ghost use Rattle.ice_search.specs.Instance.{instance_of, empty_search};
+ghost use Rattle.ice_search.specs.Instance.{IsBestOf, empty_search};
 ghost use Rattle.ice_search.specs.Results.{IsFoundBy, IsEnd};
 
 use crate::outline::{TRIED, is_tried_first, outline_of};
@@ -51,6 +51,7 @@ fn go_on(alloc: Global, begun: Progress, branches: &mut u32) -> Result<Found, Se
     requires parts { length begun.parts ≡ 1 }
     requires branches { branches.old ≤ 50000 }
     ensures found { IfOk result (IsFoundBy begun.entry.instance) }
+    ensures best { IfOk result (λ f. IsBestOf begun.entry.instance f.value) }
     ensures branches { IfOk result (λ f. branches.new + branch_count f.log ≡ branches.old) }
     ensures end { IfErr result (IsEnd begun.entry.instance branches.old branches.new) }
 {
@@ -93,6 +94,7 @@ fn search_planned(
     requires from { AreMultipliersOf problem.now.exact known.now.from.now }
     requires branches { branches.old ≤ 50000 }
     ensures found { IfOk result (IsFoundBy problem.now) }
+    ensures best { IfOk result (λ f. IsBestOf problem.now f.value) }
     ensures branches { IfOk result (λ f. branches.new + branch_count f.log ≡ branches.old) }
     ensures end { IfErr result (IsEnd problem.now branches.old branches.new) }
 {
@@ -104,9 +106,9 @@ fn search_planned(
     go_on(alloc, progress, branches)
 }
 
-/// A search that is tried with few of its branches first, where that may do, and planned where they
-/// don't suffice.
-fn search_in_turn(
+/// `search` with what searches before left: it is tried with few of its branches first, where that
+/// may do, and planned where they don't suffice.
+pub fn search_from(
     alloc: Global,
     problem: &Problem,
     known: &Known,
@@ -114,8 +116,11 @@ fn search_in_turn(
 ) -> Result<Found, SearchEnd>
     requires from { AreMultipliersOf problem.now.exact known.now.from.now }
     requires branches { branches.old ≤ 50000 }
+    // On success
     ensures found { IfOk result (IsFoundBy problem.now) }
+    ensures best { IfOk result (λ f. IsBestOf problem.now f.value) }
     ensures branches { IfOk result (λ f. branches.new + branch_count f.log ≡ branches.old) }
+    // On failure
     ensures end { IfErr result (IsEnd problem.now branches.old branches.new) }
 {
     if !is_tried_first(problem.goods(), known, *branches) {
@@ -137,38 +142,6 @@ fn search_in_turn(
     }
 }
 
-/// `search` with what searches before left.
-pub fn search_from(
-    alloc: Global,
-    exchange: &Exchange,
-    weights: &AllWeights,
-    start: &Fixings,
-    first: &Assignment,
-    known: &Known,
-    branches: &mut u32,
-) -> Result<Found, SearchEnd>
-    requires weights { AreWeightsOf (trees_of exchange.now) weights.now }
-    requires start { AreFixingsOf (trees_of exchange.now) start.now }
-    requires feasible { IsFeasible (trees_of exchange.now) (exact_of exchange.now) first.now }
-    requires meets { MeetsAll first.now start.now }
-    requires from { AreMultipliersOf (exact_of exchange.now) known.now.from.now }
-    requires branches { branches.old ≤ 50000 }
-    // On success
-    ensures found { IfOk result
-        (IsFoundBy (instance_of exchange.now weights.now start.now first.now)) }
-    ensures best { IfOk result
-        (λ f. IsBest (trees_of exchange.now) (exact_of exchange.now) weights.now start.now
-        f.value) }
-    ensures branches { IfOk result (λ f. branches.new + branch_count f.log ≡ branches.old) }
-    // On failure
-    ensures end { IfErr result
-        (IsEnd (instance_of exchange.now weights.now start.now first.now) branches.old
-        branches.new) }
-{
-    let problem = Problem::new(exchange, weights, start, first);
-    search_in_turn(alloc, &problem, known, branches)
-}
-
 /// The best feasible assignment that meets the start, with a log that refutes every greater one.
 /// The branches fall by the log's branch steps.
 ///
@@ -180,70 +153,23 @@ pub fn search_from(
 /// of the side that it splits is above the first assignment's value and no less than the best. The
 /// log of a spent search leaves such a step.
 ///
-/// Weights are at most 100,000,000,000 in size, the first assignment is feasible and meets the
-/// start, and there are at most 50,000 branches.
-pub fn search(
-    alloc: Global,
-    exchange: &Exchange,
-    weights: &AllWeights,
-    start: &Fixings,
-    first: &Assignment,
-    branches: &mut u32,
-) -> Result<Found, SearchEnd>
-    requires weights { AreWeightsOf (trees_of exchange.now) weights.now }
-    requires start { AreFixingsOf (trees_of exchange.now) start.now }
-    requires feasible { IsFeasible (trees_of exchange.now) (exact_of exchange.now) first.now }
-    requires meets { MeetsAll first.now start.now }
-    requires branches { branches.old ≤ 50000 }
+/// There are at most 50,000 branches.
+pub fn search(alloc: Global, problem: &Problem, branches: &mut u32) -> Result<Found, SearchEnd>
+    requires { branches.old ≤ 50000 }
     // On success
-    ensures found { IfOk result
-        (IsFoundBy (instance_of exchange.now weights.now start.now first.now)) }
-    ensures best { IfOk result
-        (λ f. IsBest (trees_of exchange.now) (exact_of exchange.now) weights.now start.now
-        f.value) }
+    ensures found { IfOk result (IsFoundBy problem.now) }
+    ensures best { IfOk result (λ f. IsBestOf problem.now f.value) }
     ensures branches { IfOk result (λ f. branches.new + branch_count f.log ≡ branches.old) }
     // On failure
-    ensures end { IfErr result
-        (IsEnd (instance_of exchange.now weights.now start.now first.now) branches.old
-        branches.new) }
+    ensures end { IfErr result (IsEnd problem.now branches.old branches.new) }
 {
-    search_alike(alloc, exchange, weights, start, first, None, branches)
-}
-
-/// `search`, where the log of a search may be known that is alike.
-pub fn search_alike(
-    alloc: Global,
-    exchange: &Exchange,
-    weights: &AllWeights,
-    start: &Fixings,
-    first: &Assignment,
-    log: Option<&Log>,
-    branches: &mut u32,
-) -> Result<Found, SearchEnd>
-    requires weights { AreWeightsOf (trees_of exchange.now) weights.now }
-    requires start { AreFixingsOf (trees_of exchange.now) start.now }
-    requires feasible { IsFeasible (trees_of exchange.now) (exact_of exchange.now) first.now }
-    requires meets { MeetsAll first.now start.now }
-    requires branches { branches.old ≤ 50000 }
-    // On success
-    ensures found { IfOk result
-        (IsFoundBy (instance_of exchange.now weights.now start.now first.now)) }
-    ensures best { IfOk result
-        (λ f. IsBest (trees_of exchange.now) (exact_of exchange.now) weights.now start.now
-        f.value) }
-    ensures branches { IfOk result (λ f. branches.new + branch_count f.log ≡ branches.old) }
-    // On failure
-    ensures end { IfErr result
-        (IsEnd (instance_of exchange.now weights.now start.now first.now) branches.old
-        branches.new) }
-{
-    let zeros = Multipliers::zero(exchange.goods());
+    let zeros = Multipliers::zero(problem.goods());
     let known = Known {
         from: &zeros,
         candidates: &[],
-        log,
+        log: None,
     };
-    search_from(alloc, exchange, weights, start, first, &known, branches)
+    search_from(alloc, problem, &known, branches)
 }
 
 /// `search` from nothing: with all nodes free, from the empty sets.
@@ -265,5 +191,6 @@ pub fn search_anew(
     let trees = exchange.trees();
     let start = Fixings::free(alloc, trees)?;
     let empty = Assignment::empty(alloc, trees)?;
-    search(alloc, exchange, weights, &start, &empty, branches)
+    let problem = Problem::new(exchange, weights, &start, &empty);
+    search(alloc, &problem, branches)
 }

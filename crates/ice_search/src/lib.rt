@@ -22,5 +22,6 @@ mod sweep;
 mod workspace;
 
 pub use candidates::is_feasible;
-pub use entry::{Known, search, search_alike, search_anew, search_from};
+pub use entry::{Known, search, search_anew, search_from};
+pub use problem::Problem;
 pub use results::{Found, SearchEnd, Spent};

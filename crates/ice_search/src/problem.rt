@@ -11,10 +11,11 @@ use ice_trade::Exchange;
 use ice_tree::{AllWeights, Assignment, Tree};
 use std::marker::Model;
 
-/// What a search is asked: the trees and goods of an exchange, weights, the marks to start from,
-/// and a feasible assignment that meets them.
+/// What a search is asked: for the best assignment of an exchange at these weights, of those that
+/// are feasible and meet the marks to start from. One of these is known, and the search begins with
+/// it.
 #[derive(Drop)]
-pub(crate) struct Problem<'a> {
+pub struct Problem<'a> {
     exchange: &'a Exchange,
     weights: &'a AllWeights,
     pub(crate) start: &'a Fixings,
@@ -33,8 +34,8 @@ impl<'a> Model for Problem<'a> {
 
 impl<'a> Problem<'a> {
     /// The weights and the marks are of the exchange's trees, and the first assignment is feasible
-    /// and meets the marks.
-    pub(crate) fn new(
+    /// and meets the marks. Weights are at most 100,000,000,000 in size.
+    pub fn new(
         exchange: &'a Exchange,
         weights: &'a AllWeights,
         start: &'a Fixings,
@@ -90,7 +91,7 @@ impl<'a> Problem<'a> {
     }
 
     /// The number of goods. The problem is a lawful one.
-    pub(crate) fn goods(&self) -> u8
+    pub fn goods(&self) -> u8
         ensures lawful { IsInstance self.now }
         ensures value { result ≡ length self.now.exact }
         ensures fits { result ≤ 32 }

@@ -5,7 +5,7 @@ ghost use Rattle.ice_defs.specs.Conditions.{AreWeightsOf};
 
 use crate::markets::{free, lower};
 use ice_refute::{Log, Step};
-use ice_search::{Found, SearchEnd, is_feasible, search};
+use ice_search::{Found, Problem, SearchEnd, is_feasible, search};
 use ice_trade::Exchange;
 use ice_tree::{AllWeights, Assignment};
 use std::alloc::Global;
@@ -67,7 +67,8 @@ pub(crate) fn search_at(
     if !is_feasible(exchange, &start, &first) {
         return Err("no trade is not feasible")?;
     }
-    let answer = search(alloc, exchange, weights, &start, &first, branches);
+    let problem = Problem::new(exchange, weights, &start, &first);
+    let answer = search(alloc, &problem, branches);
     Ok(answer)
 }
 

@@ -14,7 +14,7 @@ use crate::marginal::Marginal;
 use ice_best::{Fixings, Mark};
 use ice_bound::Multipliers;
 use ice_refute::Log;
-use ice_search::{Found, Known, SearchEnd, search_from};
+use ice_search::{Found, Known, Problem, SearchEnd, search_from};
 use ice_trade::Exchange;
 use ice_tree::{AllWeights, Assignment, Bounds};
 use std::alloc::{AllocError, Global};
@@ -118,17 +118,8 @@ impl<'a> Economy<'a> {
             candidates: &candidates,
             log: Some(self.log),
         };
-        let weights = &self.weights;
-        let empty = &self.empty;
-        let found = search_from(
-            alloc,
-            self.exchange,
-            weights,
-            &start,
-            empty,
-            &known,
-            branches,
-        )?;
+        let problem = Problem::new(self.exchange, &self.weights, &start, &self.empty);
+        let found = search_from(alloc, &problem, &known, branches)?;
         let without = found.best.lower_value(self.bounds);
         Ok(Marginal {
             bidder,

@@ -1,9 +1,7 @@
-use Rattle.std.proofs.Common.{◌≡◌, ◌∙◌, ap, sym, subst, rules, arith, List, ℤ, ◌-ℤ◌}
+use Rattle.std.proofs.Common.{◌≡◌, ◌∙◌, ap, sym, subst, rules, arith, ℤ, ◌-ℤ◌}
 use mir.Syntax.{w128}
 use mir.Val.{SFits}
 use Rattle.std.proofs.lemmas.Int.{to_z-of_z, ints}
-use Rattle.ice_defs.specs.Steps.{Side}
-use Rattle.ice_defs.specs.Set.{Weights}
 use Rattle.ice_defs.specs.Trade.{MeetsAll, IsBest, total_value}
 use Rattle.ice_defs.specs.Group.{free_side}
 use Rattle.ice_defs.specs.Searched.{IsFound}
@@ -11,18 +9,19 @@ use Rattle.ice_defs.specs.Weighing.{perturbed_weights}
 use Rattle.ice_defs.specs.Exchange.{trees_of, exact_of}
 use Rattle.ice_defs.specs.Conditions.{AreWeightsOf}
 use Rattle.ice_bound.proofs.Modest.{perturbed_modest}
-use Rattle.ice_search.specs.Instance.{instance_of}
+use Rattle.ice_search.specs.Instance.{Instance, IsBestOf, instance_of}
 use Rattle.ice_search.specs.Results.{IsFoundBy}
 use Rattle.ice_defs.proofs.Starts.{meets_free_side}
+use Rattle.ice_regret.specs.Regretted.{rival_search}
 use Rattle.ice_regret.proofs.Rivals.{rival_gives_regret}
 use Rattle.ice_regret.proofs.rival.regret.Goals as goal
 
-pub search_alike-requires-clause-weights : goal.search_alike-requires-clause-weights
-search_alike-requires-clause-weights c =
+pub new-problem-requires-clause-weights : goal.new-problem-requires-clause-weights
+new-problem-requires-clause-weights c =
     subst (AreWeightsOf (trees_of c.args.exchange.now)) (sym c.fill_perturbed.ensures.value) (perturbed_modest c.args.chosen.now (trees_of c.args.exchange.now) c.args.bounds.now c.requires.bounds)
 
-pub search_alike-requires-clause-meets : goal.search_alike-requires-clause-meets
-search_alike-requires-clause-meets c =
+pub new-problem-requires-clause-meets : goal.new-problem-requires-clause-meets
+new-problem-requires-clause-meets c =
     let start_is : c.in_ok-start.start ≡ free_side (trees_of c.args.exchange.now) = c.in_ok-start.ensures ∙ ap free_side c.trees-trees.ensures.value in
     subst (MeetsAll c.args.chosen.now) (sym start_is) (meets_free_side (trees_of c.args.exchange.now) c.args.chosen.now)
 
@@ -37,8 +36,9 @@ returns-clause-regret c =
     let v = c.value-value.result in
     let lower = c.lower_value.result in
     let start_is : c.in_ok-start.start ≡ free = c.in_ok-start.ensures ∙ ap free_side c.trees-trees.ensures.value in
-    let found = subst (λ (xs : Side). IsFoundBy (instance_of ex ws xs chosen) f) start_is (subst (λ (w : List Weights). IsFoundBy (instance_of ex w c.in_ok-start.start chosen) f) c.fill_perturbed.ensures.value c.in_ok-found.ensures.found) in
-    let best = subst (λ (xs : Side). IsBest (trees_of ex) (exact_of ex) ws xs f.value) start_is (subst (λ (w : List Weights). IsBest (trees_of ex) (exact_of ex) w c.in_ok-start.start f.value) c.fill_perturbed.ensures.value c.in_ok-found.ensures.best) in
+    let asked : c.new-problem.result ≡ rival_search ex bounds chosen = c.new-problem.ensures ∙ (λ i. instance_of ex (c.fill_perturbed.ensures.value i) (start_is i) chosen) in
+    let found = subst (λ (x : Instance). IsFoundBy x f) asked c.in_ok-found.ensures.found in
+    let best = subst (λ (x : Instance). IsBestOf x f.value) asked c.in_ok-found.ensures.best in
     let same : f.value ≡ v = sym found.found.attained.has ∙ ap (total_value f.best) (sym c.fill_perturbed.ensures.value) ∙ sym c.value-value.ensures.value in
     let v_fits : SFits w128 v = search rules in
     let lower_fits : SFits w128 lower = search rules in
