@@ -106,7 +106,8 @@ class Memory(unittest.TestCase):
             with self.subTest(str(program)):
                 self.counts(program, ["run", *market])
                 ran = program.run(["run", *market], environment=edge(held=self.file))
-                first, behind = map(ran.output.index, (b"\nwithout 0 ", b"\nthreshold "))
+                heads = map(ran.output.index, (b"\nwithout 0 ", b"\nthreshold "))
+                first, behind = (place + 1 for place in heads)
                 writes = held(self.file)
                 self.assertLess(at_write(writes, behind) - at_write(writes, first), behind - first)
 
