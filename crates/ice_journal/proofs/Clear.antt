@@ -17,10 +17,10 @@ use Rattle.ice_defs.specs.Fraction.{Fraction}
 use Rattle.ice_defs.specs.PricingLimit as limits
 use Rattle.ice_line.specs.Fields.{fields}
 use Rattle.ice_journal.specs.Records as line
-use Rattle.ice_journal.specs.Records.{Record, Change}
-use Rattle.ice_journal.specs.Ranges.{IsRecord, IsName, IsValue, IsTotal, IsMultiplier, IsDen, IsViolationField, IsFractionField, IsChange}
+use Rattle.ice_journal.specs.Records.{Record, Change, Numbered}
+use Rattle.ice_journal.specs.Ranges.{IsRecord, IsName, IsValue, IsTotal, IsMultiplier, IsDen, IsViolationField, IsFractionField, IsChange, IsToll, IsAmount}
 use Rattle.ice_journal.proofs.RecordParts.{some_field}
-use Rattle.ice_journal.specs.Spelling.{version_word, kind_word, end_word, stage_word, limit_word, bit_byte, fraction_text, counted_list, change_fields, fields_of, text_of}
+use Rattle.ice_journal.specs.Spelling.{version_word, kind_word, end_word, stage_word, limit_word, bit_byte, fraction_text, counted_list, change_fields, numbered_fields, numbers_fields, fields_of, text_of}
 
 -- bytes above the space
 abbrev pub is_clear : List ℕ → Bool
@@ -139,6 +139,24 @@ clear_changes [] h = tt
 clear_changes (c ∷ cs) h =
     subst AreClear (sym (flat_map-cons change_fields c cs)) (clear_decimal c.good (omega (arith, h.0.0)), (clear_multiplier c.multiplier h.0.1, clear_changes cs h.1))
 
+pub amount_toll : (n : Numbered) → IsAmount n → IsToll n
+amount_toll n h = (omega (arith, h.0), (grind (arith, ints, h.1.0), grind (arith, ints, h.1.1)))
+
+clear_toll : (z : ℤ) → IsBetween (neg_ℤ (pos (2 ^ 62))) (pos (2 ^ 62)) z → IsClear (signed_decimal z)
+clear_toll z h = clear_between (2 ^ 62) (2 ^ 62) z (omega arith) (omega arith) h
+
+clear_numbered : (ns : List Numbered) → AllByRecursion IsToll ns → AreClear (flat_map numbered_fields ns)
+clear_numbered [] h = tt
+clear_numbered (n ∷ ns) h =
+    subst AreClear (sym (flat_map-cons numbered_fields n ns)) (clear_decimal n.number (omega (arith, h.0.0)), (clear_toll n.amount h.0.1, clear_numbered ns h.1))
+
+clear_numbers : (ns : List Numbered) → length ns ≤ 300 → AllByRecursion IsToll ns → AreClear (numbers_fields ns)
+clear_numbers ns le h = (clear_decimal (length ns) (omega arith), clear_numbered ns h)
+
+pub amounts_tolls : (ns : List Numbered) → AllByRecursion IsAmount ns → AllByRecursion IsToll ns
+amounts_tolls [] h = tt
+amounts_tolls (n ∷ ns) h = (amount_toll n h.0, amounts_tolls ns h.1)
+
 clear_version : (v : line.Version) → IsClear (version_word v)
 clear_version line.version_1 = refl
 clear_version line.version_2 = refl
@@ -213,6 +231,9 @@ clear_record (line.step (branch b n)) h = (refl, (clear_decimal b (omega (arith,
 clear_record (line.step (leaf m)) h = (refl, clear_map IsMultiplier signed_decimal clear_multiplier m h.1)
 clear_record (line.step (dead b)) h = (refl, (clear_decimal b (omega (arith, h)), tt))
 clear_record (line.near cs) h = (refl, (clear_decimal (length cs) (omega (arith, h.0)), clear_changes cs h.2))
+clear_record (line.tolled ns) h = (refl, clear_numbers ns h.0.1 h.2)
+clear_record (line.derive l) h = (refl, (clear_between (2 ^ 40) (2 ^ 40) l (omega arith) (omega arith) h, tt))
+clear_record (line.amounts b ns) h = (refl, (clear_decimal b (omega (arith, h.0)), clear_numbers ns (omega (arith, h.1.0.1)) (amounts_tolls ns h.1.2)))
 clear_record (line.regret a) h = (refl, (clear_from 0 400000000000000 a (omega arith) h, tt))
 clear_record (line.prices p) h =
     (refl, (clear_den p.den h.den, clear_map (IsBetween (pos 0) (pos (2 ^ 62))) signed_decimal (λ x b. clear_from 0 (2 ^ 62) x (omega arith) b) p.nums h.each))

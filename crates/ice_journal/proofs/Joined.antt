@@ -1,11 +1,14 @@
 -- Fields that are written one after another stand with a space between each two.
-use Rattle.std.proofs.Common.{◌≡◌, ℕ, ◌+◌, ◌≤◌, List, [], ◌∷◌, ◌++◌, length, ℤ, refl, sym, ap, ◌∙◌, append_assoc, arith, length-append}
+use Rattle.std.proofs.Common.{◌≡◌, ℕ, ◌+◌, ◌<◌, ◌≤◌, ◌^◌, decimal, pos, neg_ℤ, List, [], ◌∷◌, ◌++◌, length, ℤ, refl, sym, ap, ◌∙◌, append_assoc, arith, length-append}
+use lib.Signed.{mag}
 use Rattle.std.specs.List.{join_with_byte}
 use Rattle.std.specs.Fmt.{signed_decimal}
-use Rattle.std.proofs.lemmas.Fmt.{length_signed_le}
+use Rattle.std.proofs.lemmas.Fmt.{length_signed_le, length-decimal-le}
+use Rattle.std.proofs.lemmas.Int.{ints}
 use Rattle.ice_line.specs.Writing.{with_field, with_fields}
-use Rattle.ice_line.proofs.Signed.{mag_abs}
+use Rattle.ice_line.proofs.Signed.{mag_abs, mag_between}
 use Rattle.ice_journal.specs.Records.{Record}
+use Rattle.ice_defs.specs.Exchange.{IsBetween}
 use Rattle.ice_journal.specs.Ranges.{IsValue}
 use Rattle.ice_journal.specs.Spelling.{fields_of, text_of}
 use Rattle.ice_journal.proofs.Clear.{abs_between}
@@ -36,3 +39,15 @@ value_length text out z h e =
     let abs = abs_between 1000000000 1000000000 z h in
     let short : length (signed_decimal z) ≤ 11 = length_signed_le 10 z (omega (arith, abs, mag_abs z)) (omega (arith, abs, mag_abs z)) in
     omega (arith, ap length e, with_field_length text (signed_decimal z), short)
+
+pub toll_length : (z : ℤ) → IsBetween (neg_ℤ (pos (2 ^ 62))) (pos (2 ^ 62)) z → length (signed_decimal z) ≤ 20
+toll_length z h =
+    let size : mag z < 2 ^ 63 = mag_between (neg_ℤ (pos (2 ^ 62))) (pos (2 ^ 62)) z (omega (arith, ints)) (omega (arith, ints)) h.0 h.1 in
+    length_signed_le 19 z (omega arith) (omega arith)
+
+pub number_length : (text out : List ℕ) (n : ℕ) (z : ℤ) → (n ≤ 2031) × IsBetween (neg_ℤ (pos (2 ^ 62))) (pos (2 ^ 62)) z → out ≡ with_field (with_field text (decimal n)) (signed_decimal z)
+    → length out ≤ length text + 26
+number_length text out n z h e =
+    let number : length (decimal n) ≤ 4 = length-decimal-le 4 n (omega arith) (omega (arith, h.0)) (omega (arith, h.0)) in
+    let amount : length (signed_decimal z) ≤ 20 = toll_length z h.1 in
+    omega (arith, ap length e, with_field_length text (decimal n), with_field_length (with_field text (decimal n)) (signed_decimal z), number, amount)

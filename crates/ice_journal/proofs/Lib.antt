@@ -4,6 +4,7 @@ pub mod Changed
 pub mod Bits
 pub mod Clear
 pub mod OneSpelling
+pub mod Climbing
 pub mod Slashes
 pub mod Numbers
 pub mod Journals

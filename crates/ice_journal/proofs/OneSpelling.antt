@@ -18,11 +18,11 @@ use Rattle.ice_line.specs.Reading.{Reads}
 use Rattle.ice_line.specs.Fields.{fields}
 use Rattle.ice_line.proofs.Digits.{decimal_same, decimal_digits}
 use Rattle.ice_journal.specs.Records as line
-use Rattle.ice_journal.specs.Records.{Record, Change}
-use Rattle.ice_journal.specs.Ranges.{IsRecord, IsValue, IsMultiplier, IsChange, IsFractionField, IsTotal, IsVerdictRecord}
-use Rattle.ice_journal.specs.Spelling.{version_word, kind_word, end_word, stage_word, limit_word, bit_byte, fraction_text, counted_list, change_fields, fields_of, text_of, verdict_fields}
+use Rattle.ice_journal.specs.Records.{Record, Change, Numbered}
+use Rattle.ice_journal.specs.Ranges.{IsRecord, IsValue, IsMultiplier, IsChange, IsToll, IsFractionField, IsTotal, IsVerdictRecord}
+use Rattle.ice_journal.specs.Spelling.{version_word, kind_word, end_word, stage_word, limit_word, bit_byte, fraction_text, counted_list, change_fields, numbered_fields, fields_of, text_of, verdict_fields}
 use Rattle.ice_journal.specs.Reading.{Finds}
-use Rattle.ice_journal.proofs.Clear.{abs_between, abs_from, fields_of_text}
+use Rattle.ice_journal.proofs.Clear.{abs_between, abs_from, amounts_tolls, fields_of_text}
 use Rattle.ice_journal.proofs.Listed.{IsOneToOne, front}
 use Rattle.ice_journal.proofs.RecordParts.{Part, make, part_fields, in_row, row_of, fields_are}
 use Rattle.ice_journal.proofs.RecordParts as row
@@ -92,6 +92,23 @@ changes_same (b ∷ bs) (c ∷ cs) p q e =
     let multiplier : b.multiplier ≡ c.multiplier = multiplier_same b.multiplier c.multiplier p.0.1 q.0.1 numbers in
     let tails = changes_same bs cs p.1 q.1 more in
     λ i. record { good = good i; multiplier = multiplier i } ∷ tails i
+
+pub toll_same : (y z : ℤ) → IsBetween (neg_ℤ (pos (2 ^ 62))) (pos (2 ^ 62)) y → IsBetween (neg_ℤ (pos (2 ^ 62))) (pos (2 ^ 62)) z → signed_decimal y ≡ signed_decimal z → y ≡ z
+toll_same y z p q e = between_same (2 ^ 62) (2 ^ 62) y z (omega arith) (omega arith) p q e
+
+numbered_same : (bs cs : List Numbered) → AllByRecursion IsToll bs → AllByRecursion IsToll cs → flat_map numbered_fields bs ≡ flat_map numbered_fields cs → bs ≡ cs
+numbered_same [] [] p q e = refl
+numbered_same [] (c ∷ cs) p q e = absurd (let h : [] ≡ decimal c.number ∷ signed_decimal c.amount ∷ flat_map numbered_fields cs = e ∙ flat_map-cons numbered_fields c cs in cc)
+numbered_same (b ∷ bs) [] p q e = absurd (let h : decimal b.number ∷ signed_decimal b.amount ∷ flat_map numbered_fields bs ≡ [] = sym (flat_map-cons numbered_fields b bs) ∙ e in cc)
+numbered_same (b ∷ bs) (c ∷ cs) p q e =
+    let all : decimal b.number ∷ signed_decimal b.amount ∷ flat_map numbered_fields bs ≡ decimal c.number ∷ signed_decimal c.amount ∷ flat_map numbered_fields cs = sym (flat_map-cons numbered_fields b bs) ∙ e ∙ flat_map-cons numbered_fields c cs in
+    let numbers : decimal b.number ≡ decimal c.number = cc in
+    let amounts : signed_decimal b.amount ≡ signed_decimal c.amount = cc in
+    let more : flat_map numbered_fields bs ≡ flat_map numbered_fields cs = cc in
+    let number : b.number ≡ c.number = decimal_same b.number c.number (omega (arith, p.0.0)) (omega (arith, q.0.0)) numbers in
+    let amount : b.amount ≡ c.amount = toll_same b.amount c.amount p.0.1 q.0.1 amounts in
+    let tails = numbered_same bs cs p.1 q.1 more in
+    λ i. record { number = number i; amount = amount i } ∷ tails i
 
 -- a signed number's text has no slash
 signed_no_slash : (a rest : List ℕ) (z : ℤ) → unsigned_abs z < 10 ^ 60 → a ++ 47 ∷ rest ≡ signed_decimal z → ⊥
@@ -399,6 +416,18 @@ one_part row.dead_row a b p q e =
 one_part row.near_row a b p q e =
     let t0 : flat_map change_fields a ≡ flat_map change_fields b = cc in
     changes_same a b p.2 q.2 t0
+one_part row.tolled_row a b p q e =
+    let t0 : flat_map numbered_fields a ≡ flat_map numbered_fields b = cc in
+    numbered_same a b p.2 q.2 t0
+one_part row.derive_row a b p q e =
+    let t0 : signed_decimal (a) ≡ signed_decimal (b) = cc in
+    between_same (2 ^ 40) (2 ^ 40) (a) (b) (omega arith) (omega arith) p q t0
+one_part row.amounts_row a b p q e =
+    let t0 : decimal (a.0) ≡ decimal (b.0) = cc in
+    let t1 : flat_map numbered_fields (a.1) ≡ flat_map numbered_fields (b.1) = cc in
+    let e0 = decimal_same (a.0) (b.0) (omega (arith, p.0)) (omega (arith, q.0)) t0 in
+    let e1 = numbered_same (a.1) (b.1) (amounts_tolls a.1 p.1.2) (amounts_tolls b.1 q.1.2) t1 in
+    λ i. (e0 i, e1 i)
 one_part row.regret_row a b p q e =
     let t0 : signed_decimal (a) ≡ signed_decimal (b) = cc in
     from_same 0 (400000000000000) (a) (b) (omega arith) p q t0

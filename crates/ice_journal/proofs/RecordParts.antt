@@ -13,13 +13,13 @@ use Rattle.ice_journal.specs.Reading.{Finds}
 use Rattle.ice_journal.specs.Words.{word_text}
 use Rattle.ice_journal.specs.declared.words.Word.{Word}
 use Rattle.ice_journal.specs.declared.words.Word.TheVariants as word
-use Rattle.ice_journal.specs.Records.{Version, Kind, EndWord, Change, Record}
+use Rattle.ice_journal.specs.Records.{Version, Kind, EndWord, Change, Numbered, Record}
 use Rattle.ice_journal.specs.Records as line
 use Rattle.ice_journal.specs.Ranges.{IsRecord}
 use Rattle.ice_journal.specs.Spelling.{fields_of}
 
 pub data Row : Type 0 where
-  ice_row settings_row good_row exact_row bidder_row choose_row buy_row sell_row assign_row settle_row final_row rival_row provisional_row without_row set_row branch_row leaf_row dead_row near_row regret_row prices_row accuracy_row balance_row row_row submit_row verdict_row threshold_row payment_row spent_row limit_row pool_row end_row refused_row unread_row : Row
+  ice_row settings_row good_row exact_row bidder_row choose_row buy_row sell_row assign_row settle_row final_row rival_row provisional_row without_row set_row branch_row leaf_row dead_row near_row tolled_row derive_row amounts_row regret_row prices_row accuracy_row balance_row row_row submit_row verdict_row threshold_row payment_row spent_row limit_row pool_row end_row refused_row unread_row : Row
 
 -- the words that the records of a row begin with
 abbrev pub words_of : Row → List (List ℕ)
@@ -42,6 +42,9 @@ words_of branch_row = codes "branch" ∷ []
 words_of leaf_row = codes "leaf" ∷ []
 words_of dead_row = codes "dead" ∷ []
 words_of near_row = codes "near" ∷ []
+words_of tolled_row = codes "tolled" ∷ []
+words_of derive_row = codes "derive" ∷ []
+words_of amounts_row = codes "amounts" ∷ []
 words_of regret_row = codes "regret" ∷ []
 words_of prices_row = codes "prices" ∷ []
 words_of accuracy_row = codes "accuracy" ∷ []
@@ -79,6 +82,9 @@ Part branch_row = ℕ × ℕ
 Part leaf_row = List ℤ
 Part dead_row = ℕ
 Part near_row = List Change
+Part tolled_row = List Numbered
+Part derive_row = ℤ
+Part amounts_row = ℕ × List Numbered
 Part regret_row = ℤ
 Part prices_row = Prices
 Part accuracy_row = ℤ × ℕ
@@ -115,6 +121,9 @@ make branch_row p = line.step (branch p.0 p.1)
 make leaf_row p = line.step (leaf p)
 make dead_row p = line.step (dead p)
 make near_row p = line.near p
+make tolled_row p = line.tolled p
+make derive_row p = line.derive p
+make amounts_row p = line.amounts p.0 p.1
 make regret_row p = line.regret p
 make prices_row p = line.prices p
 make accuracy_row p = line.accuracy p.0 p.1
@@ -156,6 +165,9 @@ part_fields branch_row p = after_first (fields_of (make branch_row p))
 part_fields leaf_row p = after_first (fields_of (make leaf_row p))
 part_fields dead_row p = after_first (fields_of (make dead_row p))
 part_fields near_row p = after_first (fields_of (make near_row p))
+part_fields tolled_row p = after_first (fields_of (make tolled_row p))
+part_fields derive_row p = after_first (fields_of (make derive_row p))
+part_fields amounts_row p = after_first (fields_of (make amounts_row p))
 part_fields regret_row p = after_first (fields_of (make regret_row p))
 part_fields prices_row p = after_first (fields_of (make prices_row p))
 part_fields accuracy_row p = after_first (fields_of (make accuracy_row p))
@@ -192,6 +204,9 @@ fields_are branch_row p = refl
 fields_are leaf_row p = refl
 fields_are dead_row p = refl
 fields_are near_row p = refl
+fields_are tolled_row p = refl
+fields_are derive_row p = refl
+fields_are amounts_row p = refl
 fields_are regret_row p = refl
 fields_are prices_row p = refl
 fields_are accuracy_row p = refl
@@ -232,6 +247,9 @@ row_of (line.step (branch b n)) = (branch_row, ((b, n), refl))
 row_of (line.step (leaf m)) = (leaf_row, (m, refl))
 row_of (line.step (dead b)) = (dead_row, (b, refl))
 row_of (line.near c) = (near_row, (c, refl))
+row_of (line.tolled n) = (tolled_row, (n, refl))
+row_of (line.derive l) = (derive_row, (l, refl))
+row_of (line.amounts b n) = (amounts_row, ((b, n), refl))
 row_of (line.regret a) = (regret_row, (a, refl))
 row_of (line.prices q) = (prices_row, (q, refl))
 row_of (line.accuracy x d) = (accuracy_row, ((x, d), refl))
@@ -274,6 +292,9 @@ row_from (f ∷ fs) =
     cond (bytes_eq f (codes "leaf")) (Some leaf_row) (
     cond (bytes_eq f (codes "dead")) (Some dead_row) (
     cond (bytes_eq f (codes "near")) (Some near_row) (
+    cond (bytes_eq f (codes "tolled")) (Some tolled_row) (
+    cond (bytes_eq f (codes "derive")) (Some derive_row) (
+    cond (bytes_eq f (codes "amounts")) (Some amounts_row) (
     cond (bytes_eq f (codes "regret")) (Some regret_row) (
     cond (bytes_eq f (codes "prices")) (Some prices_row) (
     cond (bytes_eq f (codes "accuracy")) (Some accuracy_row) (
@@ -289,7 +310,7 @@ row_from (f ∷ fs) =
     cond (bytes_eq f (codes "end")) (Some end_row) (
     cond (bytes_eq f (codes "refused")) (Some refused_row) (
     cond (bytes_eq f (codes "unread")) (Some unread_row) (
-    None))))))))))))))))))))))))))))))))
+    None)))))))))))))))))))))))))))))))))))
 
 row_from_words : (row : Row) (rest : List (List ℕ)) → row_from (words_of row ++ rest) ≡ Some row
 row_from_words ice_row rest = refl
@@ -311,6 +332,9 @@ row_from_words branch_row rest = refl
 row_from_words leaf_row rest = refl
 row_from_words dead_row rest = refl
 row_from_words near_row rest = refl
+row_from_words tolled_row rest = refl
+row_from_words derive_row rest = refl
+row_from_words amounts_row rest = refl
 row_from_words regret_row rest = refl
 row_from_words prices_row rest = refl
 row_from_words accuracy_row rest = refl
@@ -354,6 +378,9 @@ same_rest branch_row a b e = cc
 same_rest leaf_row a b e = cc
 same_rest dead_row a b e = cc
 same_rest near_row a b e = cc
+same_rest tolled_row a b e = cc
+same_rest derive_row a b e = cc
+same_rest amounts_row a b e = cc
 same_rest regret_row a b e = cc
 same_rest prices_row a b e = cc
 same_rest accuracy_row a b e = cc
@@ -416,6 +443,9 @@ word_of_row branch_row rest = (word.Branch, rest, refl)
 word_of_row leaf_row rest = (word.Leaf, rest, refl)
 word_of_row dead_row rest = (word.Dead, rest, refl)
 word_of_row near_row rest = (word.Near, rest, refl)
+word_of_row tolled_row rest = (word.Tolled, rest, refl)
+word_of_row derive_row rest = (word.Derive, rest, refl)
+word_of_row amounts_row rest = (word.Amounts, rest, refl)
 word_of_row regret_row rest = (word.Regret, rest, refl)
 word_of_row prices_row rest = (word.Prices, rest, refl)
 word_of_row accuracy_row rest = (word.Accuracy, rest, refl)

@@ -7,4 +7,5 @@ pub mod Plain
 pub mod Lines
 pub mod Reading
 pub mod Words
+pub mod Listed
 pub mod Ends

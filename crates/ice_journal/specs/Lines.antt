@@ -1,5 +1,6 @@
 -- The record that a line of the program is.
 use Rattle.std.specs.Prelude.{ℕ, ℤ, List, map}
+use Rattle.std.specs.Borrow.{Bor}
 use Rattle.arrayvec.specs.ArrayVec.{ArrayVec}
 use Rattle.ice_defs.specs.Fraction.{Fraction}
 use Rattle.ice_defs.specs.Round.{Submission}
@@ -16,6 +17,7 @@ use Rattle.ice_journal.specs.declared.line.Kind.TheVariants as kind
 use Rattle.ice_journal.specs.declared.line.EndWord.{EndWord}
 use Rattle.ice_journal.specs.declared.line.EndWord.TheVariants as ending
 use Rattle.ice_journal.specs.declared.line.Change.{Change}
+use Rattle.ice_journal.specs.declared.line.Numbered.{Numbered}
 use Rattle.ice_journal.specs.declared.line.LowestFraction.{LowestFraction}
 use Rattle.ice_journal.specs.declared.line.Line.{Line}
 use Rattle.ice_journal.specs.declared.line.Line.TheVariants as line
@@ -47,6 +49,12 @@ change_of c = record { good = c.good; multiplier = c.multiplier }
 abbrev pub changes_of : ArrayVec Change → List spec.Change
 changes_of changes = map change_of changes.items
 
+abbrev pub numbered_of : Numbered → spec.Numbered
+numbered_of n = record { number = n.number; amount = n.amount }
+
+abbrev pub numbers_of : List Numbered → List spec.Numbered
+numbers_of numbers = map numbered_of numbers
+
 abbrev pub fraction_of : LowestFraction → Fraction
 fraction_of f = record { num = f.num; den = f.den }
 
@@ -59,6 +67,9 @@ bidder_of bidder = (bidder.0, bidder.1.items)
 
 abbrev pub submission_of : List ℕ × ArrayVec ℤ × ArrayVec ℤ → Submission
 submission_of found = record { name = found.0; lo = found.1.items; hi = found.2.items }
+
+abbrev pub amounts_of : ℕ × Bor (List Numbered) → ℕ × List spec.Numbered
+amounts_of found = (found.0, numbers_of found.1.now)
 
 abbrev pub threshold_of : LowestFraction × LowestFraction → Fraction × Fraction
 threshold_of found = (fraction_of found.0, fraction_of found.1)
@@ -90,6 +101,9 @@ record_of (line.Branch bidder node) = spec.step (branch bidder node)
 record_of (line.Leaf multipliers) = spec.step (leaf multipliers.items)
 record_of (line.Dead bidder) = spec.step (dead bidder)
 record_of (line.Near changes) = spec.near (changes_of changes)
+record_of (line.Tolled numbers) = spec.tolled (numbers_of numbers.now)
+record_of (line.Derive limit) = spec.derive limit
+record_of (line.Amounts bidder numbers) = spec.amounts bidder (numbers_of numbers.now)
 record_of (line.Regret amount) = spec.regret amount
 record_of (line.Prices p) = spec.prices p
 record_of (line.Accuracy violation den) = spec.accuracy violation den

@@ -59,6 +59,33 @@ pub struct Change {
     pub multiplier: i64,
 }
 
+/// A number and what stands at it. In `tolled`: a good from 0 on and its multiplier in 4096ths, or,
+/// from the number of goods on, a derived good and its toll; a number of 0 to 2,031, from -2^62 to
+/// 2^62. In `amounts`: a node from 0 to 199 and its amount, which isn't 0 and at most 2^20 in size.
+#[derive(Clone, Copy, Default)]
+pub struct Numbered {
+    /// The number of the good, the derived good or the node.
+    pub number: u16,
+    /// What stands at it.
+    pub amount: i64,
+}
+
+/// Room for the numbers of one record, of which there are at most 300: 4,808 bytes. One room serves
+/// all records of a file, since each is let go before the next is read.
+#[derive(Drop)]
+pub struct Room {
+    pub(crate) numbers: ArrayVec<Numbered, 300>,
+}
+
+impl Room {
+    /// Room that holds nothing yet.
+    pub fn new() -> Room {
+        Room {
+            numbers: ArrayVec::new(),
+        }
+    }
+}
+
 /// A fraction in lowest terms: a numerator of at most 10^18 in size, over a denominator from 1 to
 /// 1,000.
 #[derive(Clone, Copy)]
@@ -70,9 +97,10 @@ pub struct LowestFraction {
 }
 
 /// One record of a journal or of a file in line form. Bidders, goods and nodes are numbered from 0.
-/// It takes no memory.
+/// It takes no memory. The numbers of `Tolled` and `Amounts` stand in the room of who reads them or
+/// with who writes them. No version of a journal takes these two and `Derive` yet.
 #[derive(Drop)]
-pub enum Line {
+pub enum Line<'room> {
     /// `ice VERSION KIND`. Version 2 is of a regret or a session.
     Head {
         version: Version,
@@ -136,6 +164,19 @@ pub enum Line {
     },
     /// `near K G M ..`: at most 32 changes, their goods strictly ascending.
     Near(ArrayVec<Change, 32>),
+    /// `tolled K G M ..`: at most 300 changes of a good or a derived good, of at most 2,031, their
+    /// numbers strictly ascending, each from -2^62 to 2^62.
+    Tolled(&'room [Numbered]),
+    /// `derive L`: the limit of a derived good, at most 2^40 in size.
+    Derive {
+        limit: i64,
+    },
+    /// `amounts B K N C ..`: a bidder of at most 39, and 1 to 200 of its nodes, of at most 199 and
+    /// strictly ascending, with their amounts, which are not 0 and at most 2^20 in size.
+    Amounts {
+        bidder: u8,
+        numbers: &'room [Numbered],
+    },
     /// `regret A`: from 0 to 4 * 10^14.
     Regret {
         amount: i64,

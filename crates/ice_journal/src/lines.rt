@@ -5,7 +5,7 @@ ghost use Rattle.ice_journal.specs.Ends.{IsBadLine};
 ghost use Rattle.ice_journal.specs.Ranges.{IsRecord};
 ghost use Rattle.ice_journal.specs.Spelling.{line_of};
 
-use crate::line::Line;
+use crate::line::{Line, Room};
 use crate::record::read_record;
 use ice_line::split_line;
 
@@ -18,8 +18,13 @@ pub enum BadLine {
     NotEnded,
 }
 
-/// The record of the first line, and the bytes after it. There is at least one byte.
-pub fn next_record(bytes: &[u8]) -> Result<(Line, &[u8]), BadLine>
+/// The record of the first line, and the bytes after it. There is at least one byte. A list of
+/// numbers is left in the room. `NotEnded` where the bytes have no newline, else `NoRecord` where
+/// the line is the spelling of no record.
+pub fn next_record<'bytes, 'room>(
+    bytes: &'bytes [u8],
+    room: &'room mut Room,
+) -> Result<(Line<'room>, &'bytes [u8]), BadLine>
     requires { 0 < length bytes.now }
     ensures read { IfOk result (λ next. IsRecord (record_of next.0)
         × (bytes.now ≡ line_of (record_of next.0) ++ next.1.now)) }
@@ -28,7 +33,7 @@ pub fn next_record(bytes: &[u8]) -> Result<(Line, &[u8]), BadLine>
     let Some((text, after)) = split_line(bytes) else {
         return Err(BadLine::NotEnded);
     };
-    match read_record(text) {
+    match read_record(text, room) {
         Some(record) => Ok((record, after)),
         None => Err(BadLine::NoRecord),
     }

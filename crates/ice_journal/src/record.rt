@@ -7,13 +7,13 @@ ghost use Rattle.ice_journal.specs.Ranges.{IsRecord};
 ghost use Rattle.ice_journal.specs.Spelling.{fields_of, text_of};
 ghost use Rattle.ice_journal.specs.Lines.{record_of};
 
-use crate::line::Line;
+use crate::line::{Line, Room};
 use crate::records::*;
 use crate::words::{Word, read_word};
 use ice_line::Fields;
 
 /// The record of a node.
-fn node_record(mut fields: Fields<'_>) -> Option<Line>
+fn node_record(mut fields: Fields<'_>) -> Option<Line<'static>>
     ensures { FindsAfter (codes "node" ∷ []) result fields.entry }
 {
     let word = fields.next()?;
@@ -29,7 +29,7 @@ fn node_record(mut fields: Fields<'_>) -> Option<Line>
 }
 
 /// The record of the fields behind its first word.
-fn record_after(word: Word, fields: Fields<'_>) -> Option<Line>
+fn record_after<'room>(word: Word, fields: Fields<'_>, room: &'room mut Room) -> Option<Line<'room>>
     ensures { FindsAfter (word_text word ∷ []) result fields.entry }
 {
     match word {
@@ -50,6 +50,9 @@ fn record_after(word: Word, fields: Fields<'_>) -> Option<Line>
         Word::Leaf => leaf_record(fields),
         Word::Dead => dead_record(fields),
         Word::Near => near_record(fields),
+        Word::Tolled => tolled_record(fields, room),
+        Word::Derive => derive_record(fields),
+        Word::Amounts => amounts_record(fields, room),
         Word::Regret => regret_record(fields),
         Word::Prices => prices_record(fields),
         Word::Accuracy => accuracy_record(fields),
@@ -69,17 +72,17 @@ fn record_after(word: Word, fields: Fields<'_>) -> Option<Line>
 }
 
 /// The record of these fields.
-fn record(mut fields: Fields<'_>) -> Option<Line>
+fn record<'room>(mut fields: Fields<'_>, room: &'room mut Room) -> Option<Line<'room>>
     ensures { Finds (option_map record_of result) IsRecord fields_of fields.entry }
 {
     let word = read_word(fields.next()?)?;
-    record_after(word, fields)
+    record_after(word, fields, room)
 }
 
 /// The record of which this is the one spelling, and None exactly where it is the spelling of no
-/// record. The text has no newline at its end.
-pub fn read_record(text: &[u8]) -> Option<Line>
+/// record. The text has no newline at its end. A list of numbers is left in the room.
+pub fn read_record<'room>(text: &[u8], room: &'room mut Room) -> Option<Line<'room>>
     ensures { Reads (option_map record_of result) IsRecord text_of text.now }
 {
-    record(Fields::new(text))
+    record(Fields::new(text), room)
 }

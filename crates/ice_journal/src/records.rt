@@ -2,15 +2,16 @@
 ghost use Rattle.std.specs.Prelude.{◌∷◌, [], codes};
 ghost use Rattle.ice_journal.specs.Reading.{FindsAfter};
 
-use crate::limits::{DENOMINATOR, MULTIPLIER, TOTAL};
-use crate::line::Line;
+use crate::limits::{DENOMINATOR, LIMIT, MULTIPLIER, TOTAL};
+use crate::line::{Line, Room};
 use crate::lists::{changes, integers, submission};
+use crate::numbered::{Listed, numbers};
 use crate::rows;
 use ice_defs::NodeKind;
 use ice_line::Fields;
 
 /// The record of these fields behind `ice`.
-pub fn ice_record(fields: Fields<'_>) -> Option<Line>
+pub fn ice_record(fields: Fields<'_>) -> Option<Line<'static>>
     ensures { FindsAfter (codes "ice" ∷ []) result fields.entry }
 {
     let (version, kind) = rows::head(fields)?;
@@ -18,7 +19,7 @@ pub fn ice_record(fields: Fields<'_>) -> Option<Line>
 }
 
 /// The record of these fields behind `settings`.
-pub fn settings_record(fields: Fields<'_>) -> Option<Line>
+pub fn settings_record(fields: Fields<'_>) -> Option<Line<'static>>
     ensures { FindsAfter (codes "settings" ∷ []) result fields.entry }
 {
     let settings = rows::settings(fields)?;
@@ -26,7 +27,7 @@ pub fn settings_record(fields: Fields<'_>) -> Option<Line>
 }
 
 /// The record of these fields behind `good`.
-pub fn good_record(fields: Fields<'_>) -> Option<Line>
+pub fn good_record(fields: Fields<'_>) -> Option<Line<'static>>
     ensures { FindsAfter (codes "good" ∷ []) result fields.entry }
 {
     let name = rows::one_name(fields)?;
@@ -34,7 +35,7 @@ pub fn good_record(fields: Fields<'_>) -> Option<Line>
 }
 
 /// The record of these fields behind `exact`.
-pub fn exact_record(fields: Fields<'_>) -> Option<Line>
+pub fn exact_record(fields: Fields<'_>) -> Option<Line<'static>>
     ensures { FindsAfter (codes "exact" ∷ []) result fields.entry }
 {
     let name = rows::one_name(fields)?;
@@ -42,7 +43,7 @@ pub fn exact_record(fields: Fields<'_>) -> Option<Line>
 }
 
 /// The record of these fields behind `bidder`.
-pub fn bidder_record(fields: Fields<'_>) -> Option<Line>
+pub fn bidder_record(fields: Fields<'_>) -> Option<Line<'static>>
     ensures { FindsAfter (codes "bidder" ∷ []) result fields.entry }
 {
     let (name, own) = rows::bidder(fields)?;
@@ -50,7 +51,7 @@ pub fn bidder_record(fields: Fields<'_>) -> Option<Line>
 }
 
 /// The record of these fields behind `node choose`.
-pub fn choose_record(fields: Fields<'_>) -> Option<Line>
+pub fn choose_record(fields: Fields<'_>) -> Option<Line<'static>>
     ensures { FindsAfter (codes "node" ∷ codes "choose" ∷ []) result fields.entry }
 {
     let (least, most, children, lo, hi) = rows::choose(fields)?;
@@ -63,7 +64,7 @@ pub fn choose_record(fields: Fields<'_>) -> Option<Line>
 }
 
 /// The record of these fields behind `node buy`.
-pub fn buy_record(fields: Fields<'_>) -> Option<Line>
+pub fn buy_record(fields: Fields<'_>) -> Option<Line<'static>>
     ensures { FindsAfter (codes "node" ∷ codes "buy" ∷ []) result fields.entry }
 {
     let (good, units, lo, hi) = rows::leaf(fields)?;
@@ -76,7 +77,7 @@ pub fn buy_record(fields: Fields<'_>) -> Option<Line>
 }
 
 /// The record of these fields behind `node sell`.
-pub fn sell_record(fields: Fields<'_>) -> Option<Line>
+pub fn sell_record(fields: Fields<'_>) -> Option<Line<'static>>
     ensures { FindsAfter (codes "node" ∷ codes "sell" ∷ []) result fields.entry }
 {
     let (good, units, lo, hi) = rows::leaf(fields)?;
@@ -89,7 +90,7 @@ pub fn sell_record(fields: Fields<'_>) -> Option<Line>
 }
 
 /// The record of these fields behind `assign`.
-pub fn assign_record(fields: Fields<'_>) -> Option<Line>
+pub fn assign_record(fields: Fields<'_>) -> Option<Line<'static>>
     ensures { FindsAfter (codes "assign" ∷ []) result fields.entry }
 {
     rows::none_left(fields)?;
@@ -97,7 +98,7 @@ pub fn assign_record(fields: Fields<'_>) -> Option<Line>
 }
 
 /// The record of these fields behind `settle`.
-pub fn settle_record(fields: Fields<'_>) -> Option<Line>
+pub fn settle_record(fields: Fields<'_>) -> Option<Line<'static>>
     ensures { FindsAfter (codes "settle" ∷ []) result fields.entry }
 {
     let number = rows::one_natural(fields, 0, 20)?;
@@ -107,7 +108,7 @@ pub fn settle_record(fields: Fields<'_>) -> Option<Line>
 }
 
 /// The record of these fields behind `final`.
-pub fn final_record(fields: Fields<'_>) -> Option<Line>
+pub fn final_record(fields: Fields<'_>) -> Option<Line<'static>>
     ensures { FindsAfter (codes "final" ∷ []) result fields.entry }
 {
     let value = rows::one_integer(fields, -TOTAL, TOTAL)?;
@@ -115,7 +116,7 @@ pub fn final_record(fields: Fields<'_>) -> Option<Line>
 }
 
 /// The record of these fields behind `rival`.
-pub fn rival_record(fields: Fields<'_>) -> Option<Line>
+pub fn rival_record(fields: Fields<'_>) -> Option<Line<'static>>
     ensures { FindsAfter (codes "rival" ∷ []) result fields.entry }
 {
     let value = rows::one_integer(fields, -TOTAL, TOTAL)?;
@@ -123,7 +124,7 @@ pub fn rival_record(fields: Fields<'_>) -> Option<Line>
 }
 
 /// The record of these fields behind `provisional`.
-pub fn provisional_record(fields: Fields<'_>) -> Option<Line>
+pub fn provisional_record(fields: Fields<'_>) -> Option<Line<'static>>
     ensures { FindsAfter (codes "provisional" ∷ []) result fields.entry }
 {
     let value = rows::one_integer(fields, -TOTAL, TOTAL)?;
@@ -131,7 +132,7 @@ pub fn provisional_record(fields: Fields<'_>) -> Option<Line>
 }
 
 /// The record of these fields behind `without`.
-pub fn without_record(fields: Fields<'_>) -> Option<Line>
+pub fn without_record(fields: Fields<'_>) -> Option<Line<'static>>
     ensures { FindsAfter (codes "without" ∷ []) result fields.entry }
 {
     let (bidder, value) = rows::without(fields)?;
@@ -139,7 +140,7 @@ pub fn without_record(fields: Fields<'_>) -> Option<Line>
 }
 
 /// The record of these fields behind `set`.
-pub fn set_record(fields: Fields<'_>) -> Option<Line>
+pub fn set_record(fields: Fields<'_>) -> Option<Line<'static>>
     ensures { FindsAfter (codes "set" ∷ []) result fields.entry }
 {
     let set = rows::one_set(fields)?;
@@ -147,7 +148,7 @@ pub fn set_record(fields: Fields<'_>) -> Option<Line>
 }
 
 /// The record of these fields behind `branch`.
-pub fn branch_record(fields: Fields<'_>) -> Option<Line>
+pub fn branch_record(fields: Fields<'_>) -> Option<Line<'static>>
     ensures { FindsAfter (codes "branch" ∷ []) result fields.entry }
 {
     let (bidder, node) = rows::branch(fields)?;
@@ -155,7 +156,7 @@ pub fn branch_record(fields: Fields<'_>) -> Option<Line>
 }
 
 /// The record of these fields behind `leaf`.
-pub fn leaf_record(fields: Fields<'_>) -> Option<Line>
+pub fn leaf_record(fields: Fields<'_>) -> Option<Line<'static>>
     ensures { FindsAfter (codes "leaf" ∷ []) result fields.entry }
 {
     let multipliers = integers(fields, -MULTIPLIER, MULTIPLIER)?;
@@ -163,7 +164,7 @@ pub fn leaf_record(fields: Fields<'_>) -> Option<Line>
 }
 
 /// The record of these fields behind `dead`.
-pub fn dead_record(fields: Fields<'_>) -> Option<Line>
+pub fn dead_record(fields: Fields<'_>) -> Option<Line<'static>>
     ensures { FindsAfter (codes "dead" ∷ []) result fields.entry }
 {
     let bidder = rows::one_natural(fields, 0, 39)?;
@@ -173,15 +174,39 @@ pub fn dead_record(fields: Fields<'_>) -> Option<Line>
 }
 
 /// The record of these fields behind `near`.
-pub fn near_record(fields: Fields<'_>) -> Option<Line>
+pub fn near_record(fields: Fields<'_>) -> Option<Line<'static>>
     ensures { FindsAfter (codes "near" ∷ []) result fields.entry }
 {
     let changed = changes(fields)?;
     Some(Line::Near(changed))
 }
 
+/// The record of these fields behind `tolled`.
+pub fn tolled_record<'room>(fields: Fields<'_>, room: &'room mut Room) -> Option<Line<'room>>
+    ensures { FindsAfter (codes "tolled" ∷ []) result fields.entry }
+{
+    let tolls = numbers(fields, Listed::Tolls, room)?;
+    Some(Line::Tolled(tolls))
+}
+
+/// The record of these fields behind `derive`.
+pub fn derive_record(fields: Fields<'_>) -> Option<Line<'static>>
+    ensures { FindsAfter (codes "derive" ∷ []) result fields.entry }
+{
+    let limit = rows::one_integer(fields, -LIMIT, LIMIT)?;
+    Some(Line::Derive { limit })
+}
+
+/// The record of these fields behind `amounts`.
+pub fn amounts_record<'room>(fields: Fields<'_>, room: &'room mut Room) -> Option<Line<'room>>
+    ensures { FindsAfter (codes "amounts" ∷ []) result fields.entry }
+{
+    let (bidder, numbers) = rows::bidder_amounts(fields, room)?;
+    Some(Line::Amounts { bidder, numbers })
+}
+
 /// The record of these fields behind `regret`.
-pub fn regret_record(fields: Fields<'_>) -> Option<Line>
+pub fn regret_record(fields: Fields<'_>) -> Option<Line<'static>>
     ensures { FindsAfter (codes "regret" ∷ []) result fields.entry }
 {
     let amount = rows::one_integer(fields, 0, TOTAL)?;
@@ -189,7 +214,7 @@ pub fn regret_record(fields: Fields<'_>) -> Option<Line>
 }
 
 /// The record of these fields behind `prices`.
-pub fn prices_record(fields: Fields<'_>) -> Option<Line>
+pub fn prices_record(fields: Fields<'_>) -> Option<Line<'static>>
     ensures { FindsAfter (codes "prices" ∷ []) result fields.entry }
 {
     let prices = rows::prices(fields)?;
@@ -197,7 +222,7 @@ pub fn prices_record(fields: Fields<'_>) -> Option<Line>
 }
 
 /// The record of these fields behind `accuracy`.
-pub fn accuracy_record(fields: Fields<'_>) -> Option<Line>
+pub fn accuracy_record(fields: Fields<'_>) -> Option<Line<'static>>
     ensures { FindsAfter (codes "accuracy" ∷ []) result fields.entry }
 {
     let (violation, den) = rows::accuracy(fields)?;
@@ -205,7 +230,7 @@ pub fn accuracy_record(fields: Fields<'_>) -> Option<Line>
 }
 
 /// The record of these fields behind `balance`.
-pub fn balance_record(fields: Fields<'_>) -> Option<Line>
+pub fn balance_record(fields: Fields<'_>) -> Option<Line<'static>>
     ensures { FindsAfter (codes "balance" ∷ []) result fields.entry }
 {
     let den = rows::one_natural(fields, 1, DENOMINATOR)?;
@@ -213,7 +238,7 @@ pub fn balance_record(fields: Fields<'_>) -> Option<Line>
 }
 
 /// The record of these fields behind `row`.
-pub fn row_record(fields: Fields<'_>) -> Option<Line>
+pub fn row_record(fields: Fields<'_>) -> Option<Line<'static>>
     ensures { FindsAfter (codes "row" ∷ []) result fields.entry }
 {
     let (bidder, weight, set) = rows::weighted_set(fields)?;
@@ -225,7 +250,7 @@ pub fn row_record(fields: Fields<'_>) -> Option<Line>
 }
 
 /// The record of these fields behind `submit`.
-pub fn submit_record(fields: Fields<'_>) -> Option<Line>
+pub fn submit_record(fields: Fields<'_>) -> Option<Line<'static>>
     ensures { FindsAfter (codes "submit" ∷ []) result fields.entry }
 {
     let (name, lo, hi) = submission(fields)?;
@@ -233,7 +258,7 @@ pub fn submit_record(fields: Fields<'_>) -> Option<Line>
 }
 
 /// The record of these fields behind `verdict`.
-pub fn verdict_record(fields: Fields<'_>) -> Option<Line>
+pub fn verdict_record(fields: Fields<'_>) -> Option<Line<'static>>
     ensures { FindsAfter (codes "verdict" ∷ []) result fields.entry }
 {
     let verdict = rows::verdict(fields)?;
@@ -241,7 +266,7 @@ pub fn verdict_record(fields: Fields<'_>) -> Option<Line>
 }
 
 /// The record of these fields behind `threshold`.
-pub fn threshold_record(fields: Fields<'_>) -> Option<Line>
+pub fn threshold_record(fields: Fields<'_>) -> Option<Line<'static>>
     ensures { FindsAfter (codes "threshold" ∷ []) result fields.entry }
 {
     let (cut, surplus) = rows::threshold(fields)?;
@@ -249,7 +274,7 @@ pub fn threshold_record(fields: Fields<'_>) -> Option<Line>
 }
 
 /// The record of these fields behind `payment`.
-pub fn payment_record(fields: Fields<'_>) -> Option<Line>
+pub fn payment_record(fields: Fields<'_>) -> Option<Line<'static>>
     ensures { FindsAfter (codes "payment" ∷ []) result fields.entry }
 {
     let (name, vickrey, discount, payment) = rows::payment(fields)?;
@@ -262,7 +287,7 @@ pub fn payment_record(fields: Fields<'_>) -> Option<Line>
 }
 
 /// The record of these fields behind `spent`.
-pub fn spent_record(fields: Fields<'_>) -> Option<Line>
+pub fn spent_record(fields: Fields<'_>) -> Option<Line<'static>>
     ensures { FindsAfter (codes "spent" ∷ []) result fields.entry }
 {
     let (value, bound) = rows::spent(fields)?;
@@ -270,7 +295,7 @@ pub fn spent_record(fields: Fields<'_>) -> Option<Line>
 }
 
 /// The record of these fields behind `limit`.
-pub fn limit_record(fields: Fields<'_>) -> Option<Line>
+pub fn limit_record(fields: Fields<'_>) -> Option<Line<'static>>
     ensures { FindsAfter (codes "limit" ∷ []) result fields.entry }
 {
     let (stage, kind, violation, den) = rows::limit(fields)?;
@@ -283,7 +308,7 @@ pub fn limit_record(fields: Fields<'_>) -> Option<Line>
 }
 
 /// The record of these fields behind `pool`.
-pub fn pool_record(fields: Fields<'_>) -> Option<Line>
+pub fn pool_record(fields: Fields<'_>) -> Option<Line<'static>>
     ensures { FindsAfter (codes "pool" ∷ []) result fields.entry }
 {
     let (bidder, set) = rows::pool(fields)?;
@@ -291,7 +316,7 @@ pub fn pool_record(fields: Fields<'_>) -> Option<Line>
 }
 
 /// The record of these fields behind `end`.
-pub fn end_record(fields: Fields<'_>) -> Option<Line>
+pub fn end_record(fields: Fields<'_>) -> Option<Line<'static>>
     ensures { FindsAfter (codes "end" ∷ []) result fields.entry }
 {
     let word = rows::ended(fields)?;
@@ -299,7 +324,7 @@ pub fn end_record(fields: Fields<'_>) -> Option<Line>
 }
 
 /// The record of these fields behind `refused`.
-pub fn refused_record(fields: Fields<'_>) -> Option<Line>
+pub fn refused_record(fields: Fields<'_>) -> Option<Line<'static>>
     ensures { FindsAfter (codes "refused" ∷ []) result fields.entry }
 {
     let (file, number, place) = rows::refused(fields)?;
@@ -311,7 +336,7 @@ pub fn refused_record(fields: Fields<'_>) -> Option<Line>
 }
 
 /// The record of these fields behind `unread`.
-pub fn unread_record(fields: Fields<'_>) -> Option<Line>
+pub fn unread_record(fields: Fields<'_>) -> Option<Line<'static>>
     ensures { FindsAfter (codes "unread" ∷ []) result fields.entry }
 {
     let file = rows::one_natural(fields, 1, 21)?;

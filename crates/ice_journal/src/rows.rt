@@ -4,9 +4,9 @@ ghost use Rattle.std.specs.Fmt.{signed_decimal};
 ghost use Rattle.std.specs.List.{AllByRecursion};
 ghost use Rattle.ice_defs.specs.Exchange.{IsBetween, AreSettings};
 ghost use Rattle.ice_journal.specs.Reading.{Finds};
-ghost use Rattle.ice_journal.specs.Ranges.{IsName, IsPlace, IsBits, IsTotal, IsFromTo, IsDen, IsViolationField, IsFractionField, IsValue, HasLength, IsHead, IsBidderNumber, IsNodeNumber, IsLeafRecord, IsStageRecord, ArePricesRecord, IsVerdictRecord};
-ghost use Rattle.ice_journal.specs.Spelling.{bits, fraction_text, version_word, kind_word, end_word, stage_word, limit_word, settings_fields, verdict_fields};
-ghost use Rattle.ice_journal.specs.Lines.{version_of, kind_of, end_of, head_of, bidder_of, threshold_of, payment_of, limit_row_of, refused_of};
+ghost use Rattle.ice_journal.specs.Ranges.{IsName, IsPlace, IsBits, IsAmount, AreNumbers, IsTotal, IsFromTo, IsDen, IsViolationField, IsFractionField, IsValue, HasLength, IsHead, IsBidderNumber, IsNodeNumber, IsLeafRecord, IsStageRecord, ArePricesRecord, IsVerdictRecord};
+ghost use Rattle.ice_journal.specs.Spelling.{bits, fraction_text, version_word, kind_word, end_word, stage_word, limit_word, settings_fields, numbers_fields, verdict_fields};
+ghost use Rattle.ice_journal.specs.Lines.{version_of, kind_of, end_of, head_of, bidder_of, amounts_of, threshold_of, payment_of, limit_row_of, refused_of};
 
 use crate::fractions::lowest_fraction;
 use crate::items::{
@@ -14,8 +14,9 @@ use crate::items::{
     version, violation_number,
 };
 use crate::limits::{DENOMINATOR, TOTAL};
-use crate::line::{EndWord, Kind, LowestFraction, Version};
+use crate::line::{EndWord, Kind, LowestFraction, Numbered, Room, Version};
 use crate::lists::{amounts, integers};
+use crate::numbered::{Listed, numbers};
 use arrayvec::ArrayVec;
 use ice_defs::{GREATEST_VALUE, LimitKind, PricingStage, Verdict};
 use ice_line::{Fields, integer, natural};
@@ -91,6 +92,19 @@ pub fn settings(mut fields: Fields<'_>) -> Option<Settings>
         rounds,
         branches,
     })
+}
+
+/// A bidder, and its nodes with their amounts.
+pub fn bidder_amounts<'room>(
+    mut fields: Fields<'_>,
+    room: &'room mut Room,
+) -> Option<(u8, &'room [Numbered])>
+    ensures { Finds (option_map amounts_of result)
+        (λ found. IsBidderNumber found.0 × AreNumbers 1 200 IsAmount found.1) (λ found. decimal found.0 ∷ numbers_fields found.1) fields.entry }
+{
+    let bidder = natural(fields.next()?, 0, 39)? as u8;
+    let amounts = numbers(fields, Listed::Amounts, room)?;
+    Some((bidder, amounts))
 }
 
 /// A name alone.

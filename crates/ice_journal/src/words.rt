@@ -40,6 +40,12 @@ pub enum Word {
     Dead,
     /// A side of a log ends at the multipliers before, with these changes.
     Near,
+    /// A side of a log ends at the multipliers and tolls before, with these changes.
+    Tolled,
+    /// A derivation begins, with the limit of its derived good.
+    Derive,
+    /// What the nodes of a bidder take of a derived good.
+    Amounts,
     /// The regret.
     Regret,
     /// Prices over one denominator.
@@ -141,6 +147,10 @@ fn word_of_six(field: &[u8]) -> Option<Word>
         Some(Word::Settle)
     } else if field == b"branch".as_slice() {
         Some(Word::Branch)
+    } else if field == b"tolled".as_slice() {
+        Some(Word::Tolled)
+    } else if field == b"derive".as_slice() {
+        Some(Word::Derive)
     } else if field == b"regret".as_slice() {
         Some(Word::Regret)
     } else if field == b"prices".as_slice() {
@@ -160,6 +170,8 @@ fn word_of_seven(field: &[u8]) -> Option<Word>
 {
     if field == b"without".as_slice() {
         Some(Word::Without)
+    } else if field == b"amounts".as_slice() {
+        Some(Word::Amounts)
     } else if field == b"balance".as_slice() {
         Some(Word::Balance)
     } else if field == b"verdict".as_slice() {

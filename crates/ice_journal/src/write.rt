@@ -5,6 +5,7 @@ ghost use Rattle.ice_journal.specs.Spelling.{text_of};
 ghost use Rattle.ice_journal.specs.Lines.{record_of};
 
 use crate::line::Line;
+use crate::write_derived::*;
 use crate::write_exchange::*;
 use crate::write_fields::{put_integer, put_name, put_natural};
 use crate::write_log::*;
@@ -13,7 +14,7 @@ use ice_line::LineWriter;
 
 /// Writes the one spelling of a record into an empty line, of at most 8,192 bytes. It takes no
 /// memory.
-pub fn write_record(line: &Line, to: &mut LineWriter)
+pub fn write_record(line: &Line<'_>, to: &mut LineWriter)
     requires lawful { IsRecord (record_of line.now) }
     requires empty { to.old ≡ [] }
     ensures text { to.new ≡ text_of (record_of line.now) }
@@ -42,6 +43,9 @@ pub fn write_record(line: &Line, to: &mut LineWriter)
         Line::Leaf(multipliers) => put_leaf(multipliers, to),
         Line::Dead { bidder } => put_natural(b"dead", u64::from(*bidder), to),
         Line::Near(changes) => put_near(changes, to),
+        Line::Tolled(tolls) => put_tolled(tolls, to),
+        Line::Derive { limit } => put_integer(b"derive", *limit, to),
+        Line::Amounts { bidder, numbers } => put_amounts_record(*bidder, numbers, to),
         Line::Regret { amount } => put_integer(b"regret", *amount, to),
         Line::Prices(prices) => put_prices(prices, to),
         Line::Accuracy { violation, den } => put_accuracy(*violation, *den, to),

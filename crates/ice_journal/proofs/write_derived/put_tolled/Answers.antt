@@ -1,0 +1,14 @@
+use Rattle.std.proofs.Common.{◌≡◌, [], ◌∷◌, refl, rules}
+use Rattle.std.specs.Prelude.{codes}
+use Rattle.ice_line.specs.Writing.{with_fields}
+use Rattle.ice_journal.specs.Records as line
+use Rattle.ice_journal.specs.Spelling.{numbers_fields}
+use Rattle.ice_journal.specs.Lines.{numbers_of}
+use Rattle.ice_journal.proofs.Joined.{text_is}
+use Rattle.ice_journal.proofs.write_derived.put_tolled.Goals as goal
+
+pub returns-clause-text : goal.returns-clause-text
+returns-clause-text c =
+    let numbers = numbers_of c.args.tolls.now in
+    let all : c.put_numbers.new.to ≡ with_fields (codes "tolled") (numbers_fields numbers) = search rules in
+    text_is (line.tolled numbers) 116 (111 ∷ 108 ∷ 108 ∷ 101 ∷ 100 ∷ []) (numbers_fields numbers) c.put_numbers.new.to refl all
