@@ -9,7 +9,7 @@ ghost use Rattle.ice_section.specs.FileStates.{so_far, IsNumbered, IsFaultOf, Is
 
 use crate::faults::{LineCause, LineFileFault, bad_line, misplaced};
 use crate::section::Section;
-use ice_journal::{EndWord, Kind, Line, Version, next_record};
+use ice_journal::{EndWord, Kind, Line, Room, Version, next_record};
 use ice_trade::Exchange;
 use std::alloc::{AllocError, Global};
 
@@ -135,10 +135,11 @@ pub fn read_exchange_lines(alloc: Global, bytes: &[u8]) -> Result<Exchange, Line
         reached: SoFar::Head,
         section: Section::new(alloc),
     };
+    let mut room = Room::new();
     let mut rest = bytes;
     let mut lines: u64 = 0;
     while !rest.is_empty() {
-        let (record, after) = match next_record(rest) {
+        let (record, after) = match next_record(rest, &mut room) {
             Ok(next) => next,
             Err(bad) => return Err(bad_line(bad, lines + 1)),
         };

@@ -7,7 +7,7 @@ ghost use Rattle.ice_section.specs.FileSteps.{is_prices_head, is_prices_end, end
 ghost use Rattle.ice_section.specs.FileStates.{prices_so_far, IsFaultOf, IsFaultFrom};
 
 use crate::faults::{LineFileFault, bad_line, misplaced};
-use ice_journal::{EndWord, Kind, Line, Version, next_record};
+use ice_journal::{EndWord, Kind, Line, Room, Version, next_record};
 use ice_terms::Prices;
 
 /// A prices file, as far as its records were taken.
@@ -40,7 +40,7 @@ fn is_prices_end(line: &Line) -> bool
 
 /// The prices of a record, where they are for so many goods.
 fn prices_of(goods: u8, line: Line) -> Option<Prices>
-    ensures { (rest : List Record) → prices_from goods (record_of line ∷ rest)
+    ensures { (rest : List Record) → prices_from goods (record_of line.entry ∷ rest)
         ≡ ended_where result rest }
 {
     match line {
@@ -59,7 +59,7 @@ impl PricesFile {
     /// The file with one more record, for so many goods.
     fn after(self, goods: u8, next: Line) -> PricesFile
         ensures { (rest : List Record)
-            → prices_after goods (prices_so_far self) (record_of next ∷ rest)
+            → prices_after goods (prices_so_far self) (record_of next.entry ∷ rest)
             ≡ prices_after goods (prices_so_far result) rest }
     {
         match self {
@@ -116,10 +116,11 @@ pub fn read_prices_lines(bytes: &[u8], goods: u8) -> Result<Prices, LineFileFaul
         × (fault ≢ LineFileFault.NoMemory)) }
 {
     let mut file = PricesFile::Head;
+    let mut room = Room::new();
     let mut rest = bytes;
     let mut lines: u64 = 0;
     while !rest.is_empty() {
-        let (record, after) = match next_record(rest) {
+        let (record, after) = match next_record(rest, &mut room) {
             Ok(next) => next,
             Err(bad) => return Err(bad_line(bad, lines + 1)),
         };
