@@ -1,6 +1,8 @@
 //! What records are read as.
 use ice_defs::{LimitKind, NodeKind, PricingStage, Verdict};
-use ice_journal::{Change, EndWord, Kind, Line, LowestFraction, Version, read_record};
+use ice_journal::{
+    Change, EndWord, Kind, Line, LowestFraction, Numbered, Room, Version, read_record,
+};
 use ice_set::NodeSet;
 use ice_terms::Settings;
 
@@ -102,7 +104,7 @@ fn are_settings(settings: &Settings) -> bool {
 }
 
 /// One record of each form, no two with the same numbers.
-const RECORDS: [&str; 31] = [
+const RECORDS: [&str; 34] = [
     "settings 1 2 3 4 5 6",
     "good g",
     "exact e",
@@ -121,6 +123,9 @@ const RECORDS: [&str; 31] = [
     "leaf 38 39",
     "dead 30",
     "near 2 8 9 10 11",
+    "tolled 2 63 2048 64 -40960",
+    "derive -65",
+    "amounts 27 2 66 67 68 -69",
     "regret 40",
     "prices 41 42 43",
     "accuracy 44 45",
@@ -191,6 +196,12 @@ fn is_meant_of_log(line: &Line) -> bool {
         Line::Leaf(multipliers) => multipliers.as_slice() == [38, 39].as_slice(),
         Line::Dead { bidder: 30 } => true,
         Line::Near(changes) => are_meant_changes(changes),
+        Line::Tolled(tolls) => are_numbers(tolls, [(63, 2048), (64, -40960)]),
+        Line::Derive { limit: -65 } => true,
+        Line::Amounts {
+            bidder: 27,
+            numbers,
+        } => are_numbers(numbers, [(66, 67), (68, -69)]),
         Line::Regret { amount: 40 } => true,
         _ => false,
     }
@@ -200,6 +211,19 @@ fn are_meant_changes(changes: &[Change]) -> bool {
     match changes {
         [first, second] => {
             first.good == 8 && first.multiplier == 9 && second.good == 10 && second.multiplier == 11
+        }
+        _ => false,
+    }
+}
+
+/// Are these the two numbers, with these amounts.
+fn are_numbers(numbers: &[Numbered], due: [(u16, i64); 2]) -> bool {
+    match numbers {
+        [first, second] => {
+            first.number == due[0].0
+                && first.amount == due[0].1
+                && second.number == due[1].0
+                && second.amount == due[1].1
         }
         _ => false,
     }
@@ -282,8 +306,8 @@ fn is_meant(line: &Line, meaning: &Meaning) -> bool {
 }
 
 /// Whether the text is read so. No other function here holds a record: to let one go is long.
-fn is_read_as(text: &str, meaning: &Meaning) -> bool {
-    match read_record(text.as_bytes()) {
+fn is_read_as(text: &str, meaning: &Meaning, room: &mut Room) -> bool {
+    match read_record(text.as_bytes(), room) {
         Some(line) => is_meant(&line, meaning),
         None => false,
     }
@@ -291,15 +315,17 @@ fn is_read_as(text: &str, meaning: &Meaning) -> bool {
 
 #[test]
 fn words_have_meanings(rt: HostRuntime) {
+    let mut room = Room::new();
     for (text, meaning) in &WORDS {
-        assert!(rt; is_read_as(text, meaning), "{text}");
+        assert!(rt; is_read_as(text, meaning, &mut room), "{text}");
     }
 }
 
-/// Each number, name and set stands in its own field.
+/// Each number, name and set stands in its own field, and one room serves all records.
 #[test]
 fn fields_have_meanings(rt: HostRuntime) {
+    let mut room = Room::new();
     for text in &RECORDS {
-        assert!(rt; is_read_as(text, &Meaning::OfItsForm), "{text}");
+        assert!(rt; is_read_as(text, &Meaning::OfItsForm, &mut room), "{text}");
     }
 }
