@@ -21,7 +21,7 @@ use ice_trade::Exchange;
 use ice_tree::{Bounds, Tree};
 
 /// The line of a good.
-fn good_line(name: Name, exact: bool) -> Line
+fn good_line(name: Name, exact: bool) -> Line<'static>
     requires { IsName name }
     ensures line { record_of result ≡ good_record (record { name = name; exact = exact }) }
     ensures record { IsRecord (record_of result) }
@@ -60,7 +60,7 @@ fn own_of(exchange: &Exchange, bidder: u8) -> ArrayVec<u32, 32>
 }
 
 /// The line of a node.
-fn node_line(tree: &Tree, bounds: &Bounds, node: u16) -> Line
+fn node_line(tree: &Tree, bounds: &Bounds, node: u16) -> Line<'static>
     requires nodes { length bounds.now.lo ≡ length tree.now }
     requires node { node < length tree.now }
     ensures line { record_of result ≡ node_record (kind_of tree.now node)

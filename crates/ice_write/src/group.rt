@@ -34,7 +34,7 @@ fn put_sets<K: Sink>(sets: &Assignment, out: &mut K) -> Result<(), SinkFault>
 }
 
 /// The line of a step behind a leaf with these multipliers, or behind none, where they are 0.
-fn step_line(step: &Step, multipliers: &Multipliers) -> Line
+fn step_line(step: &Step, multipliers: &Multipliers) -> Line<'static>
     requires { CountsGoods (length multipliers.now) (step_of step.now) }
     ensures { record_of result ≡ step_record version_2 multipliers.now (step_of step.now) }
 {

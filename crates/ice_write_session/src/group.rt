@@ -48,7 +48,7 @@ pub fn put_rival<K: Sink>(
 }
 
 /// The head of the provisional sets.
-fn provisional_line(found: &Found) -> Line
+fn provisional_line(found: &Found) -> Line<'static>
     requires { IsTotal found.now.value }
     ensures line { record_of result ≡ line.provisional found.now.value }
     ensures record { IsRecord (record_of result) }

@@ -35,7 +35,7 @@ fn put_threshold<K: Sink>(charged: &Charged, out: &mut K) -> Result<(), SinkFaul
 }
 
 /// The line of a payment.
-fn paid_line(name: Name, vickrey: &i128, discount: &Frac, payment: &Frac) -> Line
+fn paid_line(name: Name, vickrey: &i128, discount: &Frac, payment: &Frac) -> Line<'static>
     requires { IsWritablePayment (record {
       name = name;
       vickrey = vickrey.now;
@@ -58,7 +58,7 @@ fn paid_line(name: Name, vickrey: &i128, discount: &Frac, payment: &Frac) -> Lin
 }
 
 /// The line of what a bidder pays.
-fn payment_line(charged: &Charged, bidder: u8) -> Line
+fn payment_line(charged: &Charged, bidder: u8) -> Line<'static>
     requires written { IsWritableCharged charged.now }
     requires bidder { bidder < length charged.now.exchange.bidders }
     ensures line { record_of result ≡ payment_record (payment_at charged.now bidder) }
