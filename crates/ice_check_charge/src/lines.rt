@@ -38,7 +38,7 @@ pub(crate) struct StatedPayment<'a> {
 }
 
 /// The payment that the record states.
-pub(crate) fn payment_in(line: &Line) -> Option<StatedPayment<'_>>
+pub(crate) fn payment_in<'line>(line: &'line Line<'_>) -> Option<StatedPayment<'line>>
     ensures { MatchOption result (payment_in (record_of line.now) ≡ None)
         (λ x. record_of line.now ≡ payment_record x) }
 {

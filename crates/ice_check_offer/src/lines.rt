@@ -31,7 +31,7 @@ pub(crate) fn stops_round(file: u8, line: &Line) -> bool
 }
 
 /// The prices that the record states.
-pub(crate) fn prices_in(line: &Line) -> Option<&Prices>
+pub(crate) fn prices_in<'line>(line: &'line Line<'_>) -> Option<&'line Prices>
     ensures { MatchOption result ((goods : ℕ) → prices_in goods (record_of line.now) ≡ None)
         (λ prices. record_of line.now ≡ records.prices prices.now) }
 {

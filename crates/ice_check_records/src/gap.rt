@@ -53,7 +53,7 @@ pub(crate) enum GapStage {
 
 impl Spent {
     /// The head of the group, with this value.
-    fn head(self) -> Line
+    fn head(self) -> Line<'static>
         ensures { record_of result ≡ head_of_group self.group self.value }
     {
         match self.group {

@@ -47,7 +47,7 @@ pub(crate) fn begins_first(line: &Line) -> bool
 }
 
 /// The set that the record states.
-pub(crate) fn set_in(line: &Line) -> Option<&NodeSet>
+pub(crate) fn set_in<'line>(line: &'line Line<'_>) -> Option<&'line NodeSet>
     ensures { MatchOption result (set_in (record_of line.now) ≡ None)
         (λ set. record_of line.now ≡ records.set set.now) }
 {
