@@ -12,11 +12,11 @@ use Rattle.ice_defs.specs.Steps.{branch, leaf, dead}
 use Rattle.ice_defs.specs.Fraction.{Fraction}
 use Rattle.ice_defs.specs.PricingLimit as limits
 use Rattle.ice_journal.specs.Records as line
-use Rattle.ice_journal.specs.Records.{Record, Change}
-use Rattle.ice_journal.specs.Ranges.{IsRecord, IsName, IsValue, IsTotal, IsMultiplier, IsDen, IsViolationField, IsFractionField, IsChange}
-use Rattle.ice_journal.specs.Spelling.{version_word, kind_word, end_word, stage_word, limit_word, bit_byte, fraction_text, counted_list, change_fields, fields_of}
-use Rattle.ice_journal.proofs.Clear.{abs_between, abs_from}
-use Rattle.ice_journal.proofs.Joined.{value_length}
+use Rattle.ice_journal.specs.Records.{Record, Change, Numbered}
+use Rattle.ice_journal.specs.Ranges.{IsRecord, IsName, IsValue, IsTotal, IsMultiplier, IsDen, IsViolationField, IsFractionField, IsChange, IsToll}
+use Rattle.ice_journal.specs.Spelling.{version_word, kind_word, end_word, stage_word, limit_word, bit_byte, fraction_text, counted_list, change_fields, numbered_fields, fields_of}
+use Rattle.ice_journal.proofs.Clear.{abs_between, abs_from, amounts_tolls}
+use Rattle.ice_journal.proofs.Joined.{value_length, toll_length}
 use Rattle.ice_check.specs.Standing.{RecordsAreShort}
 
 -- the bytes of fields, and a space behind each
@@ -94,6 +94,13 @@ changes (c ∷ cs) h =
     subst (λ (fs : List (List ℕ)). width fs ≤ 82 * suc (length cs)) (sym (flat_map-cons change_fields c cs))
     (omega (arith, digits c.good (omega (arith, h.0.0)), multiplier c.multiplier h.0.1, changes cs h.1))
 
+numbers : (ns : List Numbered) → AllByRecursion IsToll ns → width (flat_map numbered_fields ns) ≤ 26 * length ns
+numbers [] h = omega arith
+numbers (n ∷ ns) h =
+    let number : length (decimal n.number) ≤ 4 = length-decimal-le_wide 4 n.number (omega arith) (omega (arith, h.0.0)) (omega (arith, h.0.0)) in
+    subst (λ (fs : List (List ℕ)). width fs ≤ 26 * suc (length ns)) (sym (flat_map-cons numbered_fields n ns))
+    (omega (arith, number, toll_length n.amount h.0.1, numbers ns h.1))
+
 version : (v : line.Version) → length (version_word v) ≤ 8
 version line.version_1 = omega arith
 version line.version_2 = omega arith
@@ -159,6 +166,9 @@ fields (line.step (branch b n)) h = omega (arith, digits b (omega (arith, h.0)),
 fields (line.step (leaf m)) h = omega (arith, h.0.1, listed IsMultiplier signed_decimal multiplier m h.1)
 fields (line.step (dead b)) h = omega (arith, digits b (omega (arith, h)))
 fields (line.near cs) h = omega (arith, h.0, digits (length cs) (omega (arith, h.0)), changes cs h.2)
+fields (line.tolled ns) h = omega (arith, h.0.1, digits (length ns) (omega (arith, h.0.1)), numbers ns h.2)
+fields (line.derive l) h = omega (arith, between (2 ^ 40) (2 ^ 40) l (omega arith) (omega arith) (omega arith) h)
+fields (line.amounts b ns) h = omega (arith, digits b (omega (arith, h.0)), h.1.0.1, digits (length ns) (omega (arith, h.1.0.1)), numbers ns (amounts_tolls ns h.1.2))
 fields (line.regret a) h = omega (arith, from 0 400000000000000 a (omega arith) h)
 fields (line.prices p) h =
     omega (arith, den p.den h.den, h.count.1, listed (IsBetween (pos 0) (pos (2 ^ 62))) signed_decimal (λ x b. from 0 (2 ^ 62) x (omega arith) b) p.nums h.each)

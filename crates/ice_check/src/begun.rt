@@ -7,7 +7,7 @@ ghost use Rattle.ice_journal.specs.Spelling.{text_of};
 ghost use Rattle.ice_check.specs.Standing.{IsTextOf};
 
 use arrayvec::ArrayVec;
-use ice_journal::{Line, read_record};
+use ice_journal::{Line, Room, read_record};
 
 /// What is kept of the text of a line whose newline has not come: the whole text, as long as a
 /// record may have it.
@@ -47,7 +47,7 @@ impl Begun {
     }
 
     /// The record of the line, if it is the text of one.
-    fn record(&self) -> Option<Line>
+    fn record<'room>(&self, room: &'room mut Room) -> Option<Line<'room>>
         ensures read { (text : List ℕ) → IsTextOf self.now text
             → Reads (option_map record_of result) IsRecord text_of text }
         ensures lawful { IfSome result (λ line. IsRecord (record_of line)) }
@@ -55,19 +55,19 @@ impl Begun {
         if self.is_long {
             None
         } else {
-            read_record(self.text.as_slice())
+            read_record(self.text.as_slice(), room)
         }
     }
 
     /// The record of the line, where some of its bytes have come and these are its last ones.
-    fn end_kept(&mut self, last: &[u8]) -> Option<Line>
+    fn end_kept<'room>(&mut self, last: &[u8], room: &'room mut Room) -> Option<Line<'room>>
         ensures read { (text : List ℕ) → IsTextOf self.old text
             → Reads (option_map record_of result) IsRecord text_of (text ++ last.now) }
         ensures lawful { IfSome result (λ line. IsRecord (record_of line)) }
         ensures empty { IsTextOf self.new [] }
     {
         self.push(last);
-        let record = self.record();
+        let record = self.record(room);
         self.text.clear();
         self.is_long = false;
         record
@@ -75,16 +75,16 @@ impl Begun {
 
     /// The record of the line, if it is the text of one, where these are its last bytes. The next
     /// line has not begun. It takes no memory.
-    pub(crate) fn end(&mut self, last: &[u8]) -> Option<Line>
+    pub(crate) fn end<'room>(&mut self, last: &[u8], room: &'room mut Room) -> Option<Line<'room>>
         ensures read { (text : List ℕ) → IsTextOf self.old text
             → Reads (option_map record_of result) IsRecord text_of (text ++ last.now) }
         ensures lawful { IfSome result (λ line. IsRecord (record_of line)) }
         ensures empty { IsTextOf self.new [] }
     {
         if self.is_empty() {
-            read_record(last)
+            read_record(last, room)
         } else {
-            self.end_kept(last)
+            self.end_kept(last, room)
         }
     }
 }

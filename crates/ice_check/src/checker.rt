@@ -6,6 +6,7 @@ ghost use Rattle.ice_check.specs.Standing.{StandsFor, IsStopped, is_ready_at, Is
 use crate::begun::Begun;
 use crate::lines::Lines;
 use ice_check_records::Checker as RecordChecker;
+use ice_journal::Room;
 use ice_journal_laws::{Answer, CheckEnd};
 use ice_line::split_line;
 use std::alloc::{AllocError, Global};
@@ -18,6 +19,7 @@ use std::marker::Model;
 pub struct Checker {
     count: u64,
     begun: Box<Begun>,
+    room: Box<Room>,
     lines: Lines,
 }
 
@@ -39,10 +41,12 @@ impl Checker {
         ensures count { IfOk result (λ c. c.count ≡ 0) }
     {
         let begun = Box::new(alloc, Begun::new())?;
+        let room = Box::new(alloc, Room::new())?;
         let lines = Lines::Records(RecordChecker::new(alloc));
         Ok(Checker {
             count: 0,
             begun,
+            room,
             lines,
         })
     }
@@ -59,7 +63,7 @@ impl Checker {
         ensures stays { OnOk result (IsTrue (is_ready_at self.old)
             → IsTrue (is_ready_at self.new)) }
     {
-        let record = self.begun.end(text);
+        let record = self.begun.end(text, &mut self.room);
         self.count += text.len() as u64 + 1;
         self.lines.take(&record)
     }
@@ -125,6 +129,7 @@ impl Checker {
         let Checker {
             count: _,
             begun,
+            room: _,
             lines,
         } = self;
         match lines {

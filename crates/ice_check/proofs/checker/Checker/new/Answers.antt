@@ -14,7 +14,7 @@ returns-clause-stands c =
         begun = [];
         cut = refl;
         one_line = no_byte;
-        lines = nothing_taken c.new-3.result c.new-3.ensures.made c.new-3.ensures.first;
+        lines = nothing_taken c.new-5.result c.new-5.ensures.made c.new-5.ensures.first;
         text = subst (λ (b : Begun). IsTextOf b []) (sym same) c.new.ensures;
       };
     }
