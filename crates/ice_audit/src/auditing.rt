@@ -5,6 +5,7 @@ use crate::answer::AuditAnswer;
 use crate::auditor::Auditor;
 use crate::line::read_line;
 use crate::standing::Standing;
+use ice_journal::Room;
 use ice_journal_laws::CheckEnd;
 use ice_line::split_line;
 use std::alloc::Global;
@@ -20,10 +21,11 @@ pub fn audit(alloc: Global, bytes: &[u8]) -> Result<AuditAnswer, CheckEnd>
     ensures { AnswersAudit bytes.now result }
 {
     let mut standing = Standing::Going(Auditor::Name);
+    let mut room = Room::new();
     let mut rest = bytes;
     let mut number: u64 = 1;
     while let Some((text, after)) = split_line(rest) {
-        let Some(line) = read_line(text) else {
+        let Some(line) = read_line(text, &mut room) else {
             return Err(CheckEnd::Grammar { line: number });
         };
         if standing.take(alloc, number, &line).is_err() {

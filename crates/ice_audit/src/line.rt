@@ -5,17 +5,17 @@ ghost use Rattle.ice_statement_laws.specs.Statement.{statement_text};
 ghost use Rattle.ice_statement_laws.specs.Texts.{IsLine};
 ghost use Rattle.ice_audit.specs.Lines.{line_of, FindsOwn};
 
-use ice_journal::{Line, node_bits, read_record};
+use ice_journal::{Line, Room, node_bits, read_record};
 use ice_set::NodeSet;
 use ice_terms::Name;
 
 /// A line of a statement.
 #[derive(Drop)]
-pub(crate) enum StatementLine {
+pub(crate) enum StatementLine<'room> {
     /// `statement NAME`.
     Named(Name),
     /// A record of the journal.
-    Shown(Line),
+    Shown(Line<'room>),
     /// `kept BITS`: the bidder's final set.
     Kept(NodeSet),
     /// `offered BITS`: the bidder's provisional set.
@@ -33,7 +33,7 @@ fn behind<'a>(text: &'a [u8], word: &[u8]) -> Option<&'a [u8]>
 }
 
 /// The line with this name.
-fn named_line(field: &[u8]) -> Option<StatementLine>
+fn named_line(field: &[u8]) -> Option<StatementLine<'static>>
     ensures { FindsOwn (option_map line_of result) (codes "statement " ++ field.now) }
 {
     match Name::from_bytes(field) {
@@ -43,7 +43,7 @@ fn named_line(field: &[u8]) -> Option<StatementLine>
 }
 
 /// The line of this final set.
-fn kept_line(field: &[u8]) -> Option<StatementLine>
+fn kept_line(field: &[u8]) -> Option<StatementLine<'static>>
     ensures { FindsOwn (option_map line_of result) (codes "kept " ++ field.now) }
 {
     match node_bits(field) {
@@ -53,7 +53,7 @@ fn kept_line(field: &[u8]) -> Option<StatementLine>
 }
 
 /// The line of this provisional set.
-fn offered_line(field: &[u8]) -> Option<StatementLine>
+fn offered_line(field: &[u8]) -> Option<StatementLine<'static>>
     ensures { FindsOwn (option_map line_of result) (codes "offered " ++ field.now) }
 {
     match node_bits(field) {
@@ -63,7 +63,7 @@ fn offered_line(field: &[u8]) -> Option<StatementLine>
 }
 
 /// The line that has this text and is no record, and None exactly where there is none.
-fn own_line(text: &[u8]) -> Option<StatementLine>
+fn own_line(text: &[u8]) -> Option<StatementLine<'static>>
     ensures { FindsOwn (option_map line_of result) text.now }
 {
     if text == b"end statement".as_slice() {
@@ -82,11 +82,11 @@ fn own_line(text: &[u8]) -> Option<StatementLine>
 }
 
 /// The line of the record with this text.
-fn shown_line(text: &[u8]) -> Option<StatementLine>
+fn shown_line<'room>(text: &[u8], room: &'room mut Room) -> Option<StatementLine<'room>>
     requires { FindsOwn None text.now }
     ensures { Reads (option_map line_of result) IsLine statement_text text.now }
 {
-    match read_record(text) {
+    match read_record(text, room) {
         Some(record) => Some(StatementLine::Shown(record)),
         None => None,
     }
@@ -94,11 +94,11 @@ fn shown_line(text: &[u8]) -> Option<StatementLine>
 
 /// The line of which this is the one spelling, and None exactly where it is the spelling of no line
 /// of a statement. The text has no newline at its end.
-pub(crate) fn read_line(text: &[u8]) -> Option<StatementLine>
+pub(crate) fn read_line<'room>(text: &[u8], room: &'room mut Room) -> Option<StatementLine<'room>>
     ensures { Reads (option_map line_of result) IsLine statement_text text.now }
 {
     match own_line(text) {
         Some(line) => Some(line),
-        None => shown_line(text),
+        None => shown_line(text, room),
     }
 }

@@ -3,7 +3,7 @@ ghost use Rattle.std.specs.Prelude.{◌≡◌};
 ghost use Rattle.ice_reading.specs.Reading.{ReadsAll};
 
 use crate::reader::Reader;
-use ice_journal::{BadLine, next_record};
+use ice_journal::{BadLine, Room, next_record};
 use ice_journal_laws::CheckEnd;
 
 /// Has the records of the bytes taken by a reader that has taken none.
@@ -15,10 +15,11 @@ pub fn read_journal<R: Reader>(bytes: &[u8], reader: &mut R) -> Result<(), Check
     requires { R.line reader.old ≡ 1 }
     ensures { ReadsAll R.step bytes.now reader.old result reader.new }
 {
+    let mut room = Room::new();
     let mut rest = bytes;
     let mut read = 0u64;
     while !rest.is_empty() {
-        let (record, after) = match next_record(rest) {
+        let (record, after) = match next_record(rest, &mut room) {
             Ok(next) => next,
             Err(BadLine::NoRecord) => return Err(CheckEnd::Grammar { line: read + 1 }),
             Err(BadLine::NotEnded) => return Err(CheckEnd::Unended { line: read + 1 }),

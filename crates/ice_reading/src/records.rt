@@ -7,7 +7,7 @@ ghost use Rattle.ice_journal.specs.Journal.{IsJournal};
 ghost use Rattle.ice_journal.specs.Lines.{record_of};
 ghost use Rattle.ice_reading.specs.Records.{Starts, HasLine, StartsWithLine, Shortens};
 
-use ice_journal::{Line, read_record};
+use ice_journal::{Line, Room, read_record};
 use ice_line::split_line;
 use std::marker::Model;
 
@@ -35,7 +35,7 @@ impl<'a> Records<'a> {
     }
 
     /// The next record, where one is left.
-    pub fn next(&mut self) -> Option<Line>
+    pub fn next<'room>(&mut self, room: &'room mut Room) -> Option<Line<'room>>
         ensures next { (left : List Record) → IsJournal self.old left
             → Starts left result self.new }
         ensures lawful { IfSome result (λ line. IsRecord (record_of line)) }
@@ -43,7 +43,7 @@ impl<'a> Records<'a> {
     {
         let (text, after) = split_line(self.rest)?;
         self.rest = after;
-        read_record(text)
+        read_record(text, room)
     }
 
     /// The line of the next record with its newline, where one is left; it is not read.
@@ -60,7 +60,10 @@ impl<'a> Records<'a> {
     }
 
     /// The next record and its line with the newline, where one is left.
-    pub fn next_with_line(&mut self) -> Option<(Line, &'a [u8])>
+    pub fn next_with_line<'room>(
+        &mut self,
+        room: &'room mut Room,
+    ) -> Option<(Line<'room>, &'a [u8])>
         ensures next { (left : List Record) → IsJournal self.old left
             → StartsWithLine left result self.new }
         ensures line { IfSome result (λ both. both.1.now ≡ line_of (record_of both.0)) }
@@ -69,7 +72,7 @@ impl<'a> Records<'a> {
         let (text, after) = split_line(self.rest)?;
         let line = &self.rest[..text.len() + 1];
         self.rest = after;
-        let record = read_record(text)?;
+        let record = read_record(text, room)?;
         Some((record, line))
     }
 }

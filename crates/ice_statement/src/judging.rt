@@ -7,7 +7,7 @@ ghost use Rattle.ice_journal_laws.specs.Answers.{AnswersJournal};
 ghost use Rattle.ice_statement.specs.Judging.{is_session, end_at, has_bidder, MayState, Finds};
 
 use ice_check::{Answer, check};
-use ice_journal::{Kind, Line};
+use ice_journal::{Kind, Line, Room};
 use ice_reading::{CheckEnd, JournalEnd, Records};
 use std::alloc::Global;
 
@@ -34,7 +34,7 @@ fn is_session_head(line: &Line) -> bool
 fn is_session(bytes: &[u8]) -> bool
     ensures { (journal : List Record) → IsJournal bytes.now journal → is_session journal ≡ result }
 {
-    match Records::new(bytes).next() {
+    match Records::new(bytes).next(&mut Room::new()) {
         Some(line) => is_session_head(&line),
         None => false,
     }
@@ -65,8 +65,9 @@ fn has_bidder(bytes: &[u8], name: &[u8]) -> bool
     ensures { (journal : List Record) → IsJournal bytes.now journal
         → has_bidder name.now journal ≡ result }
 {
+    let mut room = Room::new();
     let mut records = Records::new(bytes);
-    while let Some(line) = records.next() {
+    while let Some(line) = records.next(&mut room) {
         if let Some(found) = end_at(&line, name) {
             return found;
         }

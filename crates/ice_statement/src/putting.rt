@@ -12,7 +12,7 @@ ghost use Rattle.ice_statement_laws.specs.Gathering.{new_gathering, shown_if, li
 use crate::gathering::Gathering;
 use crate::lines::{write_kept, write_offered};
 use ice_edge::{Sink, SinkFault};
-use ice_journal::Line;
+use ice_journal::{Line, Room};
 use ice_line::LineWriter;
 use ice_reading::Records;
 use ice_set::NodeSet;
@@ -99,7 +99,8 @@ fn put_gathered<K: Sink>(bytes: &[u8], name: &[u8], out: &mut K) -> Result<(), S
 {
     let mut gathering = Gathering::new(name);
     let mut records = Records::new(bytes);
-    while let Some((record, line)) = records.next_with_line() {
+    let mut room = Room::new();
+    while let Some((record, line)) = records.next_with_line(&mut room) {
         put_added(&gathering, &record, line, out)?;
         gathering.take(&record);
     }
