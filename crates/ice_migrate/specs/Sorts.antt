@@ -15,12 +15,12 @@ sort_of (line.step (branch b n)) = Step
 sort_of (line.step (dead b)) = Step
 sort_of other = Other
 
--- by the first two bytes of a line: `go`, `ex`, `bi`, `le`, `br` or `de`
+-- by the first and the third byte of a line: `good`, `exact`, `bidder`, `leaf`, `branch` or `dead`
 abbrev pub sort_by : ℕ → ℕ → Sort
-sort_by first second =
-    if first == 103 && second == 111 then Good else
-    if first == 101 && second == 120 then Good else
-    if first == 98 && second == 105 then Bidder else
-    if first == 108 && second == 101 then Leaf else
-    if first == 98 && second == 114 then Step else
-    if first == 100 && second == 101 then Step else Other
+sort_by first third =
+    if first == 103 && third == 111 then Good else
+    if first == 101 && third == 97 then Good else
+    if first == 98 && third == 100 then Bidder else
+    if first == 108 && third == 97 then Leaf else
+    if first == 98 && third == 97 then Step else
+    if first == 100 && third == 97 then Step else Other

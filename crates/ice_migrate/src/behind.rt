@@ -9,6 +9,7 @@ ghost use Rattle.ice_migrate.specs.Stopped.{count_at, StandsAt, failure_of};
 
 use crate::counts::Counts;
 use crate::place::Place;
+use ice_journal::Room;
 use ice_reading::{Records, Rule};
 
 /// The test that a journal fails: its line, from 1, and its rule.
@@ -25,6 +26,7 @@ fn first_out_of_order(
     counts: Counts,
     line: u64,
     records: &mut Records<'_>,
+    room: &mut Room,
 ) -> Option<FailedTest>
     requires few { line + length records.old < 2 ^ 63 + 2 }
     requires low { count_at place ≤ line }
@@ -33,7 +35,7 @@ fn first_out_of_order(
 {
     let mut here = place;
     let mut number = line;
-    while let Some(record) = records.next() {
+    while let Some(record) = records.next(room) {
         match here.after(&record, counts) {
             Some(next) => here = next,
             None => {
@@ -63,6 +65,8 @@ pub(crate) fn order_fault(bytes: &[u8], stop: u64) -> Option<FailedTest>
     let mut records = Records::new(bytes);
     let before = stop.saturating_sub(1);
     let counts = Counts::of_first(&mut records, before)?;
-    let first = records.next()?;
-    first_out_of_order(Place::behind(&first), counts, before + 2, &mut records)
+    let mut room = Room::new();
+    let first = records.next(&mut room)?;
+    let place = Place::behind(&first);
+    first_out_of_order(place, counts, before + 2, &mut records, &mut room)
 }

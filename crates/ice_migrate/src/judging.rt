@@ -9,7 +9,7 @@ ghost use Rattle.ice_migrate.specs.Found.{Tells};
 
 use crate::behind::{FailedTest, order_fault};
 use ice_check::{Answer, check};
-use ice_journal::{Kind, Line, Version};
+use ice_journal::{Kind, Line, Room, Version};
 use ice_reading::{CheckEnd, JournalEnd, Records, Rule};
 use std::alloc::Global;
 
@@ -30,7 +30,7 @@ fn is_old_head(line: &Line) -> bool
 fn is_old(bytes: &[u8]) -> bool
     ensures { (journal : List Record) → IsJournal bytes.now journal → is_old journal ≡ result }
 {
-    match Records::new(bytes).next() {
+    match Records::new(bytes).next(&mut Room::new()) {
         Some(line) => is_old_head(&line),
         None => false,
     }

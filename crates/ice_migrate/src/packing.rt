@@ -19,7 +19,7 @@ use crate::gathered::Gathered;
 use crate::sort::{Sort, sort_of};
 use arrayvec::ArrayVec;
 use ice_edge::{Sink, SinkFault};
-use ice_journal::{Change, Line, Version, read_record, write_record};
+use ice_journal::{Change, Line, Room, Version, read_record, write_record};
 use ice_line::LineWriter;
 use ice_reading::Records;
 use ice_write::put_record;
@@ -30,6 +30,7 @@ use ice_write::put_record;
 struct Packing {
     goods: u64,
     leaf: Option<ArrayVec<i64, 32>>,
+    room: Room,
 }
 
 impl Packing {
@@ -38,7 +39,11 @@ impl Packing {
         ensures goods { result.goods ≡ goods }
         ensures before { before_of result ≡ all_zero goods }
     {
-        Packing { goods, leaf: None }
+        Packing {
+            goods,
+            leaf: None,
+            room: Room::new(),
+        }
     }
 
     /// The multiplier of a good that is there.
@@ -120,7 +125,7 @@ impl Packing {
     {
         match sort_of(line) {
             Sort::Leaf => {
-                let Some(multipliers) = leaf_of(line) else {
+                let Some(multipliers) = leaf_of(line, &mut self.room) else {
                     return Ok(());
                 };
                 self.put_leaf(multipliers, writer, gathered, out)
@@ -135,13 +140,13 @@ impl Packing {
 }
 
 /// The multipliers of the leaf that has this line.
-fn leaf_of(line: &[u8]) -> Option<ArrayVec<i64, 32>>
+fn leaf_of(line: &[u8], room: &mut Room) -> Option<ArrayVec<i64, 32>>
     requires { 0 < length line.now }
     ensures is { (r : Record) → IsRecord r → line.now ≡ line_of r → shown.sort_of r ≡ Sort.Leaf
         → MatchOption result ⊥ (λ multipliers. r ≡ step (leaf multipliers.items)) }
     ensures lawful { IfSome result (λ multipliers. IsRecord (step (leaf multipliers.items))) }
 {
-    match read_record(&line[..line.len() - 1])? {
+    match read_record(&line[..line.len() - 1], room)? {
         Line::Leaf(multipliers) => Some(multipliers),
         _ => None,
     }
@@ -192,7 +197,7 @@ pub fn put_packed<K: Sink>(bytes: &[u8], out: &mut K) -> Result<(), SinkFault>
 {
     let goods = Counts::of_all(bytes).goods;
     let mut records = Records::new(bytes);
-    let Some(Line::Head { kind, .. }) = records.next() else {
+    let Some(Line::Head { kind, .. }) = records.next(&mut Room::new()) else {
         return Ok(());
     };
     put_record(

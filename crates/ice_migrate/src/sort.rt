@@ -19,21 +19,21 @@ pub(crate) enum Sort {
     Other,
 }
 
-/// The sort of a record whose line begins with these bytes.
-fn sort_by(first: u8, second: u8) -> Sort
-    ensures { result ≡ shown.sort_by first second }
+/// The sort of a record whose line has these bytes first and third.
+fn sort_by(first: u8, third: u8) -> Sort
+    ensures { result ≡ shown.sort_by first third }
 {
-    if first == b'g' && second == b'o' {
+    if first == b'g' && third == b'o' {
         Sort::Good
-    } else if first == b'e' && second == b'x' {
+    } else if first == b'e' && third == b'a' {
         Sort::Good
-    } else if first == b'b' && second == b'i' {
+    } else if first == b'b' && third == b'd' {
         Sort::Bidder
-    } else if first == b'l' && second == b'e' {
+    } else if first == b'l' && third == b'a' {
         Sort::Leaf
-    } else if first == b'b' && second == b'r' {
+    } else if first == b'b' && third == b'a' {
         Sort::Step
-    } else if first == b'd' && second == b'e' {
+    } else if first == b'd' && third == b'a' {
         Sort::Step
     } else {
         Sort::Other
@@ -45,7 +45,7 @@ pub(crate) fn sort_of(line: &[u8]) -> Sort
     ensures { (r : Record) → line.now ≡ line_of r → shown.sort_of r ≡ result }
 {
     match line {
-        [first, second, ..] => sort_by(*first, *second),
+        [first, _, third, ..] => sort_by(*first, *third),
         _ => Sort::Other,
     }
 }

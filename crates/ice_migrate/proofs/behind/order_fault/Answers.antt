@@ -20,4 +20,4 @@ returns c = λ journal is old stops.
     let next = c.in_ok-first.ensures.next (x.first ∷ x.after) counts.2 in
     x.order
     ∙ c.first_out_of_order.ensures x.now x.after next.1
-    (stands_behind journal c.args.stop x c.in_ok-counts.counts c.behind.result c.in_ok-first.first c.saturating_sub-before.result (omega (arith, x.count, c.saturating_sub-before.ensures)) counts.0 counts.1 next.0 c.behind.ensures.place)
+    (stands_behind journal c.args.stop x c.in_ok-counts.counts c.behind-place.result c.in_ok-first.first c.saturating_sub-before.result (omega (arith, x.count, c.saturating_sub-before.ensures)) counts.0 counts.1 next.0 c.behind-place.ensures.place)
