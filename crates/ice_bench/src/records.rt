@@ -1,5 +1,5 @@
 //! The reading of records.
-use ice_journal::read_record;
+use ice_journal::{Room, read_record};
 
 /// Lines of the kinds that long journals have most of.
 const LINES: [&[u8]; 6] = [
@@ -13,10 +13,11 @@ const LINES: [&[u8]; 6] = [
 
 /// The bytes of so many lines, each of which is read as a record.
 pub fn bytes_read(calls: u32) -> u64 {
+    let mut room = Room::new();
     let mut total = 0u64;
     for call in 0..calls {
         let line = LINES[call as usize % 6];
-        if read_record(line).is_some() {
+        if read_record(line, &mut room).is_some() {
             total = total.wrapping_add(line.len() as u64 + 1);
         }
     }

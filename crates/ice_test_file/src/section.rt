@@ -1,10 +1,11 @@
 //! The section of an exchange, taken record by record.
-use ice_journal::read_record;
+use ice_journal::{Room, read_record};
 use ice_section::Section;
 use std::test::Fail;
 
 #[test]
 fn a_section(rt: HostRuntime) -> Result<(), Fail> {
+    let mut room = Room::new();
     let mut section = Section::new(rt.alloc());
     for text in [
         "settings 50 0 100 1 5 200",
@@ -13,7 +14,7 @@ fn a_section(rt: HostRuntime) -> Result<(), Fail> {
         "node sell 0 2 -2 -2",
     ] {
         assert!(rt; !section.may_end(), "{text}");
-        let line = read_record(text.as_bytes()).ok_or("no record")?;
+        let line = read_record(text.as_bytes(), &mut room).ok_or("no record")?;
         section.take(&line)?;
     }
     assert!(rt; section.may_end());
