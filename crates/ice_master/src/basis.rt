@@ -2,7 +2,7 @@
 
 /// What may be in a basis beside the key columns of the bidders.
 #[derive(Clone, Copy)]
-pub(crate) enum Basic {
+pub enum Basic {
     /// The units of a good that are left over.
     Slack(u8),
     /// The units of a good that are lacking.
@@ -11,13 +11,14 @@ pub(crate) enum Basic {
     Set {
         /// The number of the set.
         number: u16,
+        /// The bidder.
         bidder: u8,
     },
 }
 
 impl Basic {
     /// The bidder whose set it is. None where it is no set.
-    pub(crate) fn bidder(self) -> Option<u8> {
+    pub fn bidder(self) -> Option<u8> {
         match self {
             Basic::Set { bidder, .. } => Some(bidder),
             _ => None,

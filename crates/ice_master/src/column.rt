@@ -4,13 +4,14 @@ use crate::nodes::Nodes;
 
 /// A set of nodes of one bidder's tree.
 #[derive(Clone, Copy)]
-pub(crate) struct Column {
-    pub(crate) nodes: Nodes,
+pub struct Column {
+    pub nodes: Nodes,
     /// The amount that it is worth.
     pub(crate) value: i64,
     /// What it buys of each good, and less than nothing where it sells.
-    pub(crate) units: [i32; 16],
-    pub(crate) bidder: u8,
+    pub units: [i32; 16],
+    /// The bidder whose tree it is of.
+    pub bidder: u8,
 }
 
 impl Column {

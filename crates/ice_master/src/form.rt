@@ -6,7 +6,7 @@ use ice_relaxation::{Choice, Leaf, Openness, Operation, Row, Rule, Work};
 use ice_tree::{NodeKind, Tree};
 
 /// The amounts of the weights of one tree, node by node.
-pub(crate) type Worths = [i64; 200];
+pub type Worths = [i64; 200];
 
 /// The operations of one tree under its marks, each choice after its operands. A tree has at most
 /// 200 nodes, so a byte holds each number and each place, and no count comes to 255, where it would
@@ -185,6 +185,21 @@ impl Form {
         self.nodes[usize::from(number)] = nodes;
         self.count = self.count.saturating_add(1);
         number
+    }
+
+    /// Works out anew what the operations are worth, by the worths of the nodes they bring along.
+    pub(crate) fn weigh(&mut self, worths: &Worths) {
+        for number in 0..self.count {
+            let mut nodes = self.nodes[usize::from(number)];
+            let mut worth: i64 = 0;
+            for _node in 0..200 {
+                let Some(node) = nodes.take_first() else {
+                    break;
+                };
+                worth = worth.wrapping_add(worths[usize::from(node % 200)]);
+            }
+            self.list[usize::from(number)].worth = worth;
+        }
     }
 
     /// How many operations there are.

@@ -2,9 +2,6 @@
 
 use crate::scale::{ONE, clamped, product, rounded};
 
-/// The least pivot in size: one part in 2^26.
-pub(crate) const LEAST_PIVOT: i64 = 1 << 14;
-
 /// The inverse of a working basis: a row for each place of the basis and a column for each good, in
 /// parts of 2^-40.
 #[derive(Clone, Copy)]

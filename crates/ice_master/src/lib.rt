@@ -7,10 +7,12 @@
 
 mod basis;
 mod candidates;
+mod charged;
 mod column;
 mod entering;
 mod form;
 mod inverse;
+mod leaving;
 mod market;
 mod master;
 mod mix;
@@ -22,8 +24,15 @@ mod scale;
 mod solving;
 mod tableau;
 
-pub use basis::Basis;
+pub use basis::{Basic, Basis};
 pub use candidates::{Candidates, Shared};
+pub use column::Column;
+pub use form::Worths;
+pub use leaving::{Leaving, Limit};
+pub use market::Market;
 pub use master::Master;
+pub use mix::{NEARLY, Shares, add_share};
 pub use nodes::Nodes;
+pub use pool::Pool;
+pub use scale::{LACK, LEAST_PIVOT, NO_GAIN, ONE, Scale, clamped, product, rounded};
 pub use solving::{Aim, Dual};

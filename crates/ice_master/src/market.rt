@@ -5,9 +5,11 @@ use crate::scale::LACK;
 
 /// How many goods and bidders there are, and which goods may not be left over.
 #[derive(Clone, Copy)]
-pub(crate) struct Market {
-    pub(crate) goods: u8,
-    pub(crate) bidders: u8,
+pub struct Market {
+    /// So many goods, at most 16.
+    pub goods: u8,
+    /// So many bidders.
+    pub bidders: u8,
     exact: [bool; 16],
 }
 
@@ -29,12 +31,12 @@ impl Market {
     }
 
     /// Whether no unit of a good may be left over.
-    pub(crate) fn is_exact(&self, good: u8) -> bool {
+    pub fn is_exact(&self, good: u8) -> bool {
         self.exact[usize::from(good % 16)]
     }
 
     /// What units that are left over or lacking are worth; a set none by itself.
-    pub(crate) fn worth(&self, basic: Basic) -> i64 {
+    pub fn worth(&self, basic: Basic) -> i64 {
         match basic {
             Basic::Slack(good) if self.is_exact(good) => -LACK,
             Basic::Lack(_) => -LACK,

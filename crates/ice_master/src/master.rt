@@ -22,13 +22,16 @@ use std::alloc::{AllocError, Global};
 /// Only `new` takes memory.
 #[derive(Drop)]
 pub struct Master {
-    pub(crate) market: Market,
-    pub(crate) scale: Scale,
-    worths: Vec<Worths>,
+    /// Its goods and bidders.
+    pub market: Market,
+    /// How fine the amounts of its weights are.
+    pub scale: Scale,
+    pub(crate) worths: Vec<Worths>,
     pub(crate) forms: Vec<Form>,
     openness: Openness,
     pub(crate) outcome: Outcome,
-    pub(crate) pool: Pool,
+    /// The sets that were found.
+    pub pool: Pool,
     pub(crate) tableau: Tableau,
     /// The columns that the last pricing found to gain ..
     pub(crate) gaining: [Basic; 64],

@@ -6,13 +6,13 @@ use crate::nodes::Nodes;
 use crate::scale::ONE;
 
 /// A share up to this counts as none, and one that lacks no more than this as whole.
-pub(crate) const NEARLY: i64 = ONE >> 20;
+pub const NEARLY: i64 = ONE >> 20;
 
 /// The shares of the nodes of one tree.
-pub(crate) type Shares = [i64; 256];
+pub type Shares = [i64; 256];
 
 /// Adds the share of a set to those of its nodes.
-fn add_share(shares: &mut Shares, nodes: &Nodes, share: i64) {
+pub fn add_share(shares: &mut Shares, nodes: &Nodes, share: i64) {
     for node in 0..=255_u8 {
         if nodes.has(node) {
             let sum = &mut shares[usize::from(node)];

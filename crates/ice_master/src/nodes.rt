@@ -8,7 +8,7 @@ pub struct Nodes {
 
 impl Nodes {
     /// The set with none.
-    pub(crate) const NONE: Nodes = Nodes { words: [0; 4] };
+    pub const NONE: Nodes = Nodes { words: [0; 4] };
 
     /// Whether the node is inside.
     pub fn has(&self, node: u8) -> bool {
@@ -16,7 +16,7 @@ impl Nodes {
     }
 
     /// Puts a node in.
-    pub(crate) fn insert(&mut self, node: u8) {
+    pub fn insert(&mut self, node: u8) {
         self.words[usize::from(node / 64)] |= 1 << (node % 64);
     }
 
@@ -25,6 +25,27 @@ impl Nodes {
         for word in 0..4 {
             self.words[word] |= others.words[word];
         }
+    }
+
+    /// Takes the first node out. None where there is none.
+    pub fn take_first(&mut self) -> Option<u8> {
+        for word in 0..4_u8 {
+            let bits = self.words[usize::from(word)];
+            if bits != 0 {
+                self.words[usize::from(word)] = bits & bits.wrapping_sub(1);
+                return Some(word * 64 + (bits.trailing_zeros() % 64) as u8);
+            }
+        }
+        None
+    }
+
+    /// The nodes that are in both.
+    pub fn common(&self, others: &Nodes) -> Nodes {
+        let mut common = *self;
+        for word in 0..4 {
+            common.words[word] &= others.words[word];
+        }
+        common
     }
 
     /// Whether it has the same nodes as another one.

@@ -30,7 +30,7 @@ struct Demand {
 /// The columns that were found, each with a number. Those of the empty sets come first, one for
 /// each bidder, whose number it has.
 #[derive(Drop)]
-pub(crate) struct Pool {
+pub struct Pool {
     columns: Vec<Column>,
     count: u16,
     /// So many are those of the empty sets.
@@ -88,7 +88,7 @@ impl Pool {
 
     /// Makes room for the columns of a solve, where it must by forgetting those there are. What was
     /// kept of their numbers is of another age then.
-    pub(crate) fn make_room(&mut self) {
+    pub fn make_room(&mut self) {
         if self.count > MOST - SPARE {
             self.age = self.age.wrapping_add(1);
             self.begin();
@@ -96,7 +96,7 @@ impl Pool {
     }
 
     /// The age of the columns.
-    pub(crate) fn age(&self) -> u32 {
+    pub fn age(&self) -> u32 {
         self.age
     }
 
@@ -137,7 +137,7 @@ impl Pool {
     }
 
     /// The column of a number.
-    pub(crate) fn column(&self, number: u16) -> &Column {
+    pub fn column(&self, number: u16) -> &Column {
         match self.columns.get(usize::from(number)) {
             Some(column) => column,
             None => &self.blank,
@@ -166,7 +166,7 @@ impl Pool {
     }
 
     /// What a column is worth under the marks: far less where it breaks them.
-    pub(crate) fn value(&self, number: u16) -> i64 {
+    pub fn value(&self, number: u16) -> i64 {
         let column = self.column(number);
         let demand = &self.demands[usize::from(column.bidder % 64)];
         if column.nodes.meets(&demand.must, &demand.never) {

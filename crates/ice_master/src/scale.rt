@@ -1,39 +1,42 @@
 //! Whole numbers that stand for fractions: how fine they are, and how they are multiplied.
 
 /// One, in the parts of 2^-40 in which shares of sets and the inverse of a basis are kept.
-pub(crate) const ONE: i64 = 1 << 40;
+pub const ONE: i64 = 1 << 40;
+
+/// The least pivot in size: one part in 2^26.
+pub const LEAST_PIVOT: i64 = 1 << 14;
 
 /// Greatest weights have so many bits in an amount.
 const BITS: u32 = 38;
 
 /// A gain of an amount up to this counts as none: 2^-26 of the greatest weight.
-pub(crate) const NO_GAIN: i64 = 1 << 12;
+pub const NO_GAIN: i64 = 1 << 12;
 
 /// The amount that a unit costs which is lacking: eight times the greatest weight or more.
-pub(crate) const LACK: i64 = 1 << 41;
+pub const LACK: i64 = 1 << 41;
 
 /// The amount that a set costs which breaks the marks of its tree.
 pub(crate) const BREACH: i64 = 1 << 48;
 
 /// How fine amounts are: in parts of 2^-shift, so that the greatest weight has 38 bits.
 #[derive(Clone, Copy)]
-pub(crate) struct Scale {
+pub struct Scale {
     shift: u32,
 }
 
 /// The number itself, or the limit that it passes.
-pub(crate) fn clamped(number: i128) -> i64 {
+pub fn clamped(number: i128) -> i64 {
     let most = 1 << 62;
     number.clamp(-most, most) as i64
 }
 
 /// The product of two numbers.
-pub(crate) fn product(one: i64, other: i64) -> i128 {
+pub fn product(one: i64, other: i64) -> i128 {
     i128::from(one).wrapping_mul(i128::from(other))
 }
 
 /// What is left of a product where one factor was in parts of 2^-40.
-pub(crate) fn rounded(product: i128) -> i64 {
+pub fn rounded(product: i128) -> i64 {
     clamped(product.wrapping_add(1 << 39) >> 40)
 }
 
@@ -52,7 +55,7 @@ impl Scale {
     }
 
     /// The least amount of so many 64ths.
-    pub(crate) fn of_64ths(self, number: i64) -> i64 {
+    pub fn of_64ths(self, number: i64) -> i64 {
         clamped(i128::from(number).wrapping_shl(self.shift) >> 6)
     }
 
@@ -71,6 +74,21 @@ impl Scale {
     pub(crate) fn covering_64ths(self, amount: i64) -> i64 {
         let rest = 1_i128.wrapping_shl(self.shift).wrapping_sub(1);
         self.whole_64ths(amount, rest)
+    }
+
+    /// The least amount of so many 4096ths.
+    pub fn of_4096ths(self, number: i64) -> i64 {
+        self.of_64ths(number) >> 6
+    }
+
+    /// The number of 4096ths that is nearest to an amount, which is less than 2^56.
+    pub fn nearest_4096ths(self, amount: i64) -> i64 {
+        self.nearest_64ths(amount.wrapping_mul(64))
+    }
+
+    /// The least number of 4096ths that such an amount doesn't pass.
+    pub fn covering_4096ths(self, amount: i64) -> i64 {
+        self.covering_64ths(amount.wrapping_mul(64))
     }
 
     /// So many whole 64ths are in an amount and this part of one.

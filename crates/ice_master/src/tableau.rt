@@ -1,10 +1,10 @@
 //! A basis with what follows from it: the shares of its columns and the multipliers of the goods.
 
 use crate::basis::{Basic, Basis};
-use crate::inverse::{Inverse, LEAST_PIVOT};
+use crate::inverse::Inverse;
 use crate::market::Market;
 use crate::pool::Pool;
-use crate::scale::{ONE, clamped, product};
+use crate::scale::{LEAST_PIVOT, ONE, clamped, product};
 
 /// A basis with what follows from it.
 #[derive(Drop)]
