@@ -55,19 +55,19 @@ class Counted(Field):
         return values
 
 
-class Changes(Field):
-    """A number, and then so many pairs of a good and a multiplier, the goods ascending."""
+class Pairs(Field):
+    """A number, and then so many pairs of numbers, of which the first ones ascend."""
 
-    def __init__(self) -> None:
-        pair = f"{GOOD.pattern} {MULTIPLIER.pattern}"
-        super().__init__(f"{whole(0, 32).pattern}(?: {pair}){{0,32}}", int)
+    def __init__(self, first: Field, second: Field, most: int, least: int = 0) -> None:
+        pair = f"{first.pattern} {second.pattern}"
+        super().__init__(f"{whole(least, most).pattern}(?: {pair}){{{least},{most}}}", int)
 
     def read(self, words: Iterator[str]) -> Any:
         count, *numbers = map(int, words)
-        goods = numbers[::2]
-        if len(numbers) != 2 * count or any(a >= b for a, b in zip(goods, goods[1:])):
+        firsts = numbers[::2]
+        if len(numbers) != 2 * count or any(a >= b for a, b in zip(firsts, firsts[1:])):
             raise Misspelt
-        return list(zip(goods, numbers[1::2]))
+        return list(zip(firsts, numbers[1::2]))
 
 
 def up_to(most: int) -> str:
@@ -118,6 +118,7 @@ TOTAL, REGRET, VICKREY = (
     whole(0, 10**15),
 )
 MULTIPLIER = whole(-(2**56), 2**56)
+AMOUNT = Field(f"-?(?:{up_to(2**20)})", int)
 VIOLATION, DENOMINATOR = whole(0, 2**100), whole(1, 2**32)
 FRACTION = Field(f"{whole(-10**18, 10**18).pattern}/{whole(1, 1000).pattern}", lowest)
 HELD, HELD_MOST = whole(0, 2**24), whole(1, 2**24)
@@ -173,7 +174,10 @@ ALL_FORMS = (
     Form("set BITS", BITS),
     Form("branch B N", BIDDER, NODE),
     Form("leaf M ..", Several(MULTIPLIER, 32)),
-    Form("near K G M ..", Changes()),
+    Form("near K G M ..", Pairs(GOOD, MULTIPLIER, 32)),
+    Form("derive L", whole(-(2**40), 2**40)),
+    Form("amounts B K N C ..", BIDDER, Pairs(NODE, AMOUNT, 200, least=1)),
+    Form("tolled K G M ..", Pairs(whole(0, 2031), whole(-(2**62), 2**62), 300)),
     Form("dead B", BIDDER),
     Form("regret A", REGRET),
     Form("prices D N ..", DENOMINATOR, Several(whole(0, 2**62), 32)),
