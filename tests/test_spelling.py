@@ -55,8 +55,10 @@ class Spellings(unittest.TestCase):
     def test_submissions(self) -> None:
         self.try_all(spelling.of_submissions())
 
-    def test_changes(self) -> None:
-        self.try_all(spelling.of_changes())
+    def test_pairs(self) -> None:
+        for pairs in spelling.PAIRS:
+            self.try_all(pairs.texts())
+        self.try_all(spelling.of_amounts())
 
 
 if __name__ == "__main__":

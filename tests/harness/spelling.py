@@ -207,31 +207,64 @@ def of_submissions() -> Texts:
     return texts
 
 
-# What the record says is the number of its changes, and it has one of each good from the first to
-# the last.
-CHANGES = [("1", 0, 0), ("1", 31, 31), ("2", 0, 1), ("2", 30, 31), ("31", 1, 31), ("32", 0, 31)]
-NO_CHANGES = [
-    *(("33", 0, 32), ("32", 1, 32), ("1", 32, 32), ("0", 0, 0), ("1", 0, 1), ("2", 0, 0)),
-    *(("31", 0, 31), ("32", 0, 30), ("33", 0, 31), ("032", 0, 31), ("+32", 0, 31), ("-1", 0, 0)),
-    ("", 0, 0),
-]
-ORDERS = ["near 2 0 -7 31 -7", "near 3 1 7 2 7 30 7", "near 2 0 0 1 0"]
-NO_ORDERS = [
-    *("near 2 1 -7 0 -7", "near 2 5 -7 5 -7", "near 2 5 -7 5 -8", "near 2 31 7 30 7"),
-    *("near 3 0 1 2 1 1 1", "near 3 0 1 0 1 1 1", "near 3 0 1 1 1 1 1"),
-]
+@dataclass(frozen=True)
+class Pairs:
+    """A record that ends with a count and so many pairs, the first numbers of which ascend."""
+
+    head: str
+    least: int  # pairs
+    most: int
+    last: int  # the greatest first number
+    seconds: str  # what the second numbers may be, in the table
+
+    def text(self, count: int | str, firsts: Iterable[int], second: int) -> str:
+        """The record with this count and these pairs."""
+        return f"{self.head} {count}" + "".join(f" {first} {second}" for first in firsts)
+
+    def lists(self) -> list[tuple[int, Sequence[int]]]:
+        """Counts, and first numbers that may stand behind them."""
+        most, end = self.most, self.last + 1
+        ends = [(count, range(end - count, end)) for count in (1, 2, most - 1, most)]
+        return [*ends, (1, [0]), (2, [0, self.last]), (3, [1, 2, self.last - 1]), (most, range(most))]
+
+    def no_lists(self) -> list[tuple[int | str, Sequence[int]]]:
+        """Counts, and first numbers that may not."""
+        most, last = self.most, self.last
+        counts: list[int | str] = [most - 1, most + 1, f"0{most}", f"+{most}", -1, ""]
+        return [
+            *((count, range(most)) for count in counts),
+            *((most, range(count)) for count in (0, 1, most - 1)),
+            *((count, []) for count in range(1 if self.least == 0 else 0, 2)),
+            *((0, [0]), (1, [0, 1]), (2, [0]), (most + 1, range(most + 1))),
+            *((1, [last + 1]), (2, [0, last + 1]), (most, range(last + 2 - most, last + 2))),
+            *((2, [1, 0]), (2, [5, 5]), (2, [last, last - 1])),
+            *((3, [0, 2, 1]), (3, [0, 1, 0]), (3, [0, 1, 1])),
+        ]
+
+    def texts(self) -> Texts:
+        """Between the least and the most pairs stand behind their count, and they ascend."""
+        texts = Texts([self.text(0, [], 0)] if self.least == 0 else [], [])
+        for number in table()["numbers"][self.seconds]:
+            texts.records += [self.text(*pairs, number) for pairs in self.lists()]
+            texts.none += [self.text(*pairs, number) for pairs in self.no_lists()]
+        return texts
 
 
-def near(changes: tuple[str, int, int], number: int) -> str:
-    """A record of changes."""
-    count, first, last = changes
-    return f"near {count}" + "".join(f" {good} {number}" for good in range(first, last + 1))
+# An amount is never 0, and any other number may be.
+PAIRS = (
+    Pairs("near", 0, 32, 31, "multiplier"),
+    Pairs("amounts 39", 1, 200, 199, "amount"),
+    Pairs("tolled", 0, 300, 2031, "toll"),
+)
 
 
-def of_changes() -> Texts:
-    """The count is from 0 to 32, so many pairs stand behind it, and their goods ascend."""
-    texts = Texts(list(ORDERS), list(NO_ORDERS))
-    for number in (*table()["numbers"]["multiplier"], 0):
-        texts.records += [near(changes, number) for changes in CHANGES]
-        texts.none += [near(changes, number) for changes in NO_CHANGES]
-    return texts
+def of_amounts() -> Texts:
+    """Amounts of 0 are none, wherever they stand; changes to 0, and tolls of 0, are some."""
+    ones = " ".join(f"{node} 1" for node in range(199))
+    return Texts(
+        ["near 2 0 0 31 0", "tolled 2 0 0 2031 0", f"amounts 0 200 {ones} 199 -1"],
+        [
+            *("amounts 0 1 0 0", "amounts 0 2 0 0 1 5", "amounts 0 2 0 5 1 0"),
+            *(f"amounts 0 200 {ones} 199 0", "amounts 0 1 0 -0"),
+        ],
+    )
