@@ -1,12 +1,16 @@
 """Damages files at random: bytes, lines, numbers and words."""
 from __future__ import annotations
 
+import functools
 import re
-from collections.abc import Callable, Mapping
+from collections.abc import Callable, Mapping, Sequence
 from random import Random
 
+from harness.spelling import forms
+
 EXTREMES = [
-    *(0, 1, -1, 2, 99, 100, 101, 199, 200, 201, 999, 1000, 1001, 50000, 50001),
+    *(0, 1, -1, 2, 99, 100, 101, 199, 200, 201, 300, 301, 999, 1000, 1001, 2031, 2032),
+    *(50000, 50001, 2**20, 2**20 + 1, 2**40, 2**40 + 1, -(2**62)),
     *(10**6, 10**6 + 1, 10**9, 10**9 + 1, -(10**9), 10**12, 10**15, 4 * 10**14, 10**18),
     *(2**31, 2**32, 2**32 + 1, 2**53, 2**56, 2**56 + 1, -(2**56), 2**62, 2**63, 2**64, 2**100),
     *(2**126, 2**127 - 1, 2**127, -(2**127), 2**128, 10**60),
@@ -69,6 +73,20 @@ def lines_swapped(data: bytes, random: Random) -> bytes:
     return b"".join(lines)
 
 
+@functools.cache
+def records() -> Sequence[bytes]:
+    """A record of each form."""
+    return [f"{text}\n".encode() for text, _, _ in forms()]
+
+
+def record_put(data: bytes, random: Random) -> bytes:
+    """A record of any form before a line, or in its place."""
+    lines = data.splitlines(keepends=True)
+    at = random.randrange(len(lines) + 1)
+    lines[at : at + random.randrange(2)] = [random.choice(records())]
+    return b"".join(lines)
+
+
 def number_moved(data: bytes, random: Random) -> bytes:
     """A number a little more or less."""
     place = places(NUMBER, data, random)
@@ -114,6 +132,7 @@ DAMAGES: Mapping[Callable[[bytes, Random], bytes], int] = {
     line_out: 2,
     line_twice: 2,
     lines_swapped: 2,
+    record_put: 2,
     number_moved: 10,
     number_extreme: 3,
     word_moved: 3,
