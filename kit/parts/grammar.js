@@ -74,25 +74,36 @@ const VALUE = small(-1e9, 1e9);
 const TOTAL = small(-4e14, 4e14);
 const REGRET = small(0, 4e14);
 const MULTIPLIER = large(-(2n ** 56n), 2n ** 56n);
+const AMOUNT = (word) => {
+  demand(word !== "0");
+  return small(-(2 ** 20), 2 ** 20)(word);
+};
 const VIOLATION = large(0n, 2n ** 100n);
 const SCALE = large(1n, 2n ** 32n);
 const NUMERATOR = large(0n, 2n ** 62n);
 const WIDE = large(-(2n ** 127n), 2n ** 127n - 1n);
 const LEAF = fields(GOOD, small(1, 1000), VALUE, VALUE);
-const CHANGES = small(0, 32);
 const COUNT = small(0, 200);
 
-// K pairs of a good and a multiplier, the goods ascending.
-function nearFields(words) {
-  demand(words.length > 0 && words.length === 1 + 2 * CHANGES(words[0]));
+// A count, and so many pairs, the first numbers of which ascend.
+const pairs = (counts, first, second) => (words) => {
+  demand(words.length > 0 && words.length === 1 + 2 * counts(words[0]));
   let last = -1;
   for (let place = 1; place < words.length; place += 2) {
-    const good = GOOD(words[place]);
-    demand(good > last);
-    MULTIPLIER(words[place + 1]);
-    last = good;
+    const number = first(words[place]);
+    demand(number > last);
+    second(words[place + 1]);
+    last = number;
   }
   return [];
+};
+
+const nodeAmounts = pairs(small(1, 200), NODE, AMOUNT);
+
+// A bidder, and amounts of its nodes.
+function amountsFields(words) {
+  demand(words.length > 0);
+  return [BIDDER(words[0]), ...nodeAmounts(words.slice(1))];
 }
 
 // A name, K and K lower values, L and L upper ones.
@@ -124,7 +135,10 @@ const RECORDS = new Map([
   ["set", fields(BITS)],
   ["branch", fields(BIDDER, NODE)],
   ["leaf", repeating(MULTIPLIER)],
-  ["near", nearFields],
+  ["near", pairs(small(0, 32), GOOD, MULTIPLIER)],
+  ["derive", fields(small(-(2 ** 40), 2 ** 40))],
+  ["amounts", amountsFields],
+  ["tolled", pairs(small(0, 300), small(0, 2031), large(-(2n ** 62n), 2n ** 62n))],
   ["dead", fields(BIDDER)],
   ["regret", fields(REGRET)],
   ["prices", repeating(SCALE, NUMERATOR)],
