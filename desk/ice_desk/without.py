@@ -21,7 +21,7 @@ def market_of(journal: Journal, left_out: int | None, rounds: int) -> Json:
         if number != left_out
     ]
     return {
-        "settings": {**journal.settings._asdict(), "rounds": rounds},
+        "settings": {**journal.settings.members(), "rounds": rounds},
         "goods": [{"exact": good.name} if good.exact else good.name for good in journal.goods],
         "bidders": bidders,
     }

@@ -4,6 +4,7 @@ from __future__ import annotations
 from fractions import Fraction
 
 from . import numbers
+from .journal import Journal
 from .lines import Log
 from .markup import box, cell, column_head, drawing, key, row, row_head, table, tag, text
 from .view import View
@@ -35,6 +36,15 @@ def search_row(name: str, log: Log, scale: Fraction) -> str:
     )
 
 
+def derived_words(journal: Journal) -> str:
+    """How many derived goods were stated, of how many, and in which settlements."""
+    counts = [(each.number, len(each.derived)) for each in journal.settlements if each.derived]
+    stated = ", ".join(f"{count} (settlement {number})" for number, count in counts)
+    where = f": {stated}" if stated and journal.kind == "session" else ""
+    total, most = sum(count for _, count in counts), journal.settings.derived
+    return f"{numbers.plural(total, 'derived good')} of {numbers.whole(most)}{where}"
+
+
 def certificates_section(view: View) -> str:
     """The section; nothing where there are no logs, and for one bidder alone."""
     logs = [] if view.alone else searches(view)
@@ -58,6 +68,7 @@ def certificates_section(view: View) -> str:
         if each.prices
     )
     steps, size = (sum(counts) for counts in zip(*((log.branches, log.size) for _, log in logs)))
+    steps += sum(log.branches for each in journal.settlements for log in each.derived)
     tables = "".join(table(caption, head, part) for caption, part in zip(captions, parts))
     return (
         tag("h2", "Certificates")
@@ -68,6 +79,7 @@ def certificates_section(view: View) -> str:
             f"{numbers.whole(size)} of the journal’s {numbers.whole(journal.size)} bytes",
             "dead: a side that some bidder can’t serve",
             f"rows that prove the prices: {proofs}" if proofs else "",
+            derived_words(journal) if journal.settings.derived else "",
         )
         + tag("div", tables, class_="pair")
     )

@@ -9,7 +9,8 @@ from typing import Any, NamedTuple
 from .lines import BadJournal, Lines, Log
 from .records import Record
 
-KINDS = ("1 assign", "1 regret", "1 session", "2 regret", "2 session")
+KINDS = ("1 assign", *(f"{n} {kind}" for n in (1, 2, 3) for kind in ("regret", "session")))
+LEAVES = {1: "leaf", 2: "near", 3: "tolled"}
 MOST_GOODS, MOST_BIDDERS, MOST_NODES = 32, 40, 2000
 MOST_TREE, MOST_DEPTH = 200, 16
 MOST_UNKNOWN = 20
@@ -27,6 +28,11 @@ class Settings(NamedTuple):
     improve: int
     rounds: int
     branches: int
+    derived: int = 0
+
+    def members(self) -> dict[str, int]:
+        """The settings by their names, as files have them: without derived goods where none are."""
+        return {name: value for name, value in self._asdict().items() if name != "derived" or value}
 
 
 class Good(NamedTuple):
@@ -75,7 +81,8 @@ class Group:
     """A search: what it looked for, the sets that it found, and its log.
 
     `seeks` is `final`, `rival`, `provisional`, or `without` and a name. A spent search has a
-    `bound`: the most that is possible.
+    `bound`: the most that is possible. `derived` has the logs of the derived goods that are stated
+    for it.
     """
 
     seeks: str
@@ -83,6 +90,7 @@ class Group:
     sets: list[str]
     log: Log | None
     bound: int | None = None
+    derived: list[Log] = field(default_factory=list)
 
 
 class Judged(NamedTuple):
@@ -125,6 +133,11 @@ class Settlement:
     def group(self, seeks: str) -> Group | None:
         """The search of this kind that was done to its end."""
         return next((g for g in self.groups if g.seeks == seeks and g.bound is None), None)
+
+    @property
+    def derived(self) -> list[Log]:
+        """The logs of all derived goods that are stated in it."""
+        return [log for group in self.groups for log in group.derived]
 
     @property
     def spent(self) -> Group | None:
@@ -204,9 +217,9 @@ class Reader:
         lines.require(
             spelled in KINDS, f"`ice {spelled}` heads no journal of kind assign, regret or session"
         )
-        settings = Settings(*lines.take("settings").fields)
-        self.journal = Journal(int(head[4:]), kind, settings)
-        self.leaf = "leaf" if self.journal.version == 1 else "near"
+        version, settings = int(head[4:]), Settings(*lines.take("settings").fields)
+        lines.require(version == 3 or not settings.derived, f"seven settings in version {version}")
+        self.journal, self.leaf = Journal(version, kind, settings), LEAVES[version]
 
     def read(self) -> Journal:
         """The whole journal; BadJournal where the file is none."""
@@ -347,6 +360,7 @@ class Reader:
 
     def read_group(self, settlement: Settlement, head: str, bidder: int | None = None) -> bool:
         """A search; False where it was spent, which ends the journal."""
+        derived = self.read_derivations()
         lines, line, fits = self.lines, self.lines.number, True
         record = lines.take(head, "spent")
         *numbers, value = record.fields
@@ -357,11 +371,23 @@ class Reader:
             fits = numbers == [bidder]
         lines.require(fits, f"`without {bidder}` is due here")
         seeks = head if bidder is None else f"without {self.journal.bidders[bidder].name}"
-        group = Group(seeks, value, self.read_sets(), lines.log(self.leaf), bound)
+        group = Group(seeks, value, self.read_sets(), lines.log(self.leaf), bound, derived)
         settlement.groups.append(group)
         if spent:
             self.end("spent", line, record)
         return not spent
+
+    def read_derivations(self) -> list[Log]:
+        """The derived goods that are stated before a group: the log of each."""
+        lines, found = self.lines, []
+        while self.journal.version == 3 and lines.word == "derive":
+            lines.take("derive")
+            bidders = [lines.take("amounts").fields[0]]
+            while lines.word == "amounts":
+                bidders.append(lines.take("amounts").fields[0])
+                lines.require(bidders[-2] < bidders[-1], "the bidders of a derived good ascend")
+            found.append(lines.log(self.leaf))
+        return found
 
     def read_closing(self, settlement: Settlement) -> None:
         """The best values without each bidder, and the payments."""

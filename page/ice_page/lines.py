@@ -43,7 +43,7 @@ class Lines:
         self.stream, self.copy, self.hash = stream, copy, hashlib.sha256()
         self.block, self.start, self.next, self.size = b"", 0, 0, 0
         self.number, self.line, self.ended, self.taken = 0, "", False, 0
-        self.runs = {leaf: log_lines(leaf) for leaf in ("leaf", "near")}
+        self.runs = {leaf: log_lines(leaf) for leaf in ("leaf", "near", "tolled")}
         self.step()
 
     @property

@@ -31,6 +31,7 @@ def footer(view: View) -> str:
             f"improvement {numbers.whole(settings.improve)}",
             numbers.plural(settings.rounds, "round"),
             numbers.plural(settings.branches, "branch step"),
+            *([numbers.plural(settings.derived, "derived good")] if settings.derived else []),
         ]
     )
     told = f"published digest of the journal: {tag('code', foreign(view.digest))}"

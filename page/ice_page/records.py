@@ -23,10 +23,22 @@ class Field:
 
     def __init__(self, pattern: str, convert: Callable[[str], Any] = str) -> None:
         self.pattern, self.convert = f"(?:{pattern})", convert
+        self.spaced = f" {self.pattern}"
 
     def read(self, words: Iterator[str]) -> Any:
         """Takes the field's words, and gives its value."""
         return self.convert(next(words))
+
+
+class Perhaps(Field):
+    """A number that is left out where it is 0."""
+
+    def __init__(self, one: Field) -> None:
+        super().__init__(one.pattern, one.convert)
+        self.spaced = f"(?: {self.pattern})?"
+
+    def read(self, words: Iterator[str]) -> Any:
+        return self.convert(next(words, "0"))
 
 
 class Several(Field):
@@ -132,7 +144,7 @@ class Form:
     def __init__(self, heading: str, *fields: Field) -> None:
         fixed = [word for word in heading.split() if word.islower() or word.isdigit()]
         self.heading, self.fields, self.head = heading, fields, " ".join(fixed)
-        self.pattern = " ".join([self.head, *(field.pattern for field in fields)])
+        self.pattern = self.head + "".join(field.spaced for field in fields)
         self.shape: re.Pattern[str] | None = None
 
     def read(self, line: str) -> Record:
@@ -158,6 +170,7 @@ ALL_FORMS = (
         whole(0, 10**9),
         whole(0, 20),
         whole(0, 50000),
+        Perhaps(whole(1, 2000)),
     ),
     Form("good NAME", NAME),
     Form("exact NAME", NAME),
@@ -211,7 +224,10 @@ FAIR_FORMS = (
     Form("hold B LOW HIGH", BIDDER, HELD, HELD),
     Form("end fair"),
 )
-ALL_HEADS = FORMS | {form.head: form for form in (*STATEMENT_FORMS, *FAIR_FORMS)}
+# The head of version 3, which the program doesn't read yet; settings have a seventh number in it.
+LATER_FORMS = (Form("ice 3 KIND", one_of("regret", "session")),)
+OTHER_FORMS = (*STATEMENT_FORMS, *FAIR_FORMS, *LATER_FORMS)
+ALL_HEADS = FORMS | {form.head: form for form in OTHER_FORMS}
 
 
 def read_record(line: str) -> Record:
@@ -224,7 +240,7 @@ def read_record(line: str) -> Record:
 
 
 def log_lines(leaf: str) -> re.Pattern[bytes]:
-    """A pattern of lines of a log whose leaves are `leaf` or `near` records.
+    """A pattern of lines of a log whose leaves are `leaf`, `near` or `tolled` records.
 
     Of a leaf, of which a page shows nothing, it knows the word and which characters may follow.
     """
