@@ -1,6 +1,6 @@
 // ---- A file beside a published list, as `page/ice-digest` compares it: a journal, or a statement.
 
-const JOURNAL_HEAD = /^ice [12] (?:assign|regret|session)\n/;
+const JOURNAL_HEAD = /^ice [123] (?:assign|regret|session)\n/;
 const STATEMENT_HEAD = /^statement ([A-Za-z0-9_.-]{1,32})\n/;
 const SETTLE = /^settle ([0-9]{1,2})$/;
 const BALANCE = /^balance [0-9]+$/;

@@ -100,6 +100,9 @@ class Rounds(unittest.TestCase):
         found = asked([question(HALL, [*fronts, whole]), question(HALL, [whole])])
         self.assertEqual([as_lines(each) for each in found], [["same front 0", "same whole 1"], ["same whole 1", "none front 0"]])
         self.assertEqual(found[0]["digest"], hashlib.sha256(HALL).hexdigest())
+        later = HALL.replace(b"ice 2", b"ice 3", 1)
+        found = asked([question(later, [list_of(later)[-1]])])
+        self.assertEqual(as_lines(found[0]), ["same whole 1", "none front 0"])
         forged = f"front 0 10 {hashlib.sha256(HALL[:10]).hexdigest()}"
         self.assertEqual(as_lines(asked([question(HALL, [forged])])[0]), ["other front 0"])
 

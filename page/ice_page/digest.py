@@ -25,7 +25,7 @@ STATUSES = (
 SALT_BYTES = 32
 LIST_LIMIT = 1 << 20
 FRONT, WHOLE, NO_SETTLEMENT = "front", "whole", "-"
-HEAD = re.compile(rb"ice [12] (assign|regret|session)\n")
+HEAD = re.compile(rb"ice [123] (assign|regret|session)\n")
 # Where a settlement begins, and where it awaits its round: behind the rows of `balance`.
 PLACE = re.compile(rb"^(?:settle (\d{1,2})|balance \d+)\n", re.MULTILINE)
 NO_ROW = re.compile(rb"^(?!row )", re.MULTILINE)

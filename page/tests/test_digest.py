@@ -86,7 +86,8 @@ class Digests(unittest.TestCase):
         for last in ("end open", "refused 2 3 bids.0.lo", "refused 2 1 -", "unread 2"):
             self.assertEqual(self.digest(f"{FRONT}{last}\n"), front, last)
         closed = sample("two-settlements.session")
-        self.assertEqual(self.digest(closed), f"whole 1 {len(closed)} {sha(closed)}\n")
+        for text in (closed, closed.replace("ice 2", "ice 3", 1)):
+            self.assertEqual(self.digest(text), f"whole 1 {len(text)} {sha(text)}\n")
         spent = sample("ring.spent.session")
         self.assertEqual(self.digest(spent), f"whole 0 {len(spent)} {sha(spent)}\n")
         regret = sample("two-settlements.regret")
