@@ -104,13 +104,25 @@ def then_list(*readers: Reader, low: int, high: int) -> Form:
     return read
 
 
-def changes(words: list[str]) -> list[Any]:
-    """K, and K pairs of a good and a multiplier, the goods strictly ascending."""
-    demand(1 <= len(words) <= 65)
-    count, *pairs = numbers_in(words)
-    goods, multipliers = within(pairs[::2], 0, 31), within(pairs[1::2], -(2**56), 2**56)
-    demand(len(pairs) == 2 * count and all(a < b for a, b in zip(goods, goods[1:])))
-    return [list(zip(goods, multipliers))]
+def pairs(most: int, last: int, size: int) -> Form:
+    """K up to `most`, and K pairs: indices up to `last`, which ascend, and numbers of this size."""
+
+    def read(words: list[str]) -> list[Any]:
+        demand(1 <= len(words) <= 1 + 2 * most)
+        count, *both = numbers_in(words)
+        indices, numbers = within(both[::2], 0, last), within(both[1::2], -size, size)
+        demand(len(both) == 2 * count and all(a < b for a, b in zip(indices, indices[1:])))
+        return [list(zip(indices, numbers))]
+
+    return read
+
+
+def amounts(words: list[str]) -> list[Any]:
+    """A bidder, and pairs of a node and an amount: at least one pair, and no amount is 0."""
+    demand(len(words) >= 4)
+    (found,) = AMOUNTS(words[1:])
+    demand(all(amount != 0 for _, amount in found))
+    return [BIDDER(words[0]), found]
 
 
 def submission(words: list[str]) -> list[Any]:
@@ -127,6 +139,7 @@ NAME = spelled(32)
 BIDDER, GOOD, NODE, FILE = whole(0, 39), whole(0, 31), whole(0, 199), whole(1, 21)
 VALUE, TOTAL = size_up_to(10**9), size_up_to(4 * 10**14)
 VIOLATION, DENOMINATOR = whole(0, 2**100), whole(1, 2**32)
+AMOUNTS = pairs(200, 199, 2**20)
 LEAF = exactly(GOOD, whole(1, 1000), VALUE, VALUE)
 SETTINGS = [whole(0, 100), whole(0, 10**12), whole(1, 10**9), whole(0, 10**9), whole(0, 20)]
 SETTINGS += [whole(0, 50_000)]
@@ -153,7 +166,10 @@ FORMS: dict[str, Form] = {
     "set": exactly(bits),
     "branch": exactly(BIDDER, NODE),
     "leaf": then_list(low=-(2**56), high=2**56),
-    "near": changes,
+    "near": pairs(32, 31, 2**56),
+    "derive": exactly(size_up_to(2**40)),
+    "amounts": amounts,
+    "tolled": pairs(300, 2031, 2**62),
     "dead": exactly(BIDDER),
     "regret": exactly(whole(0, 4 * 10**14)),
     "prices": then_list(DENOMINATOR, low=0, high=2**62),

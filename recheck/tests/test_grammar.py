@@ -8,6 +8,7 @@ from support import ROOT
 
 from ice_recheck.grammar import FORMS, NoRecord, Record, read_record
 
+BEFORE_THE_DOCUMENT = ("derive", "amounts", "tolled")  # it needn't have these of version 3 yet
 TABLE_ROW = re.compile(r"^\| (`[^|]*`) \|")
 
 
@@ -42,6 +43,10 @@ class Spellings(unittest.TestCase):
             ("leaf -1 0 1", "leaf", [[-1, 0, 1]]),
             ("near 0", "near", [[]]),
             ("near 2 0 5 3 -6", "near", [[(0, 5), (3, -6)]]),
+            ("derive -7", "derive", [-7]),
+            ("amounts 3 2 0 1 199 -2", "amounts", [3, [(0, 1), (199, -2)]]),
+            ("tolled 0", "tolled", [[]]),
+            ("tolled 2 0 -5 2031 6", "tolled", [[(0, -5), (2031, 6)]]),
             ("prices 2 1 0", "prices", [2, [1, 0]]),
             ("row 3 4 10", "row", [3, 4, [True, False]]),
             ("submit b 0 0", "submit", ["b", [], []]),
@@ -86,6 +91,19 @@ class Spellings(unittest.TestCase):
         bad += ["near 1 32 0", "near 0 0 0", f"near 1 0{multiplier[:-1]}7", "near 33" + " 0 1" * 33]
         self.check(good, bad)
 
+    def test_derived_goods(self) -> None:
+        every = {count: "".join(f" {index} 1" for index in range(count)) for count in (200, 300)}
+        longest = "".join(f" {index} {-(2**62)}" for index in range(1732, 2032))
+        good = [f"amounts 39 200{every[200]}", f"tolled 300{every[300]}", f"tolled 300{longest}"]
+        bad = ["derive", "derive 1 1", "derive -0", "derive 01", "amounts", "amounts 0"]
+        bad += ["amounts 0 0", "amounts 0 1", "amounts 0 1 0", "amounts 0 1 0 0", "amounts 0 1 0 -0"]
+        bad += ["amounts 0 2 0 1", "amounts 0 1 0 1 1", "amounts 0 1 0 1 1 1", "amounts 0 0 0 1"]
+        bad += ["amounts 0 2 1 1 0 1", "amounts 0 2 1 1 1 2", "amounts 0 2 0 1 1 0"]
+        bad += [f"amounts 0 201{every[200]} 200 1", f"tolled 301{every[300]} 300 1", "tolled"]
+        bad += ["tolled 1", "tolled 1 0", "tolled 0 0 1", "tolled 2 1 5 0 5", "tolled 2 1 5 1 6"]
+        bad += ["tolled 1 0 1 1 1", "tolled 2 0 1", "tolled -1", "tolled 01 0 1", "toll 0", "amount 0"]
+        self.check(good, bad)
+
     def test_ends_of_ranges(self) -> None:
         value, total, multiplier = (-(10**9), 10**9), (-4 * 10**14, 4 * 10**14), (-(2**56), 2**56)
         denominator, violation, node, bidder = (1, 2**32), (0, 2**100), (0, 199), (0, 39)
@@ -115,6 +133,12 @@ class Spellings(unittest.TestCase):
             ("branch 0 {}", *node),
             ("leaf 0 {}", *multiplier),
             ("near 1 0 {}", *multiplier),
+            ("near 1 {} 1", 0, 31),
+            ("derive {}", -(2**40), 2**40),
+            ("amounts {} 1 0 1", *bidder),
+            ("amounts 0 1 {} 1", *node),
+            ("tolled 1 {} 1", 0, 2031),
+            ("tolled 1 0 {}", -(2**62), 2**62),
             ("dead {}", *bidder),
             ("regret {}", 0, 4 * 10**14),
             ("prices {} 0", *denominator),
@@ -140,6 +164,11 @@ class Spellings(unittest.TestCase):
             inside = [form.format(number) for number in (low, low + 1, high)]
             self.check(inside, [form.format(number) for number in (low - 1, high + 1)])
 
+    def test_amounts_at_the_ends_of_their_range(self) -> None:
+        amounts = "amounts 0 2 0 1 9 {}"
+        good, bad = (-(2**20), -1, 1, 2**20), (-(2**20) - 1, 0, 2**20 + 1)
+        self.check([amounts.format(one) for one in good], [amounts.format(one) for one in bad])
+
     def test_every_record_of_the_document_is_a_form(self) -> None:
         table = (ROOT / "docs" / "formats.md").read_text().split("| Record | Fields |")[1]
         rows = table.split("\n\n")[0].splitlines()[2:]
@@ -147,7 +176,8 @@ class Spellings(unittest.TestCase):
         self.assertEqual(len(cells), len(rows))
         spellings = [text for cell in cells for text in re.findall(r"`([^`]*)`", cell)]
         words = [" ".join(re.findall(r"\b[a-z0-9]+\b", text)) for text in spellings]
-        self.assertEqual(set(words) | {f"verdict {number}" for number in (43, 44, 45)}, set(FORMS))
+        between = {f"verdict {number}" for number in (43, 44, 45)}
+        self.assertEqual(set(words) | between | set(BEFORE_THE_DOCUMENT), set(FORMS))
 
 
 if __name__ == "__main__":

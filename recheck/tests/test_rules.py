@@ -1,4 +1,5 @@
 """First failed tests, with their lines, beyond those of the crates: reckoned by hand."""
+import re
 import unittest
 
 from support import answer
@@ -221,6 +222,17 @@ class Lists(Rules):
             self.found([*front, "submit z 0 0", "verdict 45", line], "no 28 order")
         self.fails_last([*front, "submit z 0 0", "submit z 0 0"], "order")
         self.fails_last([*front, "submit z 0 0", "verdict 44"], "verdict")
+
+    def test_records_of_version_3(self) -> None:
+        second = [re.sub("^leaf ", "near 1 0 ", line) for line in self.FRONT]
+        for lines in (self.FRONT, ["ice 2 session", *second[1:]]):
+            for place in range(1, len(lines) + 1):
+                for record in ("derive 1", "amounts 0 1 0 1", "tolled 1 0 640"):
+                    self.found([*lines[:place], record, *lines[place:]], f"no {place + 1} order")
+            self.found([*lines[:9], "derive 1", "amounts 0 1 0 0"], "refused 1 50 11")
+            self.found([*lines[:9], "derive 1", "tolled 301"], "refused 1 50 11")
+        self.found([*BEHIND[1:3], "derive 1"], "refused 1 53 -")
+        self.fails_last([*ASSIGN, "good A", *SELLER, *BUYER, "derive 1"], "order")
 
     def test_limits(self) -> None:
         for line in ("limit accuracy den 0 1", "limit balance rows 9 9"):
