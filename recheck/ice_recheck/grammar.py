@@ -125,6 +125,12 @@ def amounts(words: list[str]) -> list[Any]:
     return [BIDDER(words[0]), found]
 
 
+def settings(words: list[str]) -> list[Any]:
+    """Six numbers, or seven in version 3."""
+    demand(len(words) in (len(SETTINGS) - 1, len(SETTINGS)))
+    return [reader(word) for reader, word in zip(SETTINGS, words)]
+
+
 def submission(words: list[str]) -> list[Any]:
     """A name, K and K lower values, L and L upper ones."""
     demand(len(words) >= 3)
@@ -142,7 +148,7 @@ VIOLATION, DENOMINATOR = whole(0, 2**100), whole(1, 2**32)
 AMOUNTS = pairs(200, 199, 2**20)
 LEAF = exactly(GOOD, whole(1, 1000), VALUE, VALUE)
 SETTINGS = [whole(0, 100), whole(0, 10**12), whole(1, 10**9), whole(0, 10**9), whole(0, 20)]
-SETTINGS += [whole(0, 50_000)]
+SETTINGS += [whole(0, 50_000), whole(1, 2000)]
 KIND = one_of("assign", "regret", "session", "exchange", "prices")
 ENDS = "assign", "exchange", "prices", "regret", "closed", "open", "spent", "limit"
 STAGE, LIMIT = one_of("accuracy", "balance"), one_of("wide", "pivots", "rows", "den")
@@ -150,7 +156,8 @@ STAGE, LIMIT = one_of("accuracy", "balance"), one_of("wide", "pivots", "rows", "
 FORMS: dict[str, Form] = {
     "ice 1": exactly(KIND),
     "ice 2": exactly(one_of("regret", "session")),
-    "settings": exactly(*SETTINGS),
+    "ice 3": exactly(one_of("regret", "session")),
+    "settings": settings,
     "good": exactly(NAME),
     "exact": exactly(NAME),
     "bidder": then_list(NAME, low=0, high=10**6),

@@ -4,7 +4,8 @@ from __future__ import annotations
 from dataclasses import dataclass
 from typing import NoReturn
 
-from .logs import check_log
+from .derivations import read_derivation
+from .logs import Bounding, Tolled, check_log
 from .records import Records, Rule
 from .section import Exchange
 from .trees import NodeSet, broken_rule, units, value
@@ -25,6 +26,7 @@ class Journal:
     records: Records
     version: int
     exchange: Exchange
+    tolled: list[Tolled]  # the goods, and the derived goods so far
     asks_gap: bool = False  # whether what stands behind `spent` is tested too
 
 
@@ -67,6 +69,8 @@ def read_group(
 ) -> Group:
     """A group at these weights, one list for each bidder; in `without` a bidder is left out."""
     group = [] if left_out is None else [left_out]
+    while journal.version == 3 and journal.records.next_is("derive"):
+        read_derivation(journal.records, journal.exchange, journal.tolled)
     head = journal.records.take("spent", form)
     if head.form != form:
         read_gap(journal, [form, *group], weights, left_out, *head.fields)
@@ -99,5 +103,6 @@ def read_found(
     sets = read_sets(records, exchange, left_out)
     worth = sum(map(value, weights, sets))
     records.test(worth == stated, Rule.VALUE)
-    check_log(records, exchange, weights, target, journal.version, left_out)
+    bounding = Bounding(exchange, journal.tolled, weights, journal.version)
+    check_log(records, bounding, target, left_out)
     return sets

@@ -5,13 +5,14 @@ from collections.abc import Callable
 from typing import NamedTuple
 
 from .groups import Gap, Journal, read_sets
+from .logs import tolled_goods
 from .records import OTHER_KIND, TOO_LARGE, Failed, Records, Refused, Rule
 from .section import read_exchange
 from .sessions import read_best, read_session
 from .trees import value
 
 LIMIT = 134_217_728  # bytes
-VERSIONS = {"ice 1": 1, "ice 2": 2}
+VERSIONS = {"ice 1": 1, "ice 2": 2, "ice 3": 3}
 
 
 class Answer(NamedTuple):
@@ -46,7 +47,9 @@ def read_journal(records: Records, asks_gap: bool = False) -> str:
     if head is None or head.form not in VERSIONS or head.fields[0] not in KINDS:
         records.read_to_end()
         raise Refused(OTHER_KIND, "-")
-    journal = Journal(records, VERSIONS[head.form], read_exchange(records), asks_gap)
+    version = VERSIONS[head.form]
+    exchange = read_exchange(records, version)
+    journal = Journal(records, version, exchange, tolled_goods(exchange), asks_gap)
     return KINDS[head.fields[0]](journal)
 
 

@@ -20,6 +20,7 @@ class Rule(Enum):
     MANY = "many"
     FIXING = "fixing"
     EXCESS = "excess"
+    DERIVED = "derived"
     VALUE = "value"
     NEAR = "near"
     SIGN = "sign"

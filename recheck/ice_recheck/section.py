@@ -21,6 +21,7 @@ class Settings(NamedTuple):
     improve: int
     rounds: int
     branches: int
+    derived: int = 0
 
 
 class Good(NamedTuple):
@@ -52,9 +53,10 @@ class Exchange:
         return [bidder.bounds for bidder in self.bidders]
 
 
-def read_exchange(records: Records) -> Exchange:
+def read_exchange(records: Records, version: int) -> Exchange:
     """The exchange that the section describes, where no maker refuses it."""
     settings = Settings(*records.take("settings").fields)
+    records.test(settings.derived == 0 or version == 3, Rule.ORDER)
     goods = read_goods(records)
     bidders: list[Bidder] = []
     while not bidders or records.next_is("bidder"):

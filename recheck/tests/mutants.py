@@ -5,7 +5,9 @@
 
 makes COUNT mutants, 2,000 where nothing is said, of the seeds from FIRST on, which is 0. The status
 is 1 where an answer differs; then the journals are kept, in a folder that is named. What other
-tests hold, and the examples, are the journals that are damaged, of each kind and in both versions.
+tests hold, and the examples, are the journals that are damaged, of each kind and in versions 1 and
+2. The program doesn't read version 3 yet: mutants that have its head, or seven settings, are left
+out. The second opinion in Python and that in the browser are compared on version 3.
 """
 from __future__ import annotations
 
@@ -13,17 +15,29 @@ import random
 import re
 import sys
 import tempfile
+from collections.abc import Callable
 from concurrent.futures import ThreadPoolExecutor
 from functools import cache
 from pathlib import Path
 
-from support import JOURNALS, JUDGES, PROGRAM, answer_of_program, lists_of_lines, sources
+import derived
+from support import (
+    JOURNALS,
+    JUDGES,
+    PROGRAM,
+    answer_of_program,
+    is_read_by_program,
+    lists_of_lines,
+    sources,
+)
 
 COUNT = 2000
+DRAWN = 50  # journals of version 3
 AT_ONCE = 4  # runs of the program
 NUMBER = re.compile(rb"(?<![^ /])-?\d+(?![^ /\n])")
 STEPS = (-1, 1) * 4 + (-2, 2, -64, 64)
-ENDS = (0, 1, 199, 200, 1000, 10**9, 10**9 + 1, 2**56, 2**56 + 1, -(2**56), 4 * 10**14)
+ENDS = [0, 1, 199, 200, 1000, 10**9, 10**9 + 1, 2**56, 2**56 + 1, -(2**56), 4 * 10**14]
+ENDS += [2**20, 2**20 + 1, 2**40, -(2**40) - 1, 2**62, -(2**62), 2**62 + 1, 2031, 2032]
 
 Lines = list[bytes]
 
@@ -56,6 +70,13 @@ def journals() -> list[Lines]:
         for lines in lists_of_lines(source)
     ]
     return texts + [written_out(lines) for lines in texts if lines[0].startswith(b"ice 2")]
+
+
+@cache
+def later() -> list[Lines]:
+    """The journals of version 3 that are damaged."""
+    drawn = (derived.journal(seed)[0] for seed in range(DRAWN))
+    return [[f"{line}\n".encode() for line in lines] for lines in drawn]
 
 
 def other_byte(lines: Lines, draw: random.Random) -> None:
@@ -108,7 +129,7 @@ def swapped(lines: Lines, draw: random.Random) -> None:
 def strange(lines: Lines, draw: random.Random) -> None:
     """A line of any of the journals stands in the place of one, or before it."""
     place = draw.randrange(len(lines) + 1)
-    lines[place : place + draw.randrange(2)] = [draw.choice(draw.choice(journals()))]
+    lines[place : place + draw.randrange(2)] = [draw.choice(draw.choice(journals() + later()))]
 
 
 def other_sign(lines: Lines, draw: random.Random) -> None:
@@ -120,7 +141,7 @@ def other_sign(lines: Lines, draw: random.Random) -> None:
     if draw.randrange(8) == 0 and lines:
         head = b"ice %d %s\n"
         kind = draw.choice([b"assign", b"regret", b"session", b"exchange", b"prices"])
-        lines[0] = head % (draw.choice([1, 2]), kind)
+        lines[0] = head % (draw.choice([1, 2, 3]), kind)
 
 
 def cut(lines: Lines, draw: random.Random) -> None:
@@ -132,10 +153,10 @@ DAMAGES = [other_number] * 16 + [other_byte] * 3 + [left_out, doubled, swapped, 
 DAMAGES += [other_sign, cut]
 
 
-def mutant(seed: int) -> bytes:
+def mutant(seed: int, pool: Callable[[], list[Lines]] = journals) -> bytes:
     """The damaged journal of a seed."""
     draw = random.Random(seed)
-    lines = list(draw.choice(journals()))
+    lines = list(draw.choice(pool()))
     for _ in range(draw.choice([1, 1, 1, 1, 2, 3])):
         if lines:
             draw.choice(DAMAGES)(lines, draw)
@@ -145,6 +166,8 @@ def mutant(seed: int) -> bytes:
 def differs(seed: int) -> str | None:
     """How the two answers to the mutant of a seed differ, where they do."""
     journal = mutant(seed)
+    if not is_read_by_program(journal):
+        return None
     is_stopped = any(line.startswith(b"spent ") for line in journal.splitlines())
     for command in ["check", "gap"] if is_stopped else ["check"]:
         ours, theirs = JUDGES[command](journal), answer_of_program(journal, command)

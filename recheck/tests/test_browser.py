@@ -6,8 +6,11 @@ import re
 import tempfile
 import unittest
 from pathlib import Path
+from unittest import mock
 
 import mutants
+import support
+import test_derived
 from support import HERE, JOURNALS, ROOT, rows
 from tab import CHROMIUM, Tab
 
@@ -100,6 +103,22 @@ class Browser(unittest.TestCase):
 
     def test_mutants(self) -> None:
         self.agree([mutants.mutant(seed) for seed in range(mutants.COUNT)])
+
+    def test_version_3(self) -> None:
+        self.agree([b"".join(lines) for lines in mutants.later()])
+        self.agree([mutants.mutant(seed, mutants.later) for seed in range(mutants.COUNT)])
+
+    def test_rows_of_version_3(self) -> None:
+        journals = []
+
+        def kept(journal: str) -> tuple[str, int]:
+            journals.append(journal.encode())
+            return support.answer(journal)
+
+        with mock.patch.object(test_derived, "answer", kept):
+            unittest.defaultTestLoader.loadTestsFromModule(test_derived).run(unittest.TestResult())
+        self.assertGreater(len(journals), 500)
+        self.agree(journals)
 
     def test_sizes_of_digests(self) -> None:
         self.agree([bytes(range(count % 256)) * 2 for count in range(55, 75)])

