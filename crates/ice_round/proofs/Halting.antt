@@ -12,7 +12,6 @@ use Rattle.ice_search.specs.declared.results.Found.{Found}
 use Rattle.ice_search.specs.declared.results.Spent as search
 use Rattle.ice_regret.specs.declared.lead.Regret.{Regret}
 use Rattle.ice_price.specs.Ends.{IsPriceEnd}
-use Rattle.ice_price.specs.declared.ends.PriceLimit.{PriceLimit}
 use Rattle.ice_price.specs.declared.ends.PriceEnd.{PriceEnd}
 use Rattle.ice_price.specs.declared.ends.PriceEnd.TheVariants as price
 use Rattle.ice_vickrey.specs.Economy.{without_search}
@@ -33,13 +32,6 @@ module _ (s : SessionAt) (h : Halt) (best : Option Found) (regret : Option Regre
       (subst (λ x. IsSpentAt s best x h.provisional h.marginals.items spent) (sym b)
       (subst (λ x. IsSpentAt s best regret x h.marginals.items spent) (sym c)
       (subst (λ x. IsSpentAt s best regret provisional x spent) (sym d) is)))
-
-  pub limit_in : (limit : PriceLimit) → IsLimitAt s best regret provisional ms limit → IsLimitAt s h.best h.regret h.provisional h.marginals.items limit
-  limit_in limit is =
-      subst (λ x. IsLimitAt s x h.regret h.provisional h.marginals.items limit) (sym a)
-      (subst (λ x. IsLimitAt s best x h.provisional h.marginals.items limit) (sym b)
-      (subst (λ x. IsLimitAt s best regret x h.marginals.items limit) (sym c)
-      (subst (λ x. IsLimitAt s best regret provisional x limit) (sym d) is)))
 
 -- a search ended early
 pub halted_by : (s : SessionAt) (h : Halt) (best : Option Found) (regret : Option Regret) (ms : List Marginal) → h.best ≡ best → h.regret ≡ regret → h.provisional ≡ None → h.marginals.items ≡ ms → IsHaltOf s h

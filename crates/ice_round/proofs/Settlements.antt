@@ -1,5 +1,5 @@
 -- From the searches to the final sets, their rival and the regret.
-use Rattle.std.proofs.Common.{◌≡◌, ◌∙◌, ◌<◌, ◌≤◌, ℕ, ℤ, List, [], ◌∷◌, ◌++◌, length, pos, ◌≤ℤ◌, refl, sym, ap, subst, arith, length-append}
+use Rattle.std.proofs.Common.{◌≡◌, ◌∙◌, ◌<◌, ℕ, ℤ, List, [], ◌∷◌, ◌++◌, length, pos, ◌≤ℤ◌, refl, sym, ap, subst, arith, length-append}
 use Rattle.std.specs.List.{AllByRecursion}
 use Rattle.std.proofs.lemmas.List.{length-map, map_push}
 use Rattle.std.proofs.lemmas.List.Sums.{sum_by_push}
@@ -90,9 +90,6 @@ more_settling x done m is next marginal grown = record {
 -- the discounts count the bidders that are done
 pub done_count : (h : Held) (done : List Marginal) → HasFound h done → length done ≡ length h.discounts
 done_count h done is = sym (ap length is.discounts ∙ length-map done (λ (m : Marginal). m.discount))
-
-pub done_few : (h : Held) (done : List Marginal) → HasFound h done → length h.discounts ≤ length (trees_of h.session.exchange)
-done_few h done is = omega (arith, done_count h done is, is.found.few)
 
 -- one more
 pub found_more : (h next : Held) (done : List Marginal) (m : Marginal) → HasFound h done → length h.discounts < length (trees_of h.session.exchange) → HasOneMore h m next → HasFound next (done ++ m ∷ [])

@@ -1,6 +1,6 @@
 -- Four trees of one node.
-use Rattle.std.proofs.Common.{ℕ, zero, suc, ◌<◌, ◌≡◌, List, [], ◌∷◌, length, map, set, get_or, replicate, ℤ, pos, refl, sym, subst, ap, ◌∙◌, arith}
-use Rattle.std.proofs.lemmas.List.{length-set, length-replicate}
+use Rattle.std.proofs.Common.{ℕ, zero, suc, ◌<◌, ◌≡◌, List, [], ◌∷◌, length, set, get_or, ℤ, refl, sym, subst, ap, ◌∙◌, arith}
+use Rattle.std.proofs.lemmas.List.{length-set}
 use Rattle.std.proofs.Math.Seq.{map-set_same}
 use Rattle.ice_defs.specs.Tree.{Tree}
 use Rattle.ice_defs.specs.Set.{Weights}
@@ -33,10 +33,6 @@ pub four_nodes : (s t u v : Tree) → length s ≡ 1 → length t ≡ 1 → leng
 four_nodes s t u v p q r o =
     ap (λ n. n ∷ length t ∷ length u ∷ length v ∷ []) p ∙ ap (λ n. 1 ∷ n ∷ length u ∷ length v ∷ []) q
     ∙ ap (λ n. 1 ∷ 1 ∷ n ∷ length v ∷ []) r ∙ ap (λ n. 1 ∷ 1 ∷ 1 ∷ n ∷ []) o
-
-pub nodes_of-none : (ts : List Tree) → nodes_of (map (λ t. replicate (length t) (pos 0)) ts) ≡ nodes_of ts
-nodes_of-none [] = refl
-nodes_of-none (t ∷ ts) = ap (λ k. k ∷ nodes_of (map (λ t. replicate (length t) (pos 0)) ts)) (length-replicate (length t) (pos 0)) ∙ ap (λ r. length t ∷ r) (nodes_of-none ts)
 
 ones : (b : ℕ) → b < 4 → ◌≡◌ {A = ℕ} (get_or (1 ∷ 1 ∷ 1 ∷ 1 ∷ []) b 0) 1
 ones zero h = refl
