@@ -45,7 +45,7 @@ impl Amounts {
     }
 
     /// The number of bidders.
-    pub(crate) fn bidders(&self) -> usize
+    pub fn bidders(&self) -> usize
         ensures value { result ≡ length self.now }
         ensures range { AreAllAmounts self.now }
     {
