@@ -5,6 +5,7 @@ use Rattle.std.proofs.lemmas.Bool.{false≢true}
 use Rattle.ice_defs.specs.declared.Mark.TheVariants.{Free}
 use Rattle.ice_defs.specs.Trade.{Assignment, set_of}
 use Rattle.ice_defs.specs.Bound.{Multipliers}
+use Rattle.ice_defs.specs.Derived.{goods_alone}
 use Rattle.ice_defs.specs.Steps.{Side}
 use Rattle.ice_defs.specs.Sweep.{IsLive}
 use Rattle.ice_defs.specs.Conditions.{AreMultipliersOf}
@@ -28,7 +29,7 @@ pub begun : (x : Instance) (old new : Incumbent) (m : Multipliers) (v : ℤ) (pa
 begun x old new m v parts numbers side lawful was offered are bound e d = record {
   instance = lawful;
   search = subst (IsSearchOf x) (sym e)
-      (search_begins x.trees x.exact x.weights x.start x.first (child_part 0 0 0 Free m v) (record { counts = are.same_length; signs = are.signs; bound = bound; swept = λ t. absurd (false≢true t) }) refl);
+      (search_begins goods_alone x.trees x.exact x.weights x.start x.first (child_part 0 0 0 Free m v) tt (record { counts = are.same_length; signs = are.signs; bound = bound; swept = λ t. absurd (false≢true t) }) refl);
   incumbent = (raised_from x x.start old new was (λ a meets. meets) offered).0;
   opened = subst (λ ps. AreOpen ps new.value numbers) (sym e) (subst (AreOpen (child_part 0 0 0 Free m v ∷ []) new.value) (sym d) (λ k l whole. inr (let z : 0 ≡ k = omega arith in subst (Contains (0 ∷ [])) z (0, omega arith, refl))));
   numbered = subst (λ ps. AreParts ps numbers) (sym e) (subst (AreParts (child_part 0 0 0 Free m v ∷ [])) (sym d) only);

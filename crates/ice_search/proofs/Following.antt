@@ -3,6 +3,7 @@ use Rattle.std.proofs.Common.{ℕ, ◌<◌, ◌≡◌, List, length, get_or, ari
 use Rattle.std.proofs.lemmas.List.{length-map}
 use Rattle.ice_defs.specs.Steps.{Side, with_mark}
 use Rattle.ice_defs.specs.Trade.{fixing_of}
+use Rattle.ice_defs.specs.Derived.{goods_alone}
 use Rattle.ice_defs.specs.Log.{IsFreeNode}
 use Rattle.ice_defs.specs.Conditions.{AreFixingsOf, AreMultipliersOf}
 use Rattle.ice_search_log.specs.Parts.{side_at}
@@ -17,11 +18,11 @@ pub below : (x : Instance) (list : List Part) (k : ℕ) (p : Part) → IsSearchO
     → (p.above < k) × (side_at x.start (parts_of list) k ≡ with_mark (side_at x.start (parts_of list) p.above) p.bidder p.node p.mark)
     × IsFreeNode x.trees (side_at x.start (parts_of list) p.above) p.bidder p.node
 below x list k p is after l e =
-    side_is_below x.trees x.exact x.weights x.start x.first (parts_of list) k (part_of p).put is after (omega (arith, l, length-map list part_of)) (ap (λ q. q.put) (part_read list k p l e))
+    side_is_below goods_alone x.trees x.exact x.weights x.start x.first (parts_of list) k (part_of p).put is after (omega (arith, l, length-map list part_of)) (ap (λ q. q.put) (part_read list k p l e))
 
 -- each side has one mark per node
 pub fixings_at : (x : Instance) (list : List Part) (k : ℕ) → IsInstance x → IsSearchOf x (parts_of list) → k < length list → AreFixingsOf x.trees (side_at x.start (parts_of list) k)
-fixings_at x list k lawful is l = sides_are_fixings x.trees x.exact x.weights x.start x.first (parts_of list) k is lawful.start (omega (arith, l, length-map list part_of))
+fixings_at x list k lawful is l = sides_are_fixings goods_alone x.trees x.exact x.weights x.start x.first (parts_of list) k is lawful.start (omega (arith, l, length-map list part_of))
 
 -- a free node is there
 pub node_there : (x : Instance) (side : Side) (b n : ℕ) → AreFixingsOf x.trees side → IsFreeNode x.trees side b n → (b < length side) × (n < length (fixing_of side b))

@@ -10,6 +10,7 @@ use Rattle.ice_defs.specs.declared.Mark.{Mark}
 use Rattle.ice_defs.specs.declared.Mark.TheVariants.{Must, Never}
 use Rattle.ice_defs.specs.Trade.{Assignment, MeetsAll}
 use Rattle.ice_defs.specs.Bound.{Multipliers}
+use Rattle.ice_defs.specs.Derived.{goods_alone}
 use Rattle.ice_defs.specs.Steps.{Side, with_mark}
 use Rattle.ice_defs.specs.Sweep.{IsLive, IsSweptBound}
 use Rattle.ice_defs.specs.Conditions.{AreMultipliersOf}
@@ -73,21 +74,21 @@ module _ (s : State) (is : IsState s) where
     p = part_at s.parts k
 
     pub live : IsLive x.trees s.side
-    live = subst (IsLive x.trees) (sym looks.side) (bound_is_live x.trees x.weights p.m (side_at x.start s.parts k) p.key (is.search.each k looks.there).bound)
+    live = subst (IsLive x.trees) (sym looks.side) (bound_is_live goods_alone x.trees x.exact x.weights p.m (side_at x.start s.parts k) p.key (is.search.each k looks.there).bound)
 
     pub lawful : AreMultipliersOf x.exact p.m
     lawful = let part = is.search.each k looks.there in record { same_length = part.counts; signs = part.signs }
 
-    here : IsPart x.trees x.exact x.weights s.side p
-    here = subst (λ side. IsPart x.trees x.exact x.weights side p) (sym looks.side) (is.search.each k looks.there)
+    here : IsPart goods_alone x.trees x.exact x.weights s.side p
+    here = subst (λ side. IsPart goods_alone x.trees x.exact x.weights side p) (sym looks.side) (is.search.each k looks.there)
 
     pub to_start : (a : Assignment) → MeetsAll a s.side → MeetsAll a x.start
-    to_start a meets = meets_start x.trees x.exact x.weights x.start x.first s.parts k a is.search looks.there (subst (MeetsAll a) looks.side meets)
+    to_start a meets = meets_start goods_alone x.trees x.exact x.weights x.start x.first s.parts k a is.search looks.there (subst (MeetsAll a) looks.side meets)
 
     -- ---- sweeping
 
     module _ (listed : Contains s.open_parts k) (new : Incumbent) (offered : IsOfferedAt x s.side held new) where
-      changed : (q : Part) (parts2 : List Part) (side2 : Side) → q.put ≡ p.put → q.split ≡ p.split → IsPart x.trees x.exact x.weights s.side q → parts2 ≡ set s.parts k q
+      changed : (q : Part) (parts2 : List Part) (side2 : Side) → q.put ≡ p.put → q.split ≡ p.split → IsPart goods_alone x.trees x.exact x.weights s.side q → parts2 ≡ set s.parts k q
           → IsState (record { instance = x; side = side2; parts = parts2; sets = new.sets; value = new.value; open_parts = s.open_parts })
       changed q parts2 side2 put split part e =
           let up = raised s.side new to_start offered in
@@ -95,7 +96,7 @@ module _ (s : State) (is : IsState s) where
           record {
             instance = is.instance;
             search = subst (IsSearchOf x) (sym e)
-                (search_bounds x.trees x.exact x.weights x.start x.first s.parts k q is.search looks.there put split (subst (λ side. IsPart x.trees x.exact x.weights side q) looks.side part));
+                (search_bounds goods_alone x.trees x.exact x.weights x.start x.first s.parts k q is.search looks.there put split (subst (λ side. IsPart goods_alone x.trees x.exact x.weights side q) looks.side part));
             incumbent = up.0;
             opened = subst (λ xs. AreOpen xs new.value s.open_parts) (sym e) (open_bounds s.parts new.value s.open_parts k q (open_rises s.parts s.value new.value s.open_parts is.opened up.1) listed);
             numbered = λ j there. omega (arith, size, is.numbered j there);
@@ -105,7 +106,7 @@ module _ (s : State) (is : IsState s) where
           → (v <ℤ p.key → parts2 ≡ set s.parts k (with_bound p m v)) → (p.key ≤ℤ v → parts2 ≡ set s.parts k (record p { swept = true }))
           → IsState (record { instance = x; side = side2; parts = parts2; sets = new.sets; value = new.value; open_parts = s.open_parts })
       swept m v parts2 side2 sweeps bound falls stays =
-          let part = swept_is_part x.trees x.exact x.weights s.side p m v here sweeps bound in
+          let part = swept_is_part goods_alone x.trees x.exact x.weights s.side p m v here sweeps bound in
           by_lt_z v p.key (λ less. changed (with_bound p m v) parts2 side2 refl refl part.0 (falls less))
           (λ le. changed (record p { swept = true }) parts2 side2 refl refl (part.1 le) (stays le))
 
@@ -139,7 +140,7 @@ module _ (s : State) (is : IsState s) where
 
     -- ---- splitting
 
-    child : (side : Side) (b n : ℕ) (mark : Mark) (m : Multipliers) (v : ℤ) → AreMultipliersOf x.exact m → IsBoundAt x m side v → IsPart x.trees x.exact x.weights side (child_part k b n mark m v)
+    child : (side : Side) (b n : ℕ) (mark : Mark) (m : Multipliers) (v : ℤ) → AreMultipliersOf x.exact m → IsBoundAt x m side v → IsPart goods_alone x.trees x.exact x.weights side (child_part k b n mark m v)
     child side b n mark m v are bound = record { counts = are.same_length; signs = are.signs; bound = bound; swept = λ e. absurd (false≢true e) }
 
     module _ (b n : ℕ) (m₁ m₂ : Multipliers) (v₁ v₂ : ℤ) (parts2 : List Part)
@@ -181,13 +182,13 @@ module _ (s : State) (is : IsState s) where
           let second = raised_from x (with_mark s.side b n Never) one two first.0 (λ a meets. to_start a (meets_less a s.side b n Never node.free.2 meets)) offered₂ in
           let up : s.value ≤ℤ two.value = omega (arith, ints, first.1, second.1) in
           let here_node = subst (λ side. IsSplitNode x.trees side b n) looks.side node in
-          let earned = split_is_earned x.trees x.exact x.weights x.start x.first s.parts s.sets s.value k b n is.search is.incumbent next here_node.must here_node.never in
-          let must_is = subst (λ side. IsPart x.trees x.exact x.weights (with_mark side b n Must) must_part) looks.side (child (with_mark s.side b n Must) b n Must m₁ v₁ are₁ bound₁) in
-          let never_is = subst (λ side. IsPart x.trees x.exact x.weights (with_mark side b n Never) never_part) looks.side (child (with_mark s.side b n Never) b n Never m₂ v₂ are₂ bound₂) in
+          let earned = split_is_earned goods_alone x.trees x.exact x.weights x.start x.first s.parts s.sets s.value k b n is.search is.incumbent next here_node.must here_node.never in
+          let must_is = subst (λ side. IsPart goods_alone x.trees x.exact x.weights (with_mark side b n Must) must_part) looks.side (child (with_mark s.side b n Must) b n Must m₁ v₁ are₁ bound₁) in
+          let never_is = subst (λ side. IsPart goods_alone x.trees x.exact x.weights (with_mark side b n Never) never_part) looks.side (child (with_mark s.side b n Never) b n Never m₂ v₂ are₂ bound₂) in
           record {
             instance = is.instance;
             search = subst (IsSearchOf x) (sym pushed)
-                (search_splits x.trees x.exact x.weights x.start x.first s.parts k b n must_part never_part is.search looks.there next.whole here_node.free earned refl refl must_is refl refl never_is);
+                (search_splits goods_alone x.trees x.exact x.weights x.start x.first s.parts k b n must_part never_part is.search looks.there next.whole here_node.free earned refl refl must_is refl refl never_is);
             incumbent = second.0;
             opened = subst (λ xs. AreOpen xs two.value left) (sym pushed)
                 (open_splits s.parts two.value s.open_parts left k b n must_part never_part (open_rises s.parts s.value two.value s.open_parts is.opened up) looks.there

@@ -4,6 +4,7 @@ use Rattle.ice_defs.specs.Tree.{Tree}
 use Rattle.ice_defs.specs.Set.{Weights}
 use Rattle.ice_defs.specs.Trade.{Assignment, IsFeasible, MeetsAll, IsBest}
 use Rattle.ice_defs.specs.Bound.{Multipliers, IsBound}
+use Rattle.ice_defs.specs.Derived.{goods_alone}
 use Rattle.ice_defs.specs.Steps.{Side}
 use Rattle.ice_defs.specs.Sweep.{Sweeps, all_zero}
 use Rattle.ice_defs.specs.Exchange.{Exchange, trees_of, exact_of}
@@ -44,7 +45,7 @@ IsBestOf x v = IsBest x.trees x.exact x.weights x.start v
 
 -- what holds of the parts of a search, and of the best assignment so far
 abbrev pub IsSearchOf : Instance → List Part → Type 0
-IsSearchOf x parts = IsSearch x.trees x.exact x.weights x.start x.first parts
+IsSearchOf x parts = IsSearch goods_alone x.trees x.exact x.weights x.start x.first parts
 
 abbrev pub IsIncumbentOf : Instance → Assignment → ℤ → Type 0
 IsIncumbentOf x sets value = IsIncumbent x.trees x.exact x.weights x.start x.first sets value

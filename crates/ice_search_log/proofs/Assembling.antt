@@ -1,5 +1,5 @@
 -- A turn of the loop that writes the log.
-use Rattle.std.proofs.Common.{ℕ, Bool, ◌+◌, ◌<◌, ◌≤◌, ◌≡◌, List, [], ◌∷◌, ◌++◌, length, get_or, Some, None, refl, arith, ap, sym, ◌∙◌, subst, ◌⊎◌, inl, inr, append_assoc, length-append, add-one}
+use Rattle.std.proofs.Common.{ℕ, Bool, ◌+◌, ◌<◌, ◌≤◌, ◌≡◌, List, [], ◌∷◌, ◌++◌, length, map, get_or, Some, None, refl, arith, ap, sym, ◌∙◌, subst, ◌⊎◌, inl, inr, append_assoc, length-append, add-one}
 use Rattle.std.specs.List.{AllByRecursion}
 use Rattle.std.proofs.lemmas.Bool.{cases_lt}
 use Rattle.std.proofs.lemmas.List.{length-map, get_or-map, get_or_append_left, get_or_push}
@@ -15,26 +15,31 @@ use Rattle.ice_search_log.specs.Code.{split_of, part_of, parts_of, IsRangedStep}
 pub part_read : (list : List Part) (k : ℕ) (p : Part) → k < length list → p ≡ get_or list k p → parts.part_at (parts_of list) k ≡ part_of p
 part_read list k p l e = get_or-map part_of list k p parts.no_part l ∙ ap part_of (sym e)
 
-module _ (stops : parts.Part → Bool) (list : List Part) (outer : List ℕ) (k : ℕ) (p : Part) (later : AreLater (parts_of list)) (l : k < length list) (e : p ≡ get_or list k p) where
-  there : k < length (parts_of list)
-  there = omega (arith, l, length-map list part_of)
+-- parts of the code, each of which is one of the definitions
+module _ {X : Type 0} (of : X → parts.Part) (stops : parts.Part → Bool) (list : List X) (outer : List ℕ) (k : ℕ) (p : X)
+    (later : AreLater (map of list)) (l : k < length list) (e : p ≡ get_or list k p) where
+  there : k < length (map of list)
+  there = omega (arith, l, length-map list of)
+
+  read : parts.part_at (map of list) k ≡ of p
+  read = get_or-map of list k p parts.no_part l ∙ ap of (sym e)
 
   -- where the part is split, unless it stops
-  shown : parts.split_unless (stops (parts.part_at (parts_of list) k)) (parts.part_at (parts_of list) k).split ≡ parts.split_unless (stops (part_of p)) (part_of p).split
-  shown = ap (λ q. parts.split_unless (stops q) q.split) (part_read list k p l e)
+  shown : parts.split_unless (stops (parts.part_at (map of list) k)) (parts.part_at (map of list) k).split ≡ parts.split_unless (stops (of p)) (of p).split
+  shown = ap (λ q. parts.split_unless (stops q) q.split) read
 
-  pub leaf_step : None ≡ parts.split_unless (stops (part_of p)) (part_of p).split
-      → steps_left stops (parts_of list) (outer ++ k ∷ []) ≡ leaf p.m ∷ steps_left stops (parts_of list) outer
+  pub leaf_step : None ≡ parts.split_unless (stops (of p)) (of p).split
+      → steps_left stops (map of list) (outer ++ k ∷ []) ≡ leaf (of p).m ∷ steps_left stops (map of list) outer
   leaf_step whole =
-      leaf_is_next (parts_of list) stops outer k later there (shown ∙ sym whole)
-      ∙ ap (λ q. leaf q.m ∷ steps_left stops (parts_of list) outer) (part_read list k p l e)
+      leaf_is_next (map of list) stops outer k later there (shown ∙ sym whole)
+      ∙ ap (λ q. leaf q.m ∷ steps_left stops (map of list) outer) read
 
-  pub branch_step : (s : Split) → Some (split_of s) ≡ parts.split_unless (stops (part_of p)) (part_of p).split
-      → (s.must + 1 < length list) × (steps_left stops (parts_of list) (outer ++ k ∷ []) ≡ branch s.bidder s.node ∷ steps_left stops (parts_of list) ((outer ++ (s.must + 1) ∷ []) ++ s.must ∷ []))
+  pub branch_step : (s : Split) → Some (split_of s) ≡ parts.split_unless (stops (of p)) (of p).split
+      → (s.must + 1 < length list) × (steps_left stops (map of list) (outer ++ k ∷ []) ≡ branch s.bidder s.node ∷ steps_left stops (map of list) ((outer ++ (s.must + 1) ∷ []) ++ s.must ∷ []))
   branch_step s has =
-      let next = branch_is_next (parts_of list) stops outer k (split_of s) later there (shown ∙ sym has) in (
-        omega (arith, next.0, length-map list part_of),
-        next.1 ∙ ap (λ j. branch s.bidder s.node ∷ steps_left stops (parts_of list) ((outer ++ j ∷ []) ++ s.must ∷ [])) (sym (add-one s.must)),
+      let next = branch_is_next (map of list) stops outer k (split_of s) later there (shown ∙ sym has) in (
+        omega (arith, next.0, length-map list of),
+        next.1 ∙ ap (λ j. branch s.bidder s.node ∷ steps_left stops (map of list) ((outer ++ j ∷ []) ++ s.must ∷ [])) (sym (add-one s.must)),
       )
 
 pub inside_push : (xs : List ℕ) (k n : ℕ) → ((i : ℕ) → i < length xs → get_or xs i 0 < n) → k < n → (i : ℕ) → i < length (xs ++ k ∷ []) → get_or (xs ++ k ∷ []) i 0 < n

@@ -79,9 +79,9 @@ fewer stops parts (suc depth) k =
     fewer_from (part_at parts k).m (stops (part_at parts k)) (part_at parts k).split (steps_down stops parts depth) (steps_down never_stops parts depth) (fewer stops parts depth)
 
 pub branches_are_splits : BranchesAreSplits
-branches_are_splits ts exact ws start first parts stops is =
-    let all = all_counted parts (later ts exact ws start first parts is) is.paired is.root in (
+branches_are_splits means ts exact ws start first parts stops is =
+    let all = all_counted parts (later means ts exact ws start first parts is) is.paired is.root in (
       all,
       omega (arith, all, fewer stops parts (length parts - 0) 0),
-      two_each parts (later ts exact ws start first parts is) is.paired is.root,
+      two_each parts (later means ts exact ws start first parts is) is.paired is.root,
     )

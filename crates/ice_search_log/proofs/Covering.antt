@@ -1,22 +1,26 @@
 -- A feasible assignment that meets a side meets one child of it, and not
 -- both; so one that meets the start meets a part that isn't split.
-use Rattle.std.proofs.Common.{ℕ, suc, ◌<◌, ◌≡◌, Bool, true, false, List, length, Some, None, ◌≤ℤ◌, arith, sym, subst, ◌⊎◌, inl, inr}
+use Rattle.std.proofs.Common.{ℕ, suc, ◌<◌, ◌≤◌, ◌≡◌, Bool, true, false, List, length, replicate, Some, None, ◌≤ℤ◌, arith, sym, subst, ◌⊎◌, inl, inr, length-append}
 use Rattle.std.specs.List.{Contains}
 use Rattle.std.proofs.lemmas.Int.{ints}
+use Rattle.std.proofs.lemmas.List.{length-replicate}
 use Rattle.std.proofs.lemmas.Bool.{cases_Bool, both_ways, false≢true}
 use Rattle.ice_defs.specs.declared.Mark.TheVariants.{Must, Never}
 use Rattle.ice_defs.specs.Tree.{Tree}
 use Rattle.ice_defs.specs.Set.{has, Weights}
 use Rattle.ice_defs.specs.Fixing.{Agrees}
 use Rattle.ice_defs.specs.Trade.{Assignment, set_of, fixing_of, total_value, IsFeasible, MeetsAll}
+use Rattle.ice_defs.specs.Bound.{Multipliers}
+use Rattle.ice_defs.specs.Derived.{Means, goods_alone, with_derived, flags_of}
 use Rattle.ice_defs.specs.Steps.{Side, with_mark}
 use Rattle.ice_defs.specs.Log.{IsFreeNode}
 use Rattle.ice_defs.specs.Conditions.{AreFixingsOf}
-use Rattle.ice_bound.proofs.Above.{bound-ge}
-use Rattle.ice_refute.proofs.Refutes.{meets_all_put}
+use Rattle.ice_bound.specs.Laws.{IsCounted}
+use Rattle.ice_bound.proofs.Above.{bound_by_is_sound}
+use Rattle.ice_refute.proofs.Refutes.{meets_all_put, limits_are_kept}
 use Rattle.ice_refute.proofs.Kept.{mark_of-with_mark}
 use Rattle.ice_search_log.specs.Parts.{Split, Part, part_at, AreLater, side_at, never_stops}
-use Rattle.ice_search_log.specs.Searching.{IsSearch}
+use Rattle.ice_search_log.specs.Searching.{HasNumbers, IsSearch}
 use Rattle.ice_search_log.specs.Laws.{MeetsOne, SplitCovers, CoverIsWhole, BestIsBelow}
 use Rattle.ice_search_log.proofs.Sides.{side_at-root}
 use Rattle.ice_search_log.proofs.Written.{by_parts}
@@ -63,7 +67,12 @@ split_covers ts exact side b n a are free feasible meets = by (meets_child ts ex
     by (inl must) = inl (must, λ never. not_both ts exact side b n a are free feasible must never)
     by (inr never) = inr (never, λ must. not_both ts exact side b n a are free feasible must never)
 
-module _ (ts : List Tree) (exact : List Bool) (ws : List Weights) (start : Side) (first : Assignment) (parts : List Part) (is : IsSearch ts exact ws start first parts) where
+-- such numbers are as many as a bound wants, and no more than those it looks at
+pub as_wanted : (means : Means) (exact : List Bool) (m : Multipliers) → HasNumbers means exact m → IsCounted means exact m × (length m ≤ length (flags_of means exact))
+as_wanted goods_alone exact m has = (has, omega (arith, has))
+as_wanted (with_derived ds) exact m has = (tt, omega (arith, has, length-append exact (replicate (length ds) false), length-replicate (length ds) false))
+
+module _ (means : Means) (ts : List Tree) (exact : List Bool) (ws : List Weights) (start : Side) (first : Assignment) (parts : List Part) (is : IsSearch means ts exact ws start first parts) where
   pub later : AreLater parts
   later k s l has = let split = is.splits k s l has in (split.after, split.inside)
 
@@ -95,19 +104,20 @@ module _ (ts : List Tree) (exact : List Bool) (ws : List Weights) (start : Side)
   pub key-ge : (k : ℕ) (a : Assignment) → k < length parts → IsFeasible ts exact a → MeetsAll a (side_at start parts k) → total_value a ws ≤ℤ (part_at parts k).key
   key-ge k a l feasible meets =
       let part = is.each k l in
-      bound-ge ts exact ws (part_at parts k).m (side_at start parts k) a (omega (arith, part.counts)) part.signs feasible meets (part_at parts k).key part.bound
+      bound_by_is_sound means ts exact ws (part_at parts k).m (side_at start parts k) (part_at parts k).key a (as_wanted means exact (part_at parts k).m part.counts).0 part.signs part.bound feasible
+      (limits_are_kept means ts exact a is.lawful feasible) meets
 
 pub cover_is_whole : CoverIsWhole
-cover_is_whole ts exact ws start first parts open_parts value is each a feasible meets =
-    let (k, l, whole, met) = meets_whole ts exact ws start first parts is a feasible meets in
+cover_is_whole means ts exact ws start first parts open_parts value is each a feasible meets =
+    let (k, l, whole, met) = meets_whole means ts exact ws start first parts is a feasible meets in
     by k l met (each k l whole)
   where
     by : (k : ℕ) → k < length parts → MeetsAll a (side_at start parts k) → ((part_at parts k).key ≤ℤ value) ⊎ Contains open_parts k
         → (total_value a ws ≤ℤ value) ⊎ ((k : ℕ) × (k < length parts) × Contains open_parts k × MeetsAll a (side_at start parts k))
-    by k l met (inl low) = inl (omega (arith, ints, low, key-ge ts exact ws start first parts is k a l feasible met))
+    by k l met (inl low) = inl (omega (arith, ints, low, key-ge means ts exact ws start first parts is k a l feasible met))
     by k l met (inr listed) = inr (k, l, listed, met)
 
 pub best_is_below : BestIsBelow
-best_is_below ts exact ws start first parts bound is each a feasible meets =
-    let (k, l, whole, met) = meets_whole ts exact ws start first parts is a feasible meets in
-    omega (arith, ints, each k l whole, key-ge ts exact ws start first parts is k a l feasible met)
+best_is_below means ts exact ws start first parts bound is each a feasible meets =
+    let (k, l, whole, met) = meets_whole means ts exact ws start first parts is a feasible meets in
+    omega (arith, ints, each k l whole, key-ge means ts exact ws start first parts is k a l feasible met)

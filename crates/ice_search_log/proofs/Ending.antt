@@ -8,7 +8,7 @@ use Rattle.ice_defs.specs.Tree.{Tree}
 use Rattle.ice_defs.specs.Set.{Weights}
 use Rattle.ice_defs.specs.Trade.{Assignment}
 use Rattle.ice_defs.specs.Steps.{Side}
-use Rattle.ice_defs.specs.Log.{Passes}
+use Rattle.ice_defs.specs.Log.{PassesBy}
 use Rattle.ice_defs.specs.Sweep.{IsEarnedLog, LeavesEarned}
 use Rattle.ice_defs.specs.Session.{Proved}
 use Rattle.ice_defs.specs.Searched.{IsAttained}
@@ -43,11 +43,11 @@ greatest_is_next parts value open_parts k there whole swept above are each = rec
     by j whole' (inr listed) = above_listed parts open_parts (part_at parts k).key j each listed whole'
 
 pub split_is_earned : SplitIsEarned
-split_is_earned ts exact ws start first parts sets value k b n is incumbent next must never =
+split_is_earned means ts exact ws start first parts sets value k b n is incumbent next must never =
     let (v, swept, low) = (is.each k next.there).swept next.swept in
     let (best, is_best) = best_is_there ts exact ws start sets incumbent.feasible incumbent.meets in
     let (a, may, e) = is_best.attained in
-    let under = best_is_below ts exact ws start first parts (part_at parts k).key is next.greatest a may.0 may.1 in
+    let under = best_is_below means ts exact ws start first parts (part_at parts k).key is next.greatest a may.0 may.1 in
     record {
       must_live = must;
       never_live = never;
@@ -59,10 +59,10 @@ attained : (ts : List Tree) (exact : List Bool) (ws : List Weights) (start : Sid
 attained ts exact ws start first p incumbent = record { feasible = incumbent.feasible; meets = incumbent.meets; has = incumbent.has }
 
 pub search_is_found : SearchIsFound
-search_is_found ts exact ws start first parts stops p is incumbent low stopped written = record {
+search_is_found means ts exact ws start first parts stops p is incumbent low stopped written = record {
   attained = attained ts exact ws start first p incumbent;
-  passes = subst (Passes ts exact ws p.value start) (sym written) (tree_log_passes ts exact ws start first parts stops p.value is closes_all);
-  earned = subst (IsEarnedLog ts exact ws start first) (sym written) (tree_log_is_earned ts exact ws start first parts stops is).0;
+  passes = subst (PassesBy means ts exact ws p.value start) (sym written) (tree_log_passes means ts exact ws start first parts stops p.value is closes_all);
+  earned = subst (IsEarnedLog ts exact ws start first) (sym written) (tree_log_is_earned means ts exact ws start first parts stops is).0;
 }
   where
     closes_all : ClosesAll stops parts p.value
@@ -70,13 +70,13 @@ search_is_found ts exact ws start first parts stops p is incumbent low stopped w
     closes_all k l (inr whole) = low k l whole
 
 pub search_is_spent : SearchIsSpent
-search_is_spent ts exact ws start first parts p k b n is incumbent next free must never written = record {
+search_is_spent means ts exact ws start first parts p k b n is incumbent next free must never written = record {
   attained = attained ts exact ws start first p incumbent;
   gap = next.above;
-  passes = subst (Passes ts exact ws (part_at parts k).key start) (sym written) (tree_log_passes ts exact ws start first parts never_stops (part_at parts k).key is closes_all);
-  earned = subst (IsEarnedLog ts exact ws start first) (sym written) (tree_log_is_earned ts exact ws start first parts never_stops is).0;
+  passes = subst (PassesBy means ts exact ws (part_at parts k).key start) (sym written) (tree_log_passes means ts exact ws start first parts never_stops (part_at parts k).key is closes_all);
+  earned = subst (IsEarnedLog ts exact ws start first) (sym written) (tree_log_is_earned means ts exact ws start first parts never_stops is).0;
   leaves = subst (LeavesEarned ts exact ws start first) (sym written)
-      (tree_log_leaves ts exact ws start first parts k b n is next.there next.whole free (split_is_earned ts exact ws start first parts p.sets p.value k b n is incumbent next must never));
+      (tree_log_leaves means ts exact ws start first parts k b n is next.there next.whole free (split_is_earned means ts exact ws start first parts p.sets p.value k b n is incumbent next must never));
 }
   where
     closes_all : ClosesAll never_stops parts (part_at parts k).key

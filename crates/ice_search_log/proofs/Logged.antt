@@ -6,25 +6,26 @@ use Rattle.ice_defs.specs.declared.Mark.TheVariants.{Must, Never}
 use Rattle.ice_defs.specs.Tree.{Tree}
 use Rattle.ice_defs.specs.Set.{Weights}
 use Rattle.ice_defs.specs.Trade.{Assignment}
+use Rattle.ice_defs.specs.Derived.{Means, flags_of}
 use Rattle.ice_defs.specs.Steps.{Step, branch, leaf, Side, with_mark, sides_after, steps_with_sides}
-use Rattle.ice_defs.specs.Log.{IsFreeNode, Reads, branches, closes, Passes}
+use Rattle.ice_defs.specs.Log.{IsFreeNode, ReadsBy, branches, closes, PassesBy}
 use Rattle.ice_defs.specs.Sweep.{IsEarned, EarnsStep, LeavesEarnedAt, LeavesEarned}
-use Rattle.ice_refute.specs.Code.{CountsGoods}
+use Rattle.ice_refute.specs.Laws.{CountsBy, CountsUpTo}
 use Rattle.ice_search_log.specs.Parts.{Put, Split, Part, part_at, side_at, steps_from, steps_of, log_of, never_stops}
 use Rattle.ice_search_log.specs.Searching.{IsSplit, IsChild, IsSearch}
 use Rattle.ice_search_log.specs.Laws.{ClosesAll, TreeLogPasses, TreeLogIsEarned, TreeLogLeaves}
 use Rattle.ice_search_log.proofs.Sides.{side_at-root}
 use Rattle.ice_search_log.proofs.Written.{by_parts, steps_of-more}
-use Rattle.ice_search_log.proofs.Covering.{later}
+use Rattle.ice_search_log.proofs.Covering.{later, as_wanted}
 
 append_none : {X : Type 0} (xs : List X) → xs ++ [] ≡ xs
 append_none [] = refl
 append_none (x ∷ xs) = ap (λ ys. x ∷ ys) (append_none xs)
 
-module _ (ts : List Tree) (exact : List Bool) (ws : List Weights) (start : Side) (first : Assignment) (parts : List Part) (is : IsSearch ts exact ws start first parts) where
+module _ (means : Means) (ts : List Tree) (exact : List Bool) (ws : List Weights) (start : Side) (first : Assignment) (parts : List Part) (is : IsSearch means ts exact ws start first parts) where
   module _ (stops : Part → Bool) (target : ℤ) (low : ClosesAll stops parts target) where
     abbrev ReadsPart : ℕ → List Step → Type 0
-    ReadsPart k log = (rest : List Step) → Reads ts exact ws target (side_at start parts k) (log ++ rest) (Ok rest)
+    ReadsPart k log = (rest : List Step) → ReadsBy means ts exact ws target (side_at start parts k) (log ++ rest) (Ok rest)
 
     read_leaf : (k : ℕ) → k < length parts → (stops (part_at parts k) ≡ true) ⊎ ((part_at parts k).split ≡ None) → ReadsPart k (leaf (part_at parts k).m ∷ [])
     read_leaf k l end rest = closes (is.each k l).signs (is.each k l).bound (low k l end)
@@ -33,16 +34,16 @@ module _ (ts : List Tree) (exact : List Bool) (ws : List Weights) (start : Side)
         → ReadsPart k (branch s.bidder s.node ∷ xs ++ ys)
     read_split k s xs ys l has must never rest =
         let split = is.splits k s l has in
-        subst (λ log. Reads ts exact ws target (side_at start parts k) (branch s.bidder s.node ∷ log) (Ok rest)) (sym (append_assoc xs ys rest))
+        subst (λ log. ReadsBy means ts exact ws target (side_at start parts k) (branch s.bidder s.node ∷ log) (Ok rest)) (sym (append_assoc xs ys rest))
         (branches split.free
-        (subst (λ side. Reads ts exact ws target side (xs ++ (ys ++ rest)) (Ok (ys ++ rest))) split.must (must (ys ++ rest)))
-        (subst (λ side. Reads ts exact ws target side (ys ++ rest) (Ok rest)) split.never (never rest)))
+        (subst (λ side. ReadsBy means ts exact ws target side (xs ++ (ys ++ rest)) (Ok (ys ++ rest))) split.must (must (ys ++ rest)))
+        (subst (λ side. ReadsBy means ts exact ws target side (ys ++ rest) (Ok rest)) split.never (never rest)))
 
-    passes : Passes ts exact ws target start (log_of stops parts)
+    passes : PassesBy means ts exact ws target start (log_of stops parts)
     passes =
-        subst (λ side. Reads ts exact ws target side (log_of stops parts) (Ok [])) (side_at-root start parts is.root)
-        (subst (λ log. Reads ts exact ws target (side_at start parts 0) log (Ok [])) (append_none (log_of stops parts))
-        (by_parts stops parts ReadsPart (later ts exact ws start first parts is) read_leaf read_split (length parts - 0) 0 is.root (omega arith) []))
+        subst (λ side. ReadsBy means ts exact ws target side (log_of stops parts) (Ok [])) (side_at-root start parts is.root)
+        (subst (λ log. ReadsBy means ts exact ws target (side_at start parts 0) log (Ok [])) (append_none (log_of stops parts))
+        (by_parts stops parts ReadsPart (later means ts exact ws start first parts is) read_leaf read_split (length parts - 0) 0 is.root (omega arith) []))
 
   abbrev AllEarned : List Side → List Step → Type 0
   AllEarned sides log = AllByRecursion (λ p. EarnsStep ts exact ws start first p.0 p.1) (steps_with_sides sides log)
@@ -66,22 +67,21 @@ module _ (ts : List Tree) (exact : List Bool) (ws : List Weights) (start : Side)
     earned =
         subst (λ side. AllEarned (side ∷ []) (log_of stops parts)) (side_at-root start parts is.root)
         (subst (AllEarned (side_at start parts 0 ∷ [])) (append_none (log_of stops parts))
-        (by_parts stops parts EarnsPart (later ts exact ws start first parts is) earn_leaf earn_split (length parts - 0) 0 is.root (omega arith) [] [] tt))
+        (by_parts stops parts EarnsPart (later means ts exact ws start first parts is) earn_leaf earn_split (length parts - 0) 0 is.root (omega arith) [] [] tt))
 
-    abbrev AllCount : List Step → Type 0
-    AllCount log = AllByRecursion (CountsGoods (length exact)) log
+    -- what holds of each branch step and of each part's leaf holds of all steps
+    module _ (P : Step → Type 0) (on_branch : (b n : ℕ) → P (branch b n)) (on_leaf : (k : ℕ) → k < length parts → P (leaf (part_at parts k).m)) where
+      abbrev HoldsPart : ℕ → List Step → Type 0
+      HoldsPart k log = (rest : List Step) → AllByRecursion P rest → AllByRecursion P (log ++ rest)
 
-    abbrev CountsPart : ℕ → List Step → Type 0
-    CountsPart k log = (rest : List Step) → AllCount rest → AllCount (log ++ rest)
+      hold_split : (k : ℕ) (s : Split) (xs ys : List Step) → k < length parts → (part_at parts k).split ≡ Some s → HoldsPart s.must xs → HoldsPart (suc s.must) ys
+          → HoldsPart k (branch s.bidder s.node ∷ xs ++ ys)
+      hold_split k s xs ys l has must never rest all = (on_branch s.bidder s.node, subst (AllByRecursion P) (sym (append_assoc xs ys rest)) (must (ys ++ rest) (never rest all)))
 
-    count_split : (k : ℕ) (s : Split) (xs ys : List Step) → k < length parts → (part_at parts k).split ≡ Some s → CountsPart s.must xs → CountsPart (suc s.must) ys
-        → CountsPart k (branch s.bidder s.node ∷ xs ++ ys)
-    count_split k s xs ys l has must never rest all = (tt, subst AllCount (sym (append_assoc xs ys rest)) (must (ys ++ rest) (never rest all)))
-
-    counts : AllCount (log_of stops parts)
-    counts =
-        subst AllCount (append_none (log_of stops parts))
-        (by_parts stops parts CountsPart (later ts exact ws start first parts is) (λ k l end rest all. ((is.each k l).counts, all)) count_split (length parts - 0) 0 is.root (omega arith) [] tt)
+      pub all_hold : AllByRecursion P (log_of stops parts)
+      all_hold =
+          subst (AllByRecursion P) (append_none (log_of stops parts))
+          (by_parts stops parts HoldsPart (later means ts exact ws start first parts is) (λ k l end rest all. (on_leaf k l, all)) hold_split (length parts - 0) 0 is.root (omega arith) [] tt)
 
   -- ---- an earned branch that is left
 
@@ -106,7 +106,7 @@ module _ (ts : List Tree) (exact : List Bool) (ws : List Weights) (start : Side)
 
   skips : (k : ℕ) → k < length parts → SkipsPart k (steps_of never_stops parts k)
   skips k l =
-      by_parts never_stops parts SkipsPart (later ts exact ws start first parts is)
+      by_parts never_stops parts SkipsPart (later means ts exact ws start first parts is)
       (λ k l end more rest any. any_later (side_at start parts k) more (leaf (part_at parts k).m) rest any)
       skip_split _ k l (omega (arith, l))
 
@@ -121,14 +121,14 @@ module _ (ts : List Tree) (exact : List Bool) (ws : List Weights) (start : Side)
     where
       written : (k : ℕ) → k < length parts → (part_at parts k).split ≡ None → steps_of never_stops parts k ≡ leaf (part_at parts k).m ∷ []
       written k l whole =
-          steps_of-more never_stops parts (later ts exact ws start first parts is) k l
+          steps_of-more never_stops parts (later means ts exact ws start first parts is) k l
           ∙ ap (λ o. steps_from (part_at parts k).m o (steps_of never_stops parts)) whole
 
   -- a part's steps leave what a child's do
   leaves_above : (k : ℕ) (s : Split) (j : ℕ) → k < length parts → (part_at parts k).split ≡ Some s → (j ≡ s.must) ⊎ (j ≡ suc s.must) → LeavesPart j → LeavesPart k
   leaves_above k s j l has one leaves more rest =
       let split = is.splits k s l has in
-      let written = steps_of-more never_stops parts (later ts exact ws start first parts is) k l ∙ ap (λ o. steps_from (part_at parts k).m o (steps_of never_stops parts)) has in
+      let written = steps_of-more never_stops parts (later means ts exact ws start first parts is) k l ∙ ap (λ o. steps_from (part_at parts k).m o (steps_of never_stops parts)) has in
       pass (steps_of never_stops parts s.must) (steps_of never_stops parts (suc s.must)) split written refl refl one
     where
       pass : (xs ys : List Step) → IsSplit ts exact ws start first parts k s → steps_of never_stops parts k ≡ branch s.bidder s.node ∷ xs ++ ys
@@ -170,10 +170,14 @@ module _ (ts : List Tree) (exact : List Bool) (ws : List Weights) (start : Side)
       (subst (LeavesAny (side_at start parts 0 ∷ [])) (append_none (log_of never_stops parts)) (climbs (suc k) k (omega arith) l (leaves_here k b n l whole free earned) [] []))
 
 pub tree_log_passes : TreeLogPasses
-tree_log_passes ts exact ws start first parts stops target is low = passes ts exact ws start first parts is stops target low
+tree_log_passes means ts exact ws start first parts stops target is low = passes means ts exact ws start first parts is stops target low
 
 pub tree_log_is_earned : TreeLogIsEarned
-tree_log_is_earned ts exact ws start first parts stops is = (earned ts exact ws start first parts is stops, counts ts exact ws start first parts is stops)
+tree_log_is_earned means ts exact ws start first parts stops is = (
+  earned means ts exact ws start first parts is stops,
+  all_hold means ts exact ws start first parts is stops (CountsBy means exact) (λ b n. tt) (λ k l. (as_wanted means exact (part_at parts k).m (is.each k l).counts).0),
+  all_hold means ts exact ws start first parts is stops (CountsUpTo (length (flags_of means exact))) (λ b n. tt) (λ k l. (as_wanted means exact (part_at parts k).m (is.each k l).counts).1),
+)
 
 pub tree_log_leaves : TreeLogLeaves
-tree_log_leaves ts exact ws start first parts k b n is l whole free earned = leaves_all ts exact ws start first parts is k b n l whole free earned
+tree_log_leaves means ts exact ws start first parts k b n is l whole free earned = leaves_all means ts exact ws start first parts is k b n l whole free earned

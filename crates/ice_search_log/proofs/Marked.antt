@@ -8,6 +8,7 @@ use Rattle.ice_defs.specs.Set.{NodeSet, has}
 use Rattle.ice_defs.specs.Fixing.{Agrees, mark_of}
 use Rattle.ice_defs.specs.Trade.{tree_of, set_of, fixing_of, MeetsAll}
 use Rattle.ice_defs.specs.Bound.{IsOpen}
+use Rattle.ice_defs.specs.Derived.{goods_alone, with_derived}
 use Rattle.ice_defs.specs.Steps.{branch, with_mark}
 use Rattle.ice_defs.specs.Log.{IsFreeNode}
 use Rattle.ice_defs.specs.Conditions.{AreFixingsOf}
@@ -20,7 +21,7 @@ use Rattle.ice_search_log.proofs.Written.{split_unless-Some, steps_of-more}
 use Rattle.ice_search_log.proofs.Covering.{later}
 
 pub side_is_below : SideIsBelow
-side_is_below ts exact ws start first parts j put is after l e = by (subst (IsChild ts exact ws start first parts j) e (is.child j after l))
+side_is_below means ts exact ws start first parts j put is after l e = by (subst (IsChild ts exact ws start first parts j) e (is.child j after l))
   where
     by : IsChild ts exact ws start first parts j put
         → (put.above < j) × (side_at start parts j ≡ with_mark (side_at start parts put.above) put.bidder put.node put.mark) × IsFreeNode ts (side_at start parts put.above) put.bidder put.node
@@ -38,22 +39,23 @@ side_is_below ts exact ws start first parts j put is after l e = by (subst (IsCh
         side split (inr is) = ap (side_at start parts) is.0 ∙ split.never ∙ ap (with_mark (side_at start parts put.above) child.split.bidder child.split.node) (sym is.1)
 
 pub side_is_start : SideIsStart
-side_is_start ts exact ws start first parts is = side_at-root start parts is.root
+side_is_start means ts exact ws start first parts is = side_at-root start parts is.root
 
 pub sides_are_fixings : SidesAreFixings
-sides_are_fixings ts exact ws start first parts j is are l = up_to (suc j) j (omega arith) l
+sides_are_fixings means ts exact ws start first parts j is are l = up_to (suc j) j (omega arith) l
   where
     up_to : (n j : ℕ) → j < n → j < length parts → AreFixingsOf ts (side_at start parts j)
     up_to zero j h l = absurd (omega (arith, h))
     up_to (suc n) zero h l = subst (AreFixingsOf ts) (sym (side_at-root start parts is.root)) are
     up_to (suc n) (suc j) h l =
         let put = (part_at parts (suc j)).put in
-        let below = side_is_below ts exact ws start first parts (suc j) put is (omega arith) l refl in
+        let below = side_is_below means ts exact ws start first parts (suc j) put is (omega arith) l refl in
         let earlier : put.above < suc j = below.0 in
         subst (AreFixingsOf ts) (sym below.1) (marked_fixings ts (side_at start parts put.above) put.bidder put.node put.mark (up_to n put.above (omega (arith, h, earlier)) (omega (arith, l, earlier))))
 
 pub bound_is_live : BoundIsLive
-bound_is_live ts ws m side v (total, (best, greatest, is), low, high) b l = let (s, open_set, e) = (greatest b l).attained in (s, open_set)
+bound_is_live goods_alone ts exact ws m side v (total, (best, greatest, is), low, high) b l = let (s, open_set, e) = (greatest b l).attained in (s, open_set)
+bound_is_live (with_derived ds) ts exact ws m side v (total, (best, greatest, is), low, high) b l = let (s, open_set, e) = (greatest b l).attained in (s, open_set)
 
 -- ---- meeting
 
@@ -74,14 +76,14 @@ meets_less a side b n m free meets c h k i = by (cases_eq c b) (cases_eq k n)
         same (inr past) = ap (λ xs. mark_of (fixing_of xs c) k) (set_past side b (set (fixing_of side b) n m) past)
 
 pub meets_start : MeetsStart
-meets_start ts exact ws start first parts k a is l meets = up_to (suc k) k (omega arith) l meets
+meets_start means ts exact ws start first parts k a is l meets = up_to (suc k) k (omega arith) l meets
   where
     up_to : (n j : ℕ) → j < n → j < length parts → MeetsAll a (side_at start parts j) → MeetsAll a start
     up_to zero j h l met = absurd (omega (arith, h))
     up_to (suc n) zero h l met = subst (MeetsAll a) (side_at-root start parts is.root) met
     up_to (suc n) (suc j) h l met =
         let put = (part_at parts (suc j)).put in
-        let below = side_is_below ts exact ws start first parts (suc j) put is (omega arith) l refl in
+        let below = side_is_below means ts exact ws start first parts (suc j) put is (omega arith) l refl in
         let earlier : put.above < suc j = below.0 in
         up_to n put.above (omega (arith, h, earlier)) (omega (arith, l, earlier))
         (meets_less a (side_at start parts put.above) put.bidder put.node put.mark (below.2).2 (subst (MeetsAll a) below.1 met))
@@ -127,4 +129,4 @@ branch_is_next parts stops stack k s are l e = (
 )
 
 pub children_are_later : ChildrenAreLater
-children_are_later ts exact ws start first parts is = later ts exact ws start first parts is
+children_are_later means ts exact ws start first parts is = later means ts exact ws start first parts is

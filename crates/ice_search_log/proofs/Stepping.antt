@@ -9,6 +9,7 @@ use Rattle.ice_defs.specs.Sum.{sum_below, sum_over}
 use Rattle.ice_defs.specs.Tree.{Tree}
 use Rattle.ice_defs.specs.Set.{Weights}
 use Rattle.ice_defs.specs.Trade.{Assignment}
+use Rattle.ice_defs.specs.Derived.{Means}
 use Rattle.ice_defs.specs.Steps.{Side, with_mark}
 use Rattle.ice_defs.specs.Log.{IsFreeNode}
 use Rattle.ice_defs.specs.Sweep.{IsEarned}
@@ -35,7 +36,8 @@ sum_over-set g (x ∷ parts) (suc k) p l = omega (arith, ints, sum_over-set g pa
 -- ---- the first part
 
 pub search_begins : SearchBegins
-search_begins ts exact ws start first p is whole = record {
+search_begins means ts exact ws start first p lawful is whole = record {
+  lawful = lawful;
   root = omega arith;
   each = λ k l. each k (let zero_is : k ≡ 0 = omega (arith, l) in zero_is);
   splits = λ k s l has. splits k s (let zero_is : k ≡ 0 = omega (arith, l) in zero_is) has;
@@ -43,7 +45,7 @@ search_begins ts exact ws start first p is whole = record {
   paired = λ f. omega (arith, ints, ap (over_children f) whole);
 }
   where
-    each : (k : ℕ) → k ≡ 0 → IsPart ts exact ws (side_at start (p ∷ []) k) (part_at (p ∷ []) k)
+    each : (k : ℕ) → k ≡ 0 → IsPart means ts exact ws (side_at start (p ∷ []) k) (part_at (p ∷ []) k)
     each zero e = is
     each (suc k) e = absurd (omega (arith, e))
 
@@ -51,10 +53,10 @@ search_begins ts exact ws start first p is whole = record {
     splits zero s e has = absurd (none-some s (sym whole ∙ has))
     splits (suc k) s e has = absurd (omega (arith, e))
 
-module _ (ts : List Tree) (exact : List Bool) (ws : List Weights) (start : Side) (first : Assignment) (parts : List Part) (k : ℕ) (is : IsSearch ts exact ws start first parts) (there : k < length parts) where
+module _ (means : Means) (ts : List Tree) (exact : List Bool) (ws : List Weights) (start : Side) (first : Assignment) (parts : List Part) (k : ℕ) (is : IsSearch means ts exact ws start first parts) (there : k < length parts) where
   -- ---- other bounds
 
-  module _ (p : Part) (same_put : p.put ≡ (part_at parts k).put) (same_split : p.split ≡ (part_at parts k).split) (new : IsPart ts exact ws (side_at start parts k) p) where
+  module _ (p : Part) (same_put : p.put ≡ (part_at parts k).put) (same_split : p.split ≡ (part_at parts k).split) (new : IsPart means ts exact ws (side_at start parts k) p) where
     part_same : (j : ℕ) → j ≡ k → part_at (set parts k p) j ≡ p
     part_same j e = ap (part_at (set parts k p)) e ∙ get_or-set_same parts k p no_part there
 
@@ -71,12 +73,12 @@ module _ (ts : List Tree) (exact : List Bool) (ws : List Weights) (start : Side)
     side_same : (j : ℕ) → side_at start parts j ≡ side_at start (set parts k p) j
     side_same j = sym (side_at-set start parts k j p same_put)
 
-    each_bounds : (j : ℕ) → j < length (set parts k p) → IsPart ts exact ws (side_at start (set parts k p) j) (part_at (set parts k p) j)
-    each_bounds j l = subst (λ side. IsPart ts exact ws side (part_at (set parts k p) j)) (side_same j) (by (cases_eq j k))
+    each_bounds : (j : ℕ) → j < length (set parts k p) → IsPart means ts exact ws (side_at start (set parts k p) j) (part_at (set parts k p) j)
+    each_bounds j l = subst (λ side. IsPart means ts exact ws side (part_at (set parts k p) j)) (side_same j) (by (cases_eq j k))
       where
-        by : (j ≡ k) ⊎ (j ≡ k → ⊥) → IsPart ts exact ws (side_at start parts j) (part_at (set parts k p) j)
-        by (inl e) = subst (IsPart ts exact ws (side_at start parts j)) (sym (part_same j e)) (subst (λ i. IsPart ts exact ws (side_at start parts i) p) (sym e) new)
-        by (inr ne) = subst (IsPart ts exact ws (side_at start parts j)) (sym (part_other j ne)) (is.each j (omega (arith, l, length-set parts k p)))
+        by : (j ≡ k) ⊎ (j ≡ k → ⊥) → IsPart means ts exact ws (side_at start parts j) (part_at (set parts k p) j)
+        by (inl e) = subst (IsPart means ts exact ws (side_at start parts j)) (sym (part_same j e)) (subst (λ i. IsPart means ts exact ws (side_at start parts i) p) (sym e) new)
+        by (inr ne) = subst (IsPart means ts exact ws (side_at start parts j)) (sym (part_other j ne)) (is.each j (omega (arith, l, length-set parts k p)))
 
     splits_bounds : (j : ℕ) (s : Split) → j < length (set parts k p) → (part_at (set parts k p) j).split ≡ Some s → IsSplit ts exact ws start first (set parts k p) j s
     splits_bounds j s l has =
@@ -113,15 +115,15 @@ module _ (ts : List Tree) (exact : List Bool) (ws : List Weights) (start : Side)
     paired_bounds : (f : ℕ → ℤ) → (sum_over (λ q. over_children f q.split) (set parts k p) +ℤ f 0) ≡ sum_below f (length (set parts k p))
     paired_bounds f = omega (arith, ints, sum_over-set (λ q. over_children f q.split) parts k p there, ap (over_children f) same_split, is.paired f, ap (sum_below f) (length-set parts k p))
 
-    bounds : IsSearch ts exact ws start first (set parts k p)
-    bounds = record { root = omega (arith, is.root, length-set parts k p); each = each_bounds; splits = splits_bounds; child = child_bounds; paired = paired_bounds }
+    bounds : IsSearch means ts exact ws start first (set parts k p)
+    bounds = record { lawful = is.lawful; root = omega (arith, is.root, length-set parts k p); each = each_bounds; splits = splits_bounds; child = child_bounds; paired = paired_bounds }
 
   -- ---- a split
 
   module _ (b n : ℕ) (must never : Part) (whole : (part_at parts k).split ≡ None) (free : IsFreeNode ts (side_at start parts k) b n)
       (earned : IsEarned ts exact ws start first (side_at start parts k) b n) (must_put : must.put ≡ record { above = k; bidder = b; node = n; mark = Must }) (must_whole : must.split ≡ None)
-      (must_is : IsPart ts exact ws (with_mark (side_at start parts k) b n Must) must) (never_put : never.put ≡ record { above = k; bidder = b; node = n; mark = Never }) (never_whole : never.split ≡ None)
-      (never_is : IsPart ts exact ws (with_mark (side_at start parts k) b n Never) never) where
+      (must_is : IsPart means ts exact ws (with_mark (side_at start parts k) b n Must) must) (never_put : never.put ≡ record { above = k; bidder = b; node = n; mark = Never }) (never_whole : never.split ≡ None)
+      (never_is : IsPart means ts exact ws (with_mark (side_at start parts k) b n Never) never) where
     abbrev here : Part
     here = split_at (part_at parts k) b n (length parts)
 
@@ -179,15 +181,15 @@ module _ (ts : List Tree) (exact : List Bool) (ws : List Weights) (start : Side)
         by (inr ne) (inr h) (inl e) = subst P (sym e) at_must
         by (inr ne) (inr h) (inr other) = let e : suc (length parts) ≡ j = omega (arith, h, other, l, more) in subst P e at_never
 
-    each_splits : (j : ℕ) → j < length all → IsPart ts exact ws (side_at start all j) (part_at all j)
+    each_splits : (j : ℕ) → j < length all → IsPart means ts exact ws (side_at start all j) (part_at all j)
     each_splits =
-        by_place (λ j. IsPart ts exact ws (side_at start all j) (part_at all j))
-        (subst (IsPart ts exact ws (side_at start all k)) (sym part_here) (subst (λ side. IsPart ts exact ws side here) (side_before k there) (again (is.each k there))))
-        (λ j l ne. subst (IsPart ts exact ws (side_at start all j)) (sym (part_before j l ne)) (subst (λ side. IsPart ts exact ws side (part_at parts j)) (side_before j l) (is.each j l)))
-        (subst (IsPart ts exact ws (side_at start all (length parts))) (sym part_must) (subst (λ side. IsPart ts exact ws side must) (sym side_must) must_is))
-        (subst (IsPart ts exact ws (side_at start all (suc (length parts)))) (sym part_never) (subst (λ side. IsPart ts exact ws side never) (sym side_never) never_is))
+        by_place (λ j. IsPart means ts exact ws (side_at start all j) (part_at all j))
+        (subst (IsPart means ts exact ws (side_at start all k)) (sym part_here) (subst (λ side. IsPart means ts exact ws side here) (side_before k there) (again (is.each k there))))
+        (λ j l ne. subst (IsPart means ts exact ws (side_at start all j)) (sym (part_before j l ne)) (subst (λ side. IsPart means ts exact ws side (part_at parts j)) (side_before j l) (is.each j l)))
+        (subst (IsPart means ts exact ws (side_at start all (length parts))) (sym part_must) (subst (λ side. IsPart means ts exact ws side must) (sym side_must) must_is))
+        (subst (IsPart means ts exact ws (side_at start all (suc (length parts)))) (sym part_never) (subst (λ side. IsPart means ts exact ws side never) (sym side_never) never_is))
       where
-        again : IsPart ts exact ws (side_at start parts k) (part_at parts k) → IsPart ts exact ws (side_at start parts k) here
+        again : IsPart means ts exact ws (side_at start parts k) (part_at parts k) → IsPart means ts exact ws (side_at start parts k) here
         again part = record { counts = part.counts; signs = part.signs; bound = part.bound; swept = part.swept }
 
     splits_here : IsSplit ts exact ws start first all k last
@@ -272,13 +274,13 @@ module _ (ts : List Tree) (exact : List Bool) (ws : List Weights) (start : Side)
           ap (sum_below f) more,
         )
 
-    splits : IsSearch ts exact ws start first all
-    splits = record { root = omega (arith, more); each = each_splits; splits = λ j s l has. splits_splits j l s has; child = λ j later l. child_splits j l later; paired = paired_splits }
+    splits : IsSearch means ts exact ws start first all
+    splits = record { lawful = is.lawful; root = omega (arith, more); each = each_splits; splits = λ j s l has. splits_splits j l s has; child = λ j later l. child_splits j l later; paired = paired_splits }
 
 pub search_bounds : SearchBounds
-search_bounds ts exact ws start first parts k p is there same_put same_split new = bounds ts exact ws start first parts k is there p same_put same_split new
+search_bounds means ts exact ws start first parts k p is there same_put same_split new = bounds means ts exact ws start first parts k is there p same_put same_split new
 
 pub search_splits : SearchSplits
-search_splits ts exact ws start first parts k b n must never is there whole free earned must_put must_whole must_is never_put never_whole never_is =
-    subst (IsSearch ts exact ws start first) (sym (append_push (set parts k (split_at (part_at parts k) b n (length parts))) must never))
-    (splits ts exact ws start first parts k is there b n must never whole free earned must_put must_whole must_is never_put never_whole never_is)
+search_splits means ts exact ws start first parts k b n must never is there whole free earned must_put must_whole must_is never_put never_whole never_is =
+    subst (IsSearch means ts exact ws start first) (sym (append_push (set parts k (split_at (part_at parts k) b n (length parts))) must never))
+    (splits means ts exact ws start first parts k is there b n must never whole free earned must_put must_whole must_is never_put never_whole never_is)

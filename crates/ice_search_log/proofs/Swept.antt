@@ -1,17 +1,24 @@
 -- A swept part, and the value of sets by their nets.
-use Rattle.std.proofs.Common.{ℕ, zero, suc, ◌<◌, ◌≡◌, Bool, false, List, length, get_or, set, pos, ◌+ℤ◌, ◌*ℤ◌, ◌≤ℤ◌, arith, ap, sym, ◌∙◌, subst, ◌⊎◌, inl, inr, get_or-set_same, get_or-set_other}
+use Rattle.std.proofs.Common.{ℕ, zero, suc, ◌<◌, ◌≡◌, Bool, true, false, List, [], ◌∷◌, length, get_or, set, ℤ, pos, ◌+ℤ◌, ◌*ℤ◌, ◌≤ℤ◌, arith, ap, sym, ◌∙◌, subst, ◌⊎◌, inl, inr, get_or-set_same, get_or-set_other}
 use Rattle.std.proofs.lemmas.Int.{ints}
 use Rattle.std.proofs.lemmas.Bool.{cases_eq}
-use Rattle.std.proofs.lemmas.List.{length-set, length-replicate, get_or-replicate}
+use Rattle.std.proofs.lemmas.List.{length-set, length-map, length-replicate, get_or-replicate}
 use Rattle.ice_defs.specs.Sum.{sum_below}
 use Rattle.ice_defs.proofs.Sums.{sum_below-same, sum_below-add, sum_below-swap}
 use Rattle.ice_defs.proofs.Products.{sum_below-times}
 use Rattle.ice_defs.specs.Tree.{Tree}
 use Rattle.ice_defs.specs.Set.{Weights, value, units}
 use Rattle.ice_defs.specs.Trade.{tree_of, set_of, weights_of, total_units, is_exact}
-use Rattle.ice_defs.specs.Bound.{Multipliers, cost, net}
-use Rattle.ice_defs.specs.Steps.{Side}
-use Rattle.ice_defs.specs.Sweep.{SweepsBelow, Sweeps, idle, moves, all_zero}
+use Rattle.ice_defs.specs.Bound.{Multipliers, cost, net, IsBound}
+use Rattle.ice_defs.specs.Derived.{Means, goods_alone, with_derived, flags_of}
+use Rattle.ice_defs.specs.Steps.{leaf, Side}
+use Rattle.ice_defs.specs.Log.{HasWrongSign, is_dead_leaf, closes, PassesBy}
+use Rattle.ice_defs.specs.Sweep.{SweepsBelow, Sweeps, idle, moves, all_zero, IsSweptBound}
+use Rattle.ice_bound.specs.Laws.{in_4096ths}
+use Rattle.ice_bound.proofs.Derived.{plain_bound_is_bound}
+use Rattle.ice_refute.proofs.Derived.{plain_passes}
+use Rattle.ice_search_log.specs.Parts.{Part}
+use Rattle.ice_search_log.specs.Searching.{leaf_numbers, IsPart}
 use Rattle.ice_search_log.specs.Laws.{NetsGiveValue, SweepIsLawful, SweptIsPart}
 
 pub nets_give_value : NetsGiveValue
@@ -59,9 +66,27 @@ sweep_is_lawful ts exact ws side m sweeps =
     let are = sweep_is ts exact ws side (zeros_are ts exact ws side) sweeps in
     (are.0, λ wrong. absurd (omega (arith, ints, are.1 wrong.0 wrong.1 wrong.2, wrong.3)))
 
+-- a leaf that passes has no wrong sign
+right_signs : (means : Means) (ts : List Tree) (exact : List Bool) (ws : List Weights) (side : Side) (m : Multipliers) (v : ℤ)
+    → PassesBy means ts exact ws v side (leaf m ∷ []) → ¬ HasWrongSign (flags_of means exact) m
+right_signs means ts exact ws side m v (is_dead_leaf signs is) = signs
+right_signs means ts exact ws side m v (closes signs is small) = signs
+
+-- a part takes multipliers of the goods
+moved : (means : Means) (ts : List Tree) (exact : List Bool) (ws : List Weights) (side : Side) (p : Part) (m : Multipliers) (v : ℤ)
+    → length m ≡ length exact → ¬ HasWrongSign exact m → IsBound ts ws m side v → (true ≡ true → (low : ℤ) × IsSweptBound ts exact ws side low × (v ≤ℤ low))
+    → IsPart means ts exact ws side (record p { m = leaf_numbers means m; key = v; swept = true })
+moved goods_alone ts exact ws side p m v size signs is swept = record { counts = size; signs = signs; bound = is; swept = swept }
+moved (with_derived ds) ts exact ws side p m v size signs is swept = record {
+  counts = omega (arith, size, length-map m (λ z. pos 64 *ℤ z));
+  signs = right_signs (with_derived ds) ts exact ws side (in_4096ths m) v ((plain_passes ds ts exact ws v side (leaf m ∷ []) (size, tt)).0 (closes {v = v} signs is (omega (arith, ints))));
+  bound = (plain_bound_is_bound ds ts exact ws m side v (omega (arith, size))).0 is;
+  swept = swept;
+}
+
 pub swept_is_part : SweptIsPart
-swept_is_part ts exact ws side p m v part sweeps is =
+swept_is_part means ts exact ws side p m v part sweeps is =
     let lawful = sweep_is_lawful ts exact ws side m sweeps in (
-      record { counts = lawful.0; signs = lawful.1; bound = is; swept = λ _. (v, (m, sweeps, is), omega (arith, ints)) },
+      moved means ts exact ws side p m v lawful.0 lawful.1 is (λ _. (v, (m, sweeps, is), omega (arith, ints))),
       λ low. record { counts = part.counts; signs = part.signs; bound = part.bound; swept = λ _. (v, (m, sweeps, is), low) },
     )

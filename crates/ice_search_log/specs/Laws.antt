@@ -1,5 +1,6 @@
 -- Laws of searches, as statements.
-use Rattle.std.specs.Prelude.{ℕ, suc, ◌+◌, ◌*◌, ◌^◌, ◌<◌, ◌≤◌, ◌≡◌, ◌⊎◌, Bool, true, List, [], ◌∷◌, ◌++◌, length, slice_set, slice_index_or}
+use Rattle.std.specs.Prelude.{ℕ, suc, ◌+◌, ◌*◌, ◌^◌, ◌<◌, ◌≤◌, ◌≡◌, ◌⊎◌, ◌↔◌}
+use Rattle.std.specs.Prelude.{Bool, true, List, [], ◌∷◌, ◌++◌, length, slice_set, slice_index_or}
 use Rattle.std.specs.Prelude.{ℤ, pos, ◌+ℤ◌, ◌*ℤ◌, ◌≤ℤ◌, ◌<ℤ◌, Some, None}
 use Rattle.std.specs.List.{AllByRecursion, Contains}
 use Rattle.ice_defs.specs.declared.Mark.{Mark}
@@ -11,22 +12,39 @@ use Rattle.ice_defs.specs.Fixing.{mark_of}
 use Rattle.ice_defs.specs.Trade.{Assignment, tree_of, set_of, weights_of, fixing_of, total_units, is_exact, IsCovered, IsFeasible, MeetsAll}
 use Rattle.ice_defs.specs.Trade.{total_value, IsBest}
 use Rattle.ice_defs.specs.Bound.{Multipliers, net, IsOpen, IsBound}
+use Rattle.ice_defs.specs.Derived.{Means, goods_alone, flags_of, IsBoundBy}
 use Rattle.ice_defs.specs.Steps.{Side, branch, leaf, with_mark, branch_count}
-use Rattle.ice_defs.specs.Log.{HasWrongSign, IsFreeNode, Passes}
+use Rattle.ice_defs.specs.Log.{HasWrongSign, IsFreeNode, PassesBy}
 use Rattle.ice_defs.specs.Sweep.{IsLive, Sweeps, all_zero, IsSweptBound, IsEarned, IsEarnedLog, LeavesEarned}
+use Rattle.ice_defs.specs.Follows.{IsLawful}
 use Rattle.ice_defs.specs.Session.{Proved}
 use Rattle.ice_defs.specs.Searched.{IsFound, IsSpentSearch}
 use Rattle.ice_defs.specs.Conditions.{AreFixingsOf}
 use Rattle.ice_refute.specs.Code.{CountsGoods}
+use Rattle.ice_refute.specs.Laws.{CountsBy, CountsUpTo}
 use Rattle.ice_search_log.specs.Parts.{Put, Split, Part, part_at, AreLater, side_at, split_at, split_unless, steps_left, log_of}
 use Rattle.ice_search_log.specs.Parts.{never_stops, is_closed, split_count}
+use Rattle.ice_search_log.specs.Found.{IsFoundBy, IsSpentSearchBy}
 use Rattle.ice_search_log.specs.Nodes.{HasNoNode, AreOpenSets}
-use Rattle.ice_search_log.specs.Searching.{IsPart, IsSearch, IsIncumbent, IsAboveWhole, IsNext, AreOpen, IsAboveOpen}
+use Rattle.ice_search_log.specs.Searching.{leaf_numbers, IsPart, IsSearch, IsIncumbent, IsAboveWhole, IsNext, AreOpen, IsAboveOpen}
 
 -- what a search finds is the best
 abbrev pub FoundIsBest : Type 0
 FoundIsBest = (ts : List Tree) (exact : List Bool) (ws : List Weights) (start : Side) (first : Assignment) (p : Proved)
     → AllByRecursion (CountsGoods (length exact)) p.log → IsFound ts exact ws start first p → IsBest ts exact ws start p.value
+
+-- so is what it finds by lawful derived goods
+abbrev pub FoundByIsBest : Type 0
+FoundByIsBest =
+    (means : Means) (ts : List Tree) (exact : List Bool) (ws : List Weights) (start : Side) (first : Assignment) (p : Proved)
+    → IsLawful ts exact means → AllByRecursion (CountsBy means exact) p.log → IsFoundBy means ts exact ws start first p
+    → IsBest ts exact ws start p.value
+
+-- a search by goods alone finds, or is spent, in the words for these
+abbrev pub GoodsAreMeans : Type 0
+GoodsAreMeans = (ts : List Tree) (exact : List Bool) (ws : List Weights) (start : Side) (first : Assignment) (p : Proved) (bound : ℤ)
+    → (IsFoundBy goods_alone ts exact ws start first p ↔ IsFound ts exact ws start first p)
+    × (IsSpentSearchBy goods_alone ts exact ws start first p bound ↔ IsSpentSearch ts exact ws start first p bound)
 
 -- ---- splitting
 
@@ -42,16 +60,18 @@ SplitCovers = (ts : List Tree) (exact : List Bool) (side : Side) (b n : ℕ) (a 
 -- where each part that isn't split is open or has a bound of at most the value, a feasible
 -- assignment that meets the start is worth at most the value or meets an open part
 abbrev pub CoverIsWhole : Type 0
-CoverIsWhole = (ts : List Tree) (exact : List Bool) (ws : List Weights) (start : Side) (first : Assignment) (parts : List Part)
-    (open_parts : List ℕ) (value : ℤ)
-    → IsSearch ts exact ws start first parts → AreOpen parts value open_parts → (a : Assignment) → IsFeasible ts exact a → MeetsAll a start
+CoverIsWhole = (means : Means) (ts : List Tree) (exact : List Bool) (ws : List Weights) (start : Side) (first : Assignment)
+    (parts : List Part) (open_parts : List ℕ) (value : ℤ)
+    → IsSearch means ts exact ws start first parts → AreOpen parts value open_parts → (a : Assignment) → IsFeasible ts exact a
+    → MeetsAll a start
     → (total_value a ws ≤ℤ value) ⊎ ((k : ℕ) × (k < length parts) × Contains open_parts k × MeetsAll a (side_at start parts k))
 
 -- so no feasible assignment that meets the start is worth
 -- more than the greatest bound of a part that isn't split
 abbrev pub BestIsBelow : Type 0
-BestIsBelow = (ts : List Tree) (exact : List Bool) (ws : List Weights) (start : Side) (first : Assignment) (parts : List Part) (bound : ℤ)
-    → IsSearch ts exact ws start first parts → IsAboveWhole parts bound
+BestIsBelow = (means : Means) (ts : List Tree) (exact : List Bool) (ws : List Weights) (start : Side) (first : Assignment)
+    (parts : List Part) (bound : ℤ)
+    → IsSearch means ts exact ws start first parts → IsAboveWhole parts bound
     → (a : Assignment) → IsFeasible ts exact a → MeetsAll a start → total_value a ws ≤ℤ bound
 
 -- ---- the sides
@@ -59,21 +79,23 @@ BestIsBelow = (ts : List Tree) (exact : List Bool) (ws : List Weights) (start : 
 -- a part but the first has the marks of the part above
 -- it, and one more on a node that is free there
 abbrev pub SideIsBelow : Type 0
-SideIsBelow = (ts : List Tree) (exact : List Bool) (ws : List Weights) (start : Side) (first : Assignment) (parts : List Part) (j : ℕ)
-    (put : Put)
-    → IsSearch ts exact ws start first parts → 0 < j → j < length parts → (part_at parts j).put ≡ put
+SideIsBelow = (means : Means) (ts : List Tree) (exact : List Bool) (ws : List Weights) (start : Side) (first : Assignment)
+    (parts : List Part) (j : ℕ) (put : Put)
+    → IsSearch means ts exact ws start first parts → 0 < j → j < length parts → (part_at parts j).put ≡ put
     → (put.above < j) × (side_at start parts j ≡ with_mark (side_at start parts put.above) put.bidder put.node put.mark)
     × IsFreeNode ts (side_at start parts put.above) put.bidder put.node
 
 -- the first part is the start
 abbrev pub SideIsStart : Type 0
-SideIsStart = (ts : List Tree) (exact : List Bool) (ws : List Weights) (start : Side) (first : Assignment) (parts : List Part)
-    → IsSearch ts exact ws start first parts → side_at start parts 0 ≡ start
+SideIsStart = (means : Means) (ts : List Tree) (exact : List Bool) (ws : List Weights) (start : Side) (first : Assignment)
+    (parts : List Part)
+    → IsSearch means ts exact ws start first parts → side_at start parts 0 ≡ start
 
 -- each side has one mark per node
 abbrev pub SidesAreFixings : Type 0
-SidesAreFixings = (ts : List Tree) (exact : List Bool) (ws : List Weights) (start : Side) (first : Assignment) (parts : List Part) (j : ℕ)
-    → IsSearch ts exact ws start first parts → AreFixingsOf ts start → j < length parts → AreFixingsOf ts (side_at start parts j)
+SidesAreFixings = (means : Means) (ts : List Tree) (exact : List Bool) (ws : List Weights) (start : Side) (first : Assignment)
+    (parts : List Part) (j : ℕ)
+    → IsSearch means ts exact ws start first parts → AreFixingsOf ts start → j < length parts → AreFixingsOf ts (side_at start parts j)
 
 -- what meets a marked side meets the side, where the node was free
 abbrev pub MarkedIsMet : Type 0
@@ -82,9 +104,9 @@ MarkedIsMet = (a : Assignment) (side : Side) (b n : ℕ) (m : Mark) → mark_of 
 
 -- what meets a part meets the start
 abbrev pub MeetsStart : Type 0
-MeetsStart = (ts : List Tree) (exact : List Bool) (ws : List Weights) (start : Side) (first : Assignment) (parts : List Part) (k : ℕ)
-    (a : Assignment)
-    → IsSearch ts exact ws start first parts → k < length parts → MeetsAll a (side_at start parts k) → MeetsAll a start
+MeetsStart = (means : Means) (ts : List Tree) (exact : List Bool) (ws : List Weights) (start : Side) (first : Assignment)
+    (parts : List Part) (k : ℕ) (a : Assignment)
+    → IsSearch means ts exact ws start first parts → k < length parts → MeetsAll a (side_at start parts k) → MeetsAll a start
 
 -- the nets of any assignment and the costs of its goods sum to 64 times its value
 abbrev pub NetsGiveValue : Type 0
@@ -99,21 +121,23 @@ SweepIsLawful = (ts : List Tree) (exact : List Bool) (ws : List Weights) (side :
 
 -- a part is swept: its bound falls to the swept one, or is no greater
 abbrev pub SweptIsPart : Type 0
-SweptIsPart = (ts : List Tree) (exact : List Bool) (ws : List Weights) (side : Side) (p : Part) (m : Multipliers) (v : ℤ)
-    → IsPart ts exact ws side p → Sweeps ts exact ws side (all_zero ts exact ws) m → IsBound ts ws m side v
-    → IsPart ts exact ws side (record p { m = m; key = v; swept = true })
-    × (p.key ≤ℤ v → IsPart ts exact ws side (record p { swept = true }))
+SweptIsPart = (means : Means) (ts : List Tree) (exact : List Bool) (ws : List Weights) (side : Side) (p : Part) (m : Multipliers) (v : ℤ)
+    → IsPart means ts exact ws side p → Sweeps ts exact ws side (all_zero ts exact ws) m → IsBound ts ws m side v
+    → IsPart means ts exact ws side (record p { m = leaf_numbers means m; key = v; swept = true })
+    × (p.key ≤ℤ v → IsPart means ts exact ws side (record p { swept = true }))
 
 -- a side with a bound is live
 abbrev pub BoundIsLive : Type 0
-BoundIsLive = (ts : List Tree) (ws : List Weights) (m : Multipliers) (side : Side) (v : ℤ) → IsBound ts ws m side v → IsLive ts side
+BoundIsLive = (means : Means) (ts : List Tree) (exact : List Bool) (ws : List Weights) (m : Multipliers) (side : Side) (v : ℤ)
+    → IsBoundBy means ts exact ws m side v → IsLive ts side
 
 -- ---- the log
 
 -- the children of each part come later
 abbrev pub ChildrenAreLater : Type 0
-ChildrenAreLater = (ts : List Tree) (exact : List Bool) (ws : List Weights) (start : Side) (first : Assignment) (parts : List Part)
-    → IsSearch ts exact ws start first parts → AreLater parts
+ChildrenAreLater = (means : Means) (ts : List Tree) (exact : List Bool) (ws : List Weights) (start : Side) (first : Assignment)
+    (parts : List Part)
+    → IsSearch means ts exact ws start first parts → AreLater parts
 
 -- at first the whole log is left
 abbrev pub AllIsLeft : Type 0
@@ -140,29 +164,37 @@ ClosesAll stops parts target = (k : ℕ) → k < length parts → (stops (part_a
 -- then the log passes
 abbrev pub TreeLogPasses : Type 0
 TreeLogPasses =
-    (ts : List Tree) (exact : List Bool) (ws : List Weights) (start : Side) (first : Assignment) (parts : List Part) (stops : Part → Bool)
+    (means : Means) (ts : List Tree) (exact : List Bool) (ws : List Weights) (start : Side) (first : Assignment) (parts : List Part)
+    (stops : Part → Bool)
     (target : ℤ)
-    → IsSearch ts exact ws start first parts → ClosesAll stops parts target → Passes ts exact ws target start (log_of stops parts)
+    → IsSearch means ts exact ws start first parts → ClosesAll stops parts target
+    → PassesBy means ts exact ws target start (log_of stops parts)
 
--- its branch steps are earned, and each leaf has one multiplier per good
+-- its branch steps are earned, and each leaf has as many numbers as its bound wants, and at most
+-- one for each good and derived good
 abbrev pub TreeLogIsEarned : Type 0
 TreeLogIsEarned =
-    (ts : List Tree) (exact : List Bool) (ws : List Weights) (start : Side) (first : Assignment) (parts : List Part) (stops : Part → Bool)
-    → IsSearch ts exact ws start first parts
-    → IsEarnedLog ts exact ws start first (log_of stops parts) × AllByRecursion (CountsGoods (length exact)) (log_of stops parts)
+    (means : Means) (ts : List Tree) (exact : List Bool) (ws : List Weights) (start : Side) (first : Assignment) (parts : List Part)
+    (stops : Part → Bool)
+    → IsSearch means ts exact ws start first parts
+    → IsEarnedLog ts exact ws start first (log_of stops parts) × AllByRecursion (CountsBy means exact) (log_of stops parts)
+    × AllByRecursion (CountsUpTo (length (flags_of means exact))) (log_of stops parts)
 
 -- where nothing stops, it leaves an earned branch where a part that isn't split has one
 abbrev pub TreeLogLeaves : Type 0
-TreeLogLeaves = (ts : List Tree) (exact : List Bool) (ws : List Weights) (start : Side) (first : Assignment) (parts : List Part) (k b n : ℕ)
-    → IsSearch ts exact ws start first parts → k < length parts → (part_at parts k).split ≡ None → IsFreeNode ts (side_at start parts k) b n
+TreeLogLeaves = (means : Means) (ts : List Tree) (exact : List Bool) (ws : List Weights) (start : Side) (first : Assignment)
+    (parts : List Part) (k b n : ℕ)
+    → IsSearch means ts exact ws start first parts → k < length parts → (part_at parts k).split ≡ None
+    → IsFreeNode ts (side_at start parts k) b n
     → IsEarned ts exact ws start first (side_at start parts k) b n → LeavesEarned ts exact ws start first (log_of never_stops parts)
 
 -- the log of all parts has a branch step for each part that is split, and any other
 -- log of them no more; there are two parts for each such part, and the first
 abbrev pub BranchesAreSplits : Type 0
 BranchesAreSplits =
-    (ts : List Tree) (exact : List Bool) (ws : List Weights) (start : Side) (first : Assignment) (parts : List Part) (stops : Part → Bool)
-    → IsSearch ts exact ws start first parts
+    (means : Means) (ts : List Tree) (exact : List Bool) (ws : List Weights) (start : Side) (first : Assignment) (parts : List Part)
+    (stops : Part → Bool)
+    → IsSearch means ts exact ws start first parts
     → (branch_count (log_of never_stops parts) ≡ split_count parts) × (branch_count (log_of stops parts) ≤ split_count parts)
     × (length parts ≡ 2 * split_count parts + 1)
 
@@ -213,9 +245,9 @@ OpenCloses = (parts : List Part) (value : ℤ) (open_parts left : List ℕ) (k :
 -- a branch of the next part is earned, where both its children are live
 abbrev pub SplitIsEarned : Type 0
 SplitIsEarned =
-    (ts : List Tree) (exact : List Bool) (ws : List Weights) (start : Side) (first : Assignment) (parts : List Part) (sets : Assignment)
-    (value : ℤ) (k b n : ℕ)
-    → IsSearch ts exact ws start first parts → IsIncumbent ts exact ws start first sets value → IsNext parts value k
+    (means : Means) (ts : List Tree) (exact : List Bool) (ws : List Weights) (start : Side) (first : Assignment) (parts : List Part)
+    (sets : Assignment) (value : ℤ) (k b n : ℕ)
+    → IsSearch means ts exact ws start first parts → IsIncumbent ts exact ws start first sets value → IsNext parts value k
     → IsLive ts (with_mark (side_at start parts k) b n Must) → IsLive ts (with_mark (side_at start parts k) b n Never)
     → IsEarned ts exact ws start first (side_at start parts k) b n
 
@@ -242,48 +274,50 @@ NodeIsThere = (ts : List Tree) (exact : List Bool) (ws : List Weights) (side : S
 
 -- it begins with one part, the start
 abbrev pub SearchBegins : Type 0
-SearchBegins = (ts : List Tree) (exact : List Bool) (ws : List Weights) (start : Side) (first : Assignment) (p : Part)
-    → IsPart ts exact ws start p → p.split ≡ None → IsSearch ts exact ws start first (p ∷ [])
+SearchBegins = (means : Means) (ts : List Tree) (exact : List Bool) (ws : List Weights) (start : Side) (first : Assignment) (p : Part)
+    → IsLawful ts exact means → IsPart means ts exact ws start p → p.split ≡ None → IsSearch means ts exact ws start first (p ∷ [])
 
 -- a part takes other multipliers, or is swept
 abbrev pub SearchBounds : Type 0
-SearchBounds = (ts : List Tree) (exact : List Bool) (ws : List Weights) (start : Side) (first : Assignment) (parts : List Part) (k : ℕ)
-    (p : Part)
-    → IsSearch ts exact ws start first parts → k < length parts → p.put ≡ (part_at parts k).put → p.split ≡ (part_at parts k).split
-    → IsPart ts exact ws (side_at start parts k) p → IsSearch ts exact ws start first (slice_set parts k p)
+SearchBounds = (means : Means) (ts : List Tree) (exact : List Bool) (ws : List Weights) (start : Side) (first : Assignment)
+    (parts : List Part) (k : ℕ) (p : Part)
+    → IsSearch means ts exact ws start first parts → k < length parts → p.put ≡ (part_at parts k).put → p.split ≡ (part_at parts k).split
+    → IsPart means ts exact ws (side_at start parts k) p → IsSearch means ts exact ws start first (slice_set parts k p)
 
 -- a part is split, by an earned branch, and two parts are pushed
 abbrev pub SearchSplits : Type 0
-SearchSplits = (ts : List Tree) (exact : List Bool) (ws : List Weights) (start : Side) (first : Assignment) (parts : List Part) (k b n : ℕ)
-    (must never : Part)
-    → IsSearch ts exact ws start first parts → k < length parts → (part_at parts k).split ≡ None
+SearchSplits = (means : Means) (ts : List Tree) (exact : List Bool) (ws : List Weights) (start : Side) (first : Assignment)
+    (parts : List Part) (k b n : ℕ) (must never : Part)
+    → IsSearch means ts exact ws start first parts → k < length parts → (part_at parts k).split ≡ None
     → IsFreeNode ts (side_at start parts k) b n → IsEarned ts exact ws start first (side_at start parts k) b n
     → must.put ≡ record { above = k; bidder = b; node = n; mark = Must } → must.split ≡ None
-    → IsPart ts exact ws (with_mark (side_at start parts k) b n Must) must
+    → IsPart means ts exact ws (with_mark (side_at start parts k) b n Must) must
     → never.put ≡ record { above = k; bidder = b; node = n; mark = Never } → never.split ≡ None
-    → IsPart ts exact ws (with_mark (side_at start parts k) b n Never) never
-    → IsSearch ts exact ws start first ((slice_set parts k (split_at (part_at parts k) b n (length parts)) ++ must ∷ []) ++ never ∷ [])
+    → IsPart means ts exact ws (with_mark (side_at start parts k) b n Never) never
+    → IsSearch means ts exact ws start first
+    ((slice_set parts k (split_at (part_at parts k) b n (length parts)) ++ must ∷ []) ++ never ∷ [])
 
 -- ---- what a search gives
 
 -- where no part that isn't split has a bound above the value, the sets are found
 abbrev pub SearchIsFound : Type 0
 SearchIsFound =
-    (ts : List Tree) (exact : List Bool) (ws : List Weights) (start : Side) (first : Assignment) (parts : List Part) (stops : Part → Bool)
+    (means : Means) (ts : List Tree) (exact : List Bool) (ws : List Weights) (start : Side) (first : Assignment) (parts : List Part)
+    (stops : Part → Bool)
     (p : Proved)
-    → IsSearch ts exact ws start first parts → IsIncumbent ts exact ws start first p.sets p.value → IsAboveWhole parts p.value
-    → ((q : Part) → stops q ≡ true → q.key ≤ℤ p.value) → p.log ≡ log_of stops parts → IsFound ts exact ws start first p
+    → IsSearch means ts exact ws start first parts → IsIncumbent ts exact ws start first p.sets p.value → IsAboveWhole parts p.value
+    → ((q : Part) → stops q ≡ true → q.key ≤ℤ p.value) → p.log ≡ log_of stops parts → IsFoundBy means ts exact ws start first p
 
 -- where the next part has a free node both of whose sides are
 -- live, the search is spent, and the bound is the part's
 abbrev pub SearchIsSpent : Type 0
 SearchIsSpent =
-    (ts : List Tree) (exact : List Bool) (ws : List Weights) (start : Side) (first : Assignment) (parts : List Part) (p : Proved)
-    (k b n : ℕ)
-    → IsSearch ts exact ws start first parts → IsIncumbent ts exact ws start first p.sets p.value → IsNext parts p.value k
+    (means : Means) (ts : List Tree) (exact : List Bool) (ws : List Weights) (start : Side) (first : Assignment) (parts : List Part)
+    (p : Proved) (k b n : ℕ)
+    → IsSearch means ts exact ws start first parts → IsIncumbent ts exact ws start first p.sets p.value → IsNext parts p.value k
     → IsFreeNode ts (side_at start parts k) b n → IsLive ts (with_mark (side_at start parts k) b n Must)
     → IsLive ts (with_mark (side_at start parts k) b n Never)
-    → p.log ≡ log_of never_stops parts → IsSpentSearch ts exact ws start first p (part_at parts k).key
+    → p.log ≡ log_of never_stops parts → IsSpentSearchBy means ts exact ws start first p (part_at parts k).key
 
 -- a log that writes the closed parts as leaves writes none of a bound above the value so
 abbrev pub ClosedIsLow : Type 0

@@ -1,9 +1,19 @@
 //! Laws of a branch and bound search, which hold of the definitions.
-ghost use Rattle.ice_search_log.specs.Laws.{OpenRises, OpenBounds, OpenCloses, OpenSplits, ChildrenAreLater, FoundIsBest, SplitCovers, CoverIsWhole, BestIsBelow, TreeLogPasses, TreeLogIsEarned, TreeLogLeaves, BranchesAreSplits, BestIsThere, NoneIsLeft, GreatestIsNext, SplitIsEarned, SearchBegins, SearchBounds, SearchSplits, SearchIsFound, SearchIsSpent, ClosedIsLow, SideIsBelow, SideIsStart, SidesAreFixings, BoundIsLive, NodeIsThere, MarkedIsLive, OpenSetsMeet, MarkedIsMet, MeetsStart, NetsGiveValue, SweepIsLawful, SweptIsPart, AllIsLeft, LeafIsNext, BranchIsNext};
+ghost use Rattle.ice_search_log.specs.Laws.{OpenRises, OpenBounds, OpenCloses, OpenSplits, ChildrenAreLater, FoundIsBest, FoundByIsBest, GoodsAreMeans, SplitCovers, CoverIsWhole, BestIsBelow, TreeLogPasses, TreeLogIsEarned, TreeLogLeaves, BranchesAreSplits, BestIsThere, NoneIsLeft, GreatestIsNext, SplitIsEarned, SearchBegins, SearchBounds, SearchSplits, SearchIsFound, SearchIsSpent, ClosedIsLow, SideIsBelow, SideIsStart, SidesAreFixings, BoundIsLive, NodeIsThere, MarkedIsLive, OpenSetsMeet, MarkedIsMet, MeetsStart, NetsGiveValue, SweepIsLawful, SweptIsPart, AllIsLeft, LeafIsNext, BranchIsNext};
 
 /// What a search finds is the best.
 pub fn found_sets_are_best()
     ensures { FoundIsBest }
+{}
+
+/// What a search finds by lawful derived goods is the best.
+pub fn found_by_are_best()
+    ensures { FoundByIsBest }
+{}
+
+/// A search by goods alone finds, or is spent, in the words for these.
+pub fn goods_are_means()
+    ensures { GoodsAreMeans }
 {}
 
 /// A feasible assignment that meets a side meets one of its two children, and not both.
@@ -22,7 +32,8 @@ pub fn tree_logs_pass()
     ensures { TreeLogPasses }
 {}
 
-/// Each branch step of the log of the parts is earned, and each leaf has one multiplier per good.
+/// Each branch step of the log of the parts is earned, and each leaf has as many numbers as its
+/// bound wants, and at most one for each good and derived good.
 pub fn tree_logs_are_earned()
     ensures { TreeLogIsEarned }
 {}

@@ -1,6 +1,7 @@
 use Rattle.std.proofs.Common.{arith, length, ap, sym, ◌∙◌, subst}
 use Rattle.ice_defs.specs.Steps.{with_mark}
 use Rattle.ice_defs.specs.Trade.{fixing_of}
+use Rattle.ice_defs.specs.Derived.{goods_alone}
 use Rattle.ice_search_log.specs.Parts.{side_at}
 use Rattle.ice_search_log.proofs.Marked.{side_is_start}
 use Rattle.ice_search_log.specs.Code.{parts_of}
@@ -12,7 +13,7 @@ pub returns-then-number-eq0 : goal.returns-then-number-eq0
 returns-then-number-eq0 t c =
     let x = c.args.problem.now in
     c.copy_fixings.ensures ∙ ap (λ y. y.start) c.problem.view_is
-    ∙ sym (side_is_start x.trees x.exact x.weights x.start x.first (parts_of c.args.parts.now) c.requires.search) ∙ ap (side_at x.start (parts_of c.args.parts.now)) (sym c.if-number-eq0.true)
+    ∙ sym (side_is_start goods_alone x.trees x.exact x.weights x.start x.first (parts_of c.args.parts.now) c.requires.search) ∙ ap (side_at x.start (parts_of c.args.parts.now)) (sym c.if-number-eq0.true)
 
 pub put_side-requires : goal.put_side-requires
 put_side-requires t c =

@@ -1,7 +1,7 @@
 use Rattle.std.proofs.Common.{ℕ, rules, arith, ◌≡◌, ◌<◌, ◌++◌, ◌+◌, length, get_or, ap, sym, ◌∙◌, subst, [], ◌∷◌, List}
 use Rattle.ice_defs.specs.Steps.{Step, branch, leaf}
 use Rattle.ice_search_log.specs.Parts.{steps_left}
-use Rattle.ice_search_log.specs.Code.{parts_of, stops_at}
+use Rattle.ice_search_log.specs.Code.{part_of, parts_of, stops_at}
 use Rattle.ice_search_log.specs.declared.part.Part.{Part}
 use Rattle.ice_search_log.proofs.Assembling.{leaf_step, branch_step, inside_push, inside_pop, turn, ranged_push}
 use Rattle.ice_search_log.proofs.write.write_log.Goals as goal
@@ -14,7 +14,7 @@ overflow_add-split c =
     let parts = c.args.parts.now in
     let outer = c.pop.new.self.items in
     let popped = inside_pop outer c.in-Some.k (length parts) (subst (Inside parts) c.in-Some.ensures.items c.loop-k.invariant.inside) in
-    let step = branch_step (stops_at c.args.value) parts outer c.in-Some.k c.index-parts-k.result c.requires.later popped.0 c.index-parts-k.is c.in-Some-split_above.split c.in-Some-split_above.ensures in
+    let step = branch_step part_of (stops_at c.args.value) parts outer c.in-Some.k c.index-parts-k.result c.requires.later popped.0 c.index-parts-k.is c.in-Some-split_above.split c.in-Some-split_above.ensures in
     let small = step.0 in
     omega (arith, small, c.requires.few)
 
@@ -25,7 +25,7 @@ loop-k-smaller-in-Continue-branch-4 c =
     let outer = c.pop.new.self.items in
     let split = c.in-Some-split_above.split in
     let popped = inside_pop outer c.in-Some.k (length parts) (subst (Inside parts) c.in-Some.ensures.items c.loop-k.invariant.inside) in
-    let step = branch_step (stops_at c.args.value) parts outer c.in-Some.k c.index-parts-k.result c.requires.later popped.0 c.index-parts-k.is split c.in-Some-split_above.ensures in
+    let step = branch_step part_of (stops_at c.args.value) parts outer c.in-Some.k c.index-parts-k.result c.requires.later popped.0 c.index-parts-k.is split c.in-Some-split_above.ensures in
     let first : c.push-in-Some-split_above.new.self.items ≡ outer ++ (split.must + 1) ∷ [] = search rules in
     let second : c.push-in-Some-split_above-2.new.self.items ≡ c.push-in-Some-split_above.new.self.items ++ split.must ∷ [] = search rules in
     let both = second ∙ ap (λ xs. xs ++ split.must ∷ []) first in
@@ -38,7 +38,7 @@ loop-k-preserved-in-Continue-branch-4 c =
     let outer = c.pop.new.self.items in
     let split = c.in-Some-split_above.split in
     let popped = inside_pop outer c.in-Some.k (length parts) (subst (Inside parts) c.in-Some.ensures.items c.loop-k.invariant.inside) in
-    let step = branch_step (stops_at c.args.value) parts outer c.in-Some.k c.index-parts-k.result c.requires.later popped.0 c.index-parts-k.is split c.in-Some-split_above.ensures in
+    let step = branch_step part_of (stops_at c.args.value) parts outer c.in-Some.k c.index-parts-k.result c.requires.later popped.0 c.index-parts-k.is split c.in-Some-split_above.ensures in
     let first : c.push-in-Some-split_above.new.self.items ≡ outer ++ (split.must + 1) ∷ [] = search rules in
     let second : c.push-in-Some-split_above-2.new.self.items ≡ c.push-in-Some-split_above.new.self.items ++ split.must ∷ [] = search rules in
     let both = second ∙ ap (λ xs. xs ++ split.must ∷ []) first in
@@ -56,7 +56,7 @@ loop-k-smaller c =
     let left = steps_left (stops_at c.args.value) (parts_of parts) in
     let outer = c.pop.new.self.items in
     let popped = inside_pop outer c.in-Some.k (length parts) (subst (Inside parts) c.in-Some.ensures.items c.loop-k.invariant.inside) in
-    let step = leaf_step (stops_at c.args.value) parts outer c.in-Some.k c.index-parts-k.result c.requires.later popped.0 c.index-parts-k.is c.in-None.ensures in
+    let step = leaf_step part_of (stops_at c.args.value) parts outer c.in-Some.k c.index-parts-k.result c.requires.later popped.0 c.index-parts-k.is c.in-None.ensures in
     omega (arith, ap (λ xs. length (left xs)) c.in-Some.ensures.items, ap (length {A = Step}) step)
 
 pub loop-k-preserved : goal.loop-k-preserved
@@ -65,7 +65,7 @@ loop-k-preserved c =
     let left = steps_left (stops_at c.args.value) (parts_of parts) in
     let outer = c.pop.new.self.items in
     let popped = inside_pop outer c.in-Some.k (length parts) (subst (Inside parts) c.in-Some.ensures.items c.loop-k.invariant.inside) in
-    let step = leaf_step (stops_at c.args.value) parts outer c.in-Some.k c.index-parts-k.result c.requires.later popped.0 c.index-parts-k.is c.in-None.ensures in
+    let step = leaf_step part_of (stops_at c.args.value) parts outer c.in-Some.k c.index-parts-k.result c.requires.later popped.0 c.index-parts-k.is c.in-None.ensures in
     let written = c.in_ok-push-in-None.ensures.ok ∙ ap (λ m. c.loop-k.log ++ leaf m ∷ []) c.copy_ranged.ensures.value in
     record {
       log = turn c.loop-k.log _ left c.loop-k.stack.items outer (leaf c.index-parts-k.result.m) _
