@@ -1,0 +1,2 @@
+-- bounds of four trees of one node
+pub mod Four
