@@ -1,0 +1,4 @@
+pub mod Numbers
+pub mod Walks
+pub mod Derivations
+pub mod Laws
