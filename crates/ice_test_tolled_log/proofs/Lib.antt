@@ -1,0 +1,2 @@
+-- amounts of four trees of one node
+pub mod Four
