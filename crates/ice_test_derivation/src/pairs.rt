@@ -1,58 +1,16 @@
-//! A market whose bound by goods alone is above what it is worth: a seller of three units at 0, and
-//! three buyers, each of a pair of units at 10. One pair alone can be sold. That a buyer has its
-//! pair is an amount of 1, and at most 1 of it is taken.
-ghost use Rattle.std.specs.Prelude.{◌≡◌, ◌<◌, ◌≤◌, [], ◌∷◌, length, sum, IfOk};
+//! The derived good of the market of pairs, and records and groups that use it.
+ghost use Rattle.std.specs.Prelude.{◌≡◌, ◌≤◌, length, sum, IfOk};
 ghost use Rattle.ice_refute.specs.Waiting.{nodes_of};
 ghost use Rattle.ice_derivation.specs.Derivations.{AreKept};
 
 use ice_best::Fixings;
 use ice_derivation::{Derivations, Fault, Numbered};
 use ice_derived::{Amounts, Weighing};
+use ice_pairs::{market, of_buyers};
 use ice_refute::{Step, StepFault};
-use ice_tree::{NodeKind, Tree, TreeFault, TreeMaker};
+use ice_tree::Tree;
 use std::alloc::{AllocError, Global};
 use std::test::Fail;
-
-/// A tree of one leaf that sells three units of the one good.
-fn sells() -> Result<Tree, TreeFault>
-    ensures { IfOk result (λ t. length t ≡ 1) }
-{
-    let mut maker = TreeMaker::new(1);
-    maker.leaf(NodeKind::Sell { good: 0, units: 3 }, 0, 0)?;
-    let (tree, _bounds) = maker.finish()?;
-    Ok(tree)
-}
-
-/// A tree of one leaf that buys a pair of units of the one good.
-fn buys() -> Result<Tree, TreeFault>
-    ensures { IfOk result (λ t. length t ≡ 1) }
-{
-    let mut maker = TreeMaker::new(1);
-    maker.leaf(NodeKind::Buy { good: 0, units: 2 }, 0, 0)?;
-    let (tree, _bounds) = maker.finish()?;
-    Ok(tree)
-}
-
-/// Values of 10 for three buyers, which come behind the seller.
-fn values_of(alloc: Global, trees: &[Tree]) -> Result<Amounts, AllocError>
-    requires { nodes_of trees.now ≡ 1 ∷ 1 ∷ 1 ∷ 1 ∷ [] }
-    ensures { IfOk result (λ values. nodes_of values ≡ nodes_of trees.now) }
-{
-    let mut values = Amounts::none(alloc, trees)?;
-    put_value(&mut values, 1);
-    put_value(&mut values, 2);
-    put_value(&mut values, 3);
-    Ok(values)
-}
-
-/// Gives the one node of a bidder's tree, of which there are four, the value 10.
-fn put_value(values: &mut Amounts, bidder: u8)
-    requires bidder { bidder < 4 }
-    requires nodes { nodes_of values.old ≡ 1 ∷ 1 ∷ 1 ∷ 1 ∷ [] }
-    ensures { nodes_of values.new ≡ 1 ∷ 1 ∷ 1 ∷ 1 ∷ [] }
-{
-    values.put(bidder, 0, 10);
-}
 
 /// The trees, with what their nodes are worth.
 #[derive(Drop)]
@@ -66,12 +24,8 @@ fn build_market(alloc: Global) -> Result<Market, Fail>
     ensures nodes { IfOk result (λ market. sum (nodes_of market.trees) ≤ 2000) }
     ensures values { IfOk result (λ market. nodes_of market.values ≡ nodes_of market.trees) }
 {
-    let a = sells()?;
-    let b = buys()?;
-    let c = buys()?;
-    let d = buys()?;
-    let trees = [a, b, c, d];
-    let values = values_of(alloc, &trees)?;
+    let (trees, _bounds) = market()?;
+    let values = of_buyers(alloc, &trees, 10)?;
     Ok(Market { trees, values })
 }
 

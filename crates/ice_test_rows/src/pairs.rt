@@ -1,37 +1,16 @@
-//! A seller of three units, and three buyers of a pair.
-ghost use Rattle.std.specs.Prelude.{◌≡◌, length, IfOk};
-ghost use Rattle.ice_defs.specs.Lawful.{AreBounds};
+//! Duals of the market of pairs.
+ghost use Rattle.std.specs.Prelude.{IfOk};
 ghost use Rattle.ice_defs.specs.Conditions.{AreWeightsOf, AreBoundsOf, AreFixingsOf};
 
 use ice_best::Fixings;
 use ice_master::{Aim, Master};
 use ice_rows::{Rows, Taken};
-use ice_tree::{AllWeights, Bounds, NodeKind, Tree, TreeFault, TreeMaker};
+use ice_tree::{AllWeights, Bounds, Tree};
 use std::alloc::{AllocError, Global};
 use std::test::Fail;
 
 /// One, in the parts in which shares are told.
 const ONE: i64 = 1 << 40;
-
-/// A tree of one leaf that sells three units of the one good for nothing.
-fn sells() -> Result<(Tree, Bounds), TreeFault>
-    ensures bounds { IfOk result (λ r. AreBounds 1 r.1) }
-    ensures node { IfOk result (λ r. length r.0 ≡ 1) }
-{
-    let mut maker = TreeMaker::new(1);
-    maker.leaf(NodeKind::Sell { good: 0, units: 3 }, 0, 0)?;
-    maker.finish()
-}
-
-/// A tree of one leaf that buys a pair of units of the one good for 10.
-fn buys() -> Result<(Tree, Bounds), TreeFault>
-    ensures bounds { IfOk result (λ r. AreBounds 1 r.1) }
-    ensures node { IfOk result (λ r. length r.0 ≡ 1) }
-{
-    let mut maker = TreeMaker::new(1);
-    maker.leaf(NodeKind::Buy { good: 0, units: 2 }, 10, 10)?;
-    maker.finish()
-}
 
 /// The values as weights.
 fn lower(alloc: Global, trees: &[Tree], bounds: &[Bounds]) -> Result<AllWeights, AllocError>
@@ -52,12 +31,8 @@ fn free(alloc: Global, trees: &[Tree]) -> Result<Fixings, AllocError>
 
 /// The market, and the side in which no node is marked.
 fn market(alloc: Global) -> Result<Master, Fail> {
-    let (a, a_value) = sells()?;
-    let (b, b_value) = buys()?;
-    let (c, c_value) = buys()?;
-    let (d, d_value) = buys()?;
-    let trees = [a, b, c, d];
-    let weights = lower(alloc, &trees, &[a_value, b_value, c_value, d_value])?;
+    let (trees, bounds) = ice_pairs::market()?;
+    let weights = lower(alloc, &trees, &bounds)?;
     let marks = free(alloc, &trees)?;
     let mut master = Master::new(alloc, &trees, &weights, &[false])?;
     master.look_at(&trees, &marks);

@@ -1,67 +1,14 @@
-//! A seller of three units, and three buyers of a pair.
-ghost use Rattle.std.specs.Prelude.{◌≡◌, ◌<◌, [], ◌∷◌, length, IfOk};
-ghost use Rattle.ice_refute.specs.Waiting.{nodes_of};
+//! Leaves with tolls, and a log of them, of the market of pairs.
+ghost use Rattle.std.specs.Prelude.{◌≡◌};
 
 use ice_bound::Multipliers;
 use ice_defs::Mark;
-use ice_derived::{Amounts, DerivedGoods, Rates};
+use ice_derived::{DerivedGoods, Rates};
+use ice_pairs::{market, of_buyers};
 use ice_search_log::Split;
 use ice_tolled_log::{LeafNumbers, TolledLog, TolledPart, TolledStep, write_tolled_log};
-use ice_tree::{NodeKind, Tree, TreeFault, TreeMaker};
 use std::alloc::{AllocError, Global};
 use std::test::Fail;
-
-/// A tree of one leaf that sells three units of the one good for nothing.
-fn sells() -> Result<Tree, TreeFault>
-    ensures { IfOk result (λ tree. length tree ≡ 1) }
-{
-    let mut maker = TreeMaker::new(1);
-    maker.leaf(NodeKind::Sell { good: 0, units: 3 }, 0, 0)?;
-    let (tree, _bounds) = maker.finish()?;
-    Ok(tree)
-}
-
-/// A tree of one leaf that buys a pair of units of the one good for 10.
-fn buys() -> Result<Tree, TreeFault>
-    ensures { IfOk result (λ tree. length tree ≡ 1) }
-{
-    let mut maker = TreeMaker::new(1);
-    maker.leaf(NodeKind::Buy { good: 0, units: 2 }, 10, 10)?;
-    let (tree, _bounds) = maker.finish()?;
-    Ok(tree)
-}
-
-/// The seller and three buyers.
-fn market() -> Result<[Tree; 4], TreeFault>
-    ensures { IfOk result (λ trees. nodes_of trees ≡ 1 ∷ 1 ∷ 1 ∷ 1 ∷ []) }
-{
-    let a = sells()?;
-    let b = buys()?;
-    let c = buys()?;
-    let d = buys()?;
-    Ok([a, b, c, d])
-}
-
-/// Gives the one node of a bidder's tree, of which there are four, an amount of 1.
-fn put_pair(amounts: &mut Amounts, bidder: u8)
-    requires bidder { bidder < 4 }
-    requires nodes { nodes_of amounts.old ≡ 1 ∷ 1 ∷ 1 ∷ 1 ∷ [] }
-    ensures { nodes_of amounts.new ≡ 1 ∷ 1 ∷ 1 ∷ 1 ∷ [] }
-{
-    amounts.put(bidder, 0, 1);
-}
-
-/// An amount of 1 at the one node of each buyer.
-fn pairs(alloc: Global, trees: &[Tree]) -> Result<Amounts, AllocError>
-    requires { nodes_of trees.now ≡ 1 ∷ 1 ∷ 1 ∷ 1 ∷ [] }
-    ensures { IfOk result (λ amounts. nodes_of amounts ≡ nodes_of trees.now) }
-{
-    let mut amounts = Amounts::none(alloc, trees)?;
-    put_pair(&mut amounts, 1);
-    put_pair(&mut amounts, 2);
-    put_pair(&mut amounts, 3);
-    Ok(amounts)
-}
 
 /// The numbers of a leaf with no tolls, and a half as multiplier.
 fn by_good(alloc: Global) -> Result<LeafNumbers, AllocError> {
@@ -72,8 +19,8 @@ fn by_good(alloc: Global) -> Result<LeafNumbers, AllocError> {
 
 /// The numbers of a leaf with multiplier 0, and a toll of 10 on the pairs.
 fn by_toll(alloc: Global) -> Result<LeafNumbers, Fail> {
-    let trees = market()?;
-    let amounts = pairs(alloc, &trees)?;
+    let (trees, _bounds) = market()?;
+    let amounts = of_buyers(alloc, &trees, 1)?;
     let mut derived = DerivedGoods::with_room(alloc, &trees, 1)?;
     derived.push(&amounts, 1);
     derived.put_toll(0, 40_960);

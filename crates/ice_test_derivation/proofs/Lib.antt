@@ -1,2 +1,0 @@
--- amounts of four trees of one node
-pub mod Four

@@ -1,2 +1,0 @@
--- bounds of four trees of one node
-pub mod Four
