@@ -2,7 +2,7 @@
 use Rattle.std.proofs.Common.{◌≡◌, ◌<◌, ◌≤◌, ◌+◌, ℕ, List, [], ◌∷◌, length, set, drop, get_or, ℤ, pos, refl, sym, ◌∙◌, ap, subst, add-one, drop-cons, length-set}
 use Rattle.std.proofs.lemmas.List.{drop_all}
 use Rattle.ice_derived.specs.Ranges.{IsToll, IsAmount}
-use Rattle.ice_derivation.specs.declared.numbered.Numbered.{Numbered}
+use Rattle.ice_journal.specs.declared.line.Numbered.{Numbered}
 use Rattle.ice_derivation.specs.Numbers.{changed, AreTolls, AreAmounts}
 
 abbrev none : Numbered

@@ -10,7 +10,7 @@ use Rattle.ice_defs.specs.Group.{free_side}
 use Rattle.ice_defs.specs.Steps.{Step, Side}
 use Rattle.ice_refute.specs.Waiting.{nodes_of}
 use Rattle.ice_derived.specs.Ranges.{IsLimit}
-use Rattle.ice_derivation.specs.declared.numbered.Numbered.{Numbered}
+use Rattle.ice_journal.specs.declared.line.Numbered.{Numbered}
 use Rattle.ice_derivation.specs.declared.fault.Fault.{Fault}
 use Rattle.ice_derivation.specs.declared.fault.Fault.TheVariants as fault
 use Rattle.ice_derivation.specs.declared.derivations.Stage.{Stage}

@@ -2,7 +2,7 @@
 use Rattle.std.specs.Prelude.{◌≤◌, ◌≡◌, ◌⊎◌, ℕ, List, [], ◌∷◌, length, Any, slice_set, slice_index_or, ℤ, pos}
 use Rattle.std.specs.List.{AllByRecursion}
 use Rattle.ice_derived.specs.Ranges.{IsAmount, IsToll}
-use Rattle.ice_derivation.specs.declared.numbered.Numbered.{Numbered}
+use Rattle.ice_journal.specs.declared.line.Numbered.{Numbered}
 
 -- the numbers after these changes, one after another; one past the end changes nothing
 abbrev pub changed : List ℤ → List Numbered → List ℤ

@@ -7,7 +7,7 @@ use Rattle.ice_defs.specs.Derived.{Derived, Means, with_derived}
 use Rattle.ice_defs.specs.Steps.{Step, branch, leaf, dead, Side, sides_after}
 use Rattle.ice_refute.specs.Passing.{PassesAtBy, HasFaultBy}
 use Rattle.ice_refute.specs.Waiting.{nodes_of, first_side}
-use Rattle.ice_derivation.specs.declared.numbered.Numbered.{Numbered}
+use Rattle.ice_journal.specs.declared.line.Numbered.{Numbered}
 use Rattle.ice_derivation.specs.declared.fault.Fault.{Fault}
 use Rattle.ice_derivation.specs.declared.fault.Fault.TheVariants as fault
 use Rattle.ice_derivation.specs.Numbers.{changed, HasNoChange}

@@ -10,10 +10,10 @@ ghost use Rattle.ice_derivation.specs.Walks.{new_walk, IsPlain, FailsLeaf, Fails
 ghost use Rattle.ice_derivation.specs.Derivations.{outside, at_amounts, at_log, good_of, place_of, good_of_limit, FailsDerive, TakesAmounts, NamesNoNode, FailsAmounts, place_behind, good_at, walk_at, place_after, walk_after, TakesStep, FailsStep, IsInLog, AreOf, AreKept};
 
 use crate::fault::Fault;
-use crate::numbered::Numbered;
 use crate::walk::TollWalk;
 use ice_best::Fixings;
 use ice_derived::{Amounts, Weighing};
+use ice_journal::Numbered;
 use ice_refute::Step;
 use ice_tree::{AllWeights, Tree};
 use std::alloc::{AllocError, Global};

@@ -6,12 +6,11 @@ ghost use Rattle.ice_derivation.specs.Laws.{WalkedPasses};
 
 mod derivations;
 mod fault;
-mod numbered;
 mod walk;
 
 pub use derivations::Derivations;
 pub use fault::Fault;
-pub use numbered::Numbered;
+pub use ice_journal::Numbered;
 pub use walk::TollWalk;
 
 /// A log that is walked until no side is open passes.

@@ -11,10 +11,10 @@ ghost use Rattle.ice_derivation.specs.Numbers.{changed, IsNoChange, HasNoChange,
 ghost use Rattle.ice_derivation.specs.Walks.{new_walk, begun, stepped, with_one, PassesIn, FailsLeaf};
 
 use crate::fault::Fault;
-use crate::numbered::Numbered;
 use ice_best::Fixings;
 use ice_bound::Desk;
 use ice_derived::{Amounts, DerivedGoods, Rates, TollRoom, Weighing, take_leaf};
+use ice_journal::Numbered;
 use ice_refute::{Step, StepFault, Walk};
 use ice_tree::{AllWeights, Tree};
 use std::alloc::{AllocError, Global};

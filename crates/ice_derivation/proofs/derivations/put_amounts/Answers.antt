@@ -6,7 +6,7 @@ use Rattle.std.proofs.lemmas.List.{set-set, get_or-set_same}
 use Rattle.ice_defs.specs.Set.{Weights}
 use Rattle.ice_defs.specs.Trade.{weights_of}
 use Rattle.ice_derived.specs.Ranges.{IsAmount}
-use Rattle.ice_derivation.specs.declared.numbered.Numbered.{Numbered}
+use Rattle.ice_journal.specs.declared.line.Numbered.{Numbered}
 use Rattle.ice_derivation.specs.Numbers.{changed}
 use Rattle.ice_derivation.proofs.Numbers.{changed_more, none_left, amount_at}
 use Rattle.ice_derivation.proofs.Rows.{is_there}

@@ -3,7 +3,7 @@ use mir.Val.{SFits}
 use Rattle.std.proofs.lemmas.Int.{to_z-of_z}
 use Rattle.ice_derived.specs.Ranges.{IsToll}
 use Rattle.std.proofs.Common.{rules, ◌≡◌, ◌+◌, List, set, drop, get_or, ℤ, pos, sym, ◌∙◌, ap, subst}
-use Rattle.ice_derivation.specs.declared.numbered.Numbered.{Numbered}
+use Rattle.ice_journal.specs.declared.line.Numbered.{Numbered}
 use Rattle.ice_derivation.specs.Numbers.{changed}
 use Rattle.ice_derivation.specs.Walks.{WalkView}
 use Rattle.ice_derivation.proofs.Numbers.{changed_more, none_left, toll_at}
