@@ -1,0 +1,5 @@
+//! Tests of derived goods at the root of a search.
+#![tactic(auto)]
+
+#[cfg(test)]
+mod pairs;
