@@ -1,5 +1,5 @@
 //! The derived goods at hand.
-ghost use Rattle.std.specs.Prelude.{◌≡◌, ◌+◌, ◌<◌, ◌≤◌, ◌∷◌, ◌++◌, [], length, vec_len, OnOk, IfSome};
+ghost use Rattle.std.specs.Prelude.{◌≡◌, ◌<◌, ◌≤◌, [], length, vec_len, OnOk, IfSome};
 ghost use Rattle.std.specs.List.{All};
 ghost use Rattle.ice_refute.specs.Waiting.{nodes_of};
 ghost use Rattle.ice_derived.specs.Ranges.{AreAmounts};
@@ -8,7 +8,7 @@ ghost use Rattle.ice_separation.specs.Derivations.{IsDerivation};
 use ice_bound::Room;
 use ice_master::Master;
 use ice_rows::{Rows, Taken};
-use ice_separation::Derivation;
+use ice_separation::{Derivation, push_shown};
 use ice_tree::{Tree, Weights};
 use std::alloc::{AllocError, Global};
 use std::cmp::Reverse;
@@ -85,31 +85,6 @@ impl Line {
         let toll = u128::from(tolls[usize::from(self.number % 144)].unsigned_abs());
         toll.saturating_mul(toll).saturating_mul(self.squares)
     }
-}
-
-/// Puts a derived good behind the others.
-fn push(found: &mut Vec<Derivation>, one: Derivation) -> Result<(), AllocError>
-    ensures items { OnOk result (found.new.items ≡ found.old.items ++ one ∷ []) }
-    ensures len { OnOk result (vec_len found.new ≡ vec_len found.old + 1) }
-{
-    found.push(one)?;
-    Ok(())
-}
-
-/// The same, where all of them are shown.
-fn push_shown(
-    found: &mut Vec<Derivation>,
-    one: Derivation,
-    trees: &[Tree],
-    room: &Room,
-) -> Result<(), AllocError>
-    requires each { All (IsDerivation trees.now room.now) found.old.items }
-    requires is { IsDerivation trees.now room.now one }
-    ensures each { OnOk result (All (IsDerivation trees.now room.now) found.new.items) }
-    ensures len { OnOk result (vec_len found.new ≡ vec_len found.old + 1) }
-{
-    push(found, one)?;
-    Ok(())
 }
 
 /// Takes the last one out, where all of them are shown.

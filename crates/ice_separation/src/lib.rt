@@ -9,4 +9,4 @@ mod rounding;
 mod separating;
 
 pub use derivation::Derivation;
-pub use separating::separate;
+pub use separating::{push_shown, separate};

@@ -160,8 +160,9 @@ fn push(found: &mut Vec<Derivation>, one: Derivation) -> Result<(), AllocError>
     Ok(())
 }
 
-/// The same, where all of them are shown.
-fn push_shown(
+/// Puts a derived good that a leaf shows behind others of which each is shown so. The only error is
+/// want of memory.
+pub fn push_shown(
     found: &mut Vec<Derivation>,
     one: Derivation,
     trees: &[Tree],
@@ -169,6 +170,7 @@ fn push_shown(
 ) -> Result<(), AllocError>
     requires each { All (IsDerivation trees.now room.now) found.old.items }
     requires is { IsDerivation trees.now room.now one }
+    ensures items { OnOk result (found.new.items ≡ found.old.items ++ one ∷ []) }
     ensures each { OnOk result (All (IsDerivation trees.now room.now) found.new.items) }
     ensures len { OnOk result (vec_len found.new ≡ vec_len found.old + 1) }
 {
