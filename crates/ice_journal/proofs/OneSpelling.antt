@@ -316,7 +316,7 @@ settings_same a b p q e =
     let e4 = from_same 0 1000000000 a.improve b.improve (omega arith) p.improve q.improve t4 in
     let e5 = decimal_same a.rounds b.rounds (omega (arith, p.rounds)) (omega (arith, q.rounds)) t5 in
     let e6 = decimal_same a.branches b.branches (omega (arith, p.branches)) (omega (arith, q.branches)) t6 in
-    λ i. record { weight = e1 i; close_regret = e2 i; cap = e3 i; improve = e4 i; rounds = e5 i; branches = e6 i }
+    λ i. record { weight = e1 i; close_regret = e2 i; cap = e3 i; improve = e4 i; rounds = e5 i; branches = e6 i; derived = refl }
 
 prices_same : (a b : Prices) → IsRecord (line.prices a) → IsRecord (line.prices b) → part_fields row.prices_row a ≡ part_fields row.prices_row b → a ≡ b
 prices_same a b p q e =

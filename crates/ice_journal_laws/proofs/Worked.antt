@@ -13,7 +13,7 @@ use Rattle.ice_journal_laws.specs.Next.{after_all}
 
 unfoldable pub market : Exchange
 market = record {
-  settings = record { weight = 50; close_regret = pos 0; cap = pos 100; improve = pos 1; rounds = 5; branches = 200 };
+  settings = record { weight = 50; close_regret = pos 0; cap = pos 100; improve = pos 1; rounds = 5; branches = 200; derived = 0 };
   goods = record { name = codes "A"; exact = false } ∷ [];
   bidders = record { name = codes "s"; own = 1 ∷ []; tree = record { kind = Sell 0 1; parent = 0 } ∷ []; bounds = record { lo = negsuc 9 ∷ []; hi = negsuc 9 ∷ [] } }
       ∷ record { name = codes "b"; own = 0 ∷ []; tree = record { kind = Buy 0 1; parent = 0 } ∷ []; bounds = record { lo = pos 20 ∷ []; hi = pos 30 ∷ [] } } ∷ [];

@@ -33,7 +33,7 @@ open_seller = record { name = codes "s"; own = 1 ∷ []; tree = tree; bounds = r
 
 abbrev eager : Exchange
 eager = record {
-  settings = record { weight = 50; close_regret = pos 0; cap = pos 100; improve = pos 1; rounds = 1; branches = 200 };
+  settings = record { weight = 50; close_regret = pos 0; cap = pos 100; improve = pos 1; rounds = 1; branches = 200; derived = 0 };
   goods = record { name = codes "A"; exact = false } ∷ [];
   bidders = open_seller ∷ [];
 }

@@ -33,7 +33,7 @@ seller = record { name = codes "s"; own = 1 ∷ []; tree = tree; bounds = record
 
 abbrev lone : Exchange
 lone = record {
-  settings = record { weight = 50; close_regret = pos 0; cap = pos 100; improve = pos 1; rounds = 5; branches = 200 };
+  settings = record { weight = 50; close_regret = pos 0; cap = pos 100; improve = pos 1; rounds = 5; branches = 200; derived = 0 };
   goods = record { name = codes "A"; exact = false } ∷ [];
   bidders = seller ∷ [];
 }

@@ -8,7 +8,6 @@ use Rattle.ice_search_log.specs.Parts.{Part, part_at, AreLater, log_of, is_close
 use Rattle.ice_search_log.specs.Searching.{IsAboveWhole, IsNext}
 use Rattle.ice_search_log.proofs.Counted.{branches_are_splits}
 use Rattle.ice_search_log.proofs.Ending.{search_is_found, search_is_spent, closed_is_low}
-use Rattle.ice_search_log.proofs.Found.{goods_are_means}
 use Rattle.ice_search_log.proofs.Logged.{all_hold}
 use Rattle.ice_search_log.proofs.Marked.{children_are_later}
 use Rattle.ice_search_log.specs.Code.{IsRangedStep}
@@ -31,8 +30,7 @@ module _ (s : State) (is : IsState s) where
   pub found_by : (log : List Step) → IsAboveWhole s.parts s.value → log ≡ log_of (is_closed s.value) s.parts → AllByRecursion IsRangedStep log
       → IsFoundBy x (record { best = s.sets; value = s.value; log = log })
   found_by log whole e ranged = record {
-    found = (goods_are_means x.trees x.exact x.weights x.start x.first (record { value = s.value; sets = s.sets; log = log }) s.value).0.0
-        (search_is_found goods_alone x.trees x.exact x.weights x.start x.first s.parts (is_closed s.value) (record { value = s.value; sets = s.sets; log = log }) is.search is.incumbent whole (closed_is_low s.value) e);
+    found = search_is_found goods_alone x.trees x.exact x.weights x.start x.first s.parts (is_closed s.value) (record { value = s.value; sets = s.sets; log = log }) is.search is.incumbent whole (closed_is_low s.value) e;
     written = written (is_closed s.value) log e ranged;
   }
 
@@ -41,8 +39,7 @@ module _ (s : State) (is : IsState s) where
   spent_by log k b n looks next node e ranged =
       let here = subst (λ side. IsSplitNode x.trees side b n) looks.side node in
       record {
-        spent = (goods_are_means x.trees x.exact x.weights x.start x.first (record { value = s.value; sets = s.sets; log = log }) (part_at s.parts k).key).1.0
-            (search_is_spent goods_alone x.trees x.exact x.weights x.start x.first s.parts (record { value = s.value; sets = s.sets; log = log }) k b n is.search is.incumbent next here.free here.must here.never e);
+        spent = search_is_spent goods_alone x.trees x.exact x.weights x.start x.first s.parts (record { value = s.value; sets = s.sets; log = log }) k b n is.search is.incumbent next here.free here.must here.never e;
         written = written never_stops log e ranged;
         branches = refl;
       }

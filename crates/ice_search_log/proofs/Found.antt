@@ -1,6 +1,6 @@
 -- What a search finds is the best, by its log.
 use Rattle.ice_refute.proofs.Refutes.{log_refutes, log_by_refutes}
-use Rattle.ice_search_log.specs.Laws.{FoundIsBest, FoundByIsBest, GoodsAreMeans}
+use Rattle.ice_search_log.specs.Laws.{FoundIsBest, FoundByIsBest}
 
 pub found_is_best : FoundIsBest
 found_is_best ts exact ws start first p counts found = record {
@@ -13,12 +13,3 @@ found_by_is_best means ts exact ws start first p lawful counts found = record {
   attained = (p.sets, (found.attained.feasible, found.attained.meets), found.attained.has);
   bound = λ a is. log_by_refutes means ts exact ws p.value start p.log a lawful counts found.passes is.0 is.1;
 }
-
-pub goods_are_means : GoodsAreMeans
-goods_are_means ts exact ws start first p bound = (
-  (λ is. record { attained = is.attained; passes = is.passes; earned = is.earned }, λ is. record { attained = is.attained; passes = is.passes; earned = is.earned }),
-  (
-    λ is. record { attained = is.attained; gap = is.gap; passes = is.passes; earned = is.earned; leaves = is.leaves },
-    λ is. record { attained = is.attained; gap = is.gap; passes = is.passes; earned = is.earned; leaves = is.leaves },
-  ),
-)

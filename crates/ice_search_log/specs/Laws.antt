@@ -1,5 +1,5 @@
 -- Laws of searches, as statements.
-use Rattle.std.specs.Prelude.{ℕ, suc, ◌+◌, ◌*◌, ◌^◌, ◌<◌, ◌≤◌, ◌≡◌, ◌⊎◌, ◌↔◌}
+use Rattle.std.specs.Prelude.{ℕ, suc, ◌+◌, ◌*◌, ◌^◌, ◌<◌, ◌≤◌, ◌≡◌, ◌⊎◌}
 use Rattle.std.specs.Prelude.{Bool, true, List, [], ◌∷◌, ◌++◌, length, slice_set, slice_index_or}
 use Rattle.std.specs.Prelude.{ℤ, pos, ◌+ℤ◌, ◌*ℤ◌, ◌≤ℤ◌, ◌<ℤ◌, Some, None}
 use Rattle.std.specs.List.{AllByRecursion, Contains}
@@ -12,19 +12,18 @@ use Rattle.ice_defs.specs.Fixing.{mark_of}
 use Rattle.ice_defs.specs.Trade.{Assignment, tree_of, set_of, weights_of, fixing_of, total_units, is_exact, IsCovered, IsFeasible, MeetsAll}
 use Rattle.ice_defs.specs.Trade.{total_value, IsBest}
 use Rattle.ice_defs.specs.Bound.{Multipliers, net, IsOpen, IsBound}
-use Rattle.ice_defs.specs.Derived.{Means, goods_alone, flags_of, IsBoundBy}
+use Rattle.ice_defs.specs.Derived.{Means, flags_of, IsBoundBy}
 use Rattle.ice_defs.specs.Steps.{Side, branch, leaf, with_mark, branch_count}
 use Rattle.ice_defs.specs.Log.{HasWrongSign, IsFreeNode, PassesBy}
 use Rattle.ice_defs.specs.Sweep.{IsLive, Sweeps, all_zero, IsSweptBound, IsEarned, IsEarnedLog, LeavesEarned}
 use Rattle.ice_defs.specs.Follows.{IsLawful}
 use Rattle.ice_defs.specs.Session.{Proved}
-use Rattle.ice_defs.specs.Searched.{IsFound, IsSpentSearch}
+use Rattle.ice_defs.specs.Searched.{IsFound, IsFoundBy, IsSpentSearchBy}
 use Rattle.ice_defs.specs.Conditions.{AreFixingsOf}
 use Rattle.ice_refute.specs.Code.{CountsGoods}
 use Rattle.ice_refute.specs.Laws.{CountsBy, CountsUpTo}
 use Rattle.ice_search_log.specs.Parts.{Put, Split, Part, part_at, AreLater, side_at, split_at, split_unless, steps_left, log_of}
 use Rattle.ice_search_log.specs.Parts.{never_stops, is_closed, split_count}
-use Rattle.ice_search_log.specs.Found.{IsFoundBy, IsSpentSearchBy}
 use Rattle.ice_search_log.specs.Nodes.{HasNoNode, AreOpenSets}
 use Rattle.ice_search_log.specs.Searching.{leaf_numbers, IsPart, IsSearch, IsIncumbent, IsAboveWhole, IsNext, AreOpen, IsAboveOpen}
 
@@ -39,12 +38,6 @@ FoundByIsBest =
     (means : Means) (ts : List Tree) (exact : List Bool) (ws : List Weights) (start : Side) (first : Assignment) (p : Proved)
     → IsLawful ts exact means → AllByRecursion (CountsBy means exact) p.log → IsFoundBy means ts exact ws start first p
     → IsBest ts exact ws start p.value
-
--- a search by goods alone finds, or is spent, in the words for these
-abbrev pub GoodsAreMeans : Type 0
-GoodsAreMeans = (ts : List Tree) (exact : List Bool) (ws : List Weights) (start : Side) (first : Assignment) (p : Proved) (bound : ℤ)
-    → (IsFoundBy goods_alone ts exact ws start first p ↔ IsFound ts exact ws start first p)
-    × (IsSpentSearchBy goods_alone ts exact ws start first p bound ↔ IsSpentSearch ts exact ws start first p bound)
 
 -- ---- splitting
 

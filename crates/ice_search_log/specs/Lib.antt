@@ -1,6 +1,5 @@
 pub mod Parts
 pub mod Searching
 pub mod Nodes
-pub mod Found
 pub mod Laws
 pub mod Code

@@ -1,5 +1,5 @@
 //! Laws of a branch and bound search, which hold of the definitions.
-ghost use Rattle.ice_search_log.specs.Laws.{OpenRises, OpenBounds, OpenCloses, OpenSplits, ChildrenAreLater, FoundIsBest, FoundByIsBest, GoodsAreMeans, SplitCovers, CoverIsWhole, BestIsBelow, TreeLogPasses, TreeLogIsEarned, TreeLogLeaves, BranchesAreSplits, BestIsThere, NoneIsLeft, GreatestIsNext, SplitIsEarned, SearchBegins, SearchBounds, SearchSplits, SearchIsFound, SearchIsSpent, ClosedIsLow, SideIsBelow, SideIsStart, SidesAreFixings, BoundIsLive, NodeIsThere, MarkedIsLive, OpenSetsMeet, MarkedIsMet, MeetsStart, NetsGiveValue, SweepIsLawful, SweptIsPart, AllIsLeft, LeafIsNext, BranchIsNext};
+ghost use Rattle.ice_search_log.specs.Laws.{OpenRises, OpenBounds, OpenCloses, OpenSplits, ChildrenAreLater, FoundIsBest, FoundByIsBest, SplitCovers, CoverIsWhole, BestIsBelow, TreeLogPasses, TreeLogIsEarned, TreeLogLeaves, BranchesAreSplits, BestIsThere, NoneIsLeft, GreatestIsNext, SplitIsEarned, SearchBegins, SearchBounds, SearchSplits, SearchIsFound, SearchIsSpent, ClosedIsLow, SideIsBelow, SideIsStart, SidesAreFixings, BoundIsLive, NodeIsThere, MarkedIsLive, OpenSetsMeet, MarkedIsMet, MeetsStart, NetsGiveValue, SweepIsLawful, SweptIsPart, AllIsLeft, LeafIsNext, BranchIsNext};
 
 /// What a search finds is the best.
 pub fn found_sets_are_best()
@@ -9,11 +9,6 @@ pub fn found_sets_are_best()
 /// What a search finds by lawful derived goods is the best.
 pub fn found_by_are_best()
     ensures { FoundByIsBest }
-{}
-
-/// A search by goods alone finds, or is spent, in the words for these.
-pub fn goods_are_means()
-    ensures { GoodsAreMeans }
 {}
 
 /// A feasible assignment that meets a side meets one of its two children, and not both.

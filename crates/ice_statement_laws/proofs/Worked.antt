@@ -10,7 +10,7 @@ use Rattle.ice_statement_laws.specs.Gathering.{gathered_lines}
 abbrev rounds : List Record
 rounds =
     line.head version_1 session_kind
-    ∷ line.settings (record { weight = 60; close_regret = (pos 0); cap = (pos 100); improve = (pos 2); rounds = 5; branches = 200 })
+    ∷ line.settings (record { weight = 60; close_regret = (pos 0); cap = (pos 100); improve = (pos 2); rounds = 5; branches = 200; derived = 0 })
     ∷ line.good (codes "A")
     ∷ line.bidder (codes "s") (1 ∷ [])
     ∷ line.sell 0 1 (neg_ℤ (pos 15)) (neg_ℤ (pos 15))
@@ -76,7 +76,7 @@ rounds =
 
 to_s : gathered_lines (codes "s") rounds
     ≡ named (codes "s")
-    ∷ shown (line.settings (record { weight = 60; close_regret = (pos 0); cap = (pos 100); improve = (pos 2); rounds = 5; branches = 200 }))
+    ∷ shown (line.settings (record { weight = 60; close_regret = (pos 0); cap = (pos 100); improve = (pos 2); rounds = 5; branches = 200; derived = 0 }))
     ∷ shown (line.good (codes "A"))
     ∷ shown (line.bidder (codes "s") (1 ∷ []))
     ∷ shown (line.sell 0 1 (neg_ℤ (pos 15)) (neg_ℤ (pos 15)))
@@ -96,7 +96,7 @@ to_s = refl
 
 to_b : gathered_lines (codes "b") rounds
     ≡ named (codes "b")
-    ∷ shown (line.settings (record { weight = 60; close_regret = (pos 0); cap = (pos 100); improve = (pos 2); rounds = 5; branches = 200 }))
+    ∷ shown (line.settings (record { weight = 60; close_regret = (pos 0); cap = (pos 100); improve = (pos 2); rounds = 5; branches = 200; derived = 0 }))
     ∷ shown (line.good (codes "A"))
     ∷ shown (line.bidder (codes "b") (0 ∷ []))
     ∷ shown (line.buy 0 1 (pos 10) (pos 20))

@@ -22,6 +22,8 @@ pub struct Settings {
     /// How many branches all searches of a session, or of a regret, may take together, from 0 to
     /// 50,000.
     pub branches: u32,
+    /// How many derived goods a journal may state, from 0 to 2,000.
+    pub derived: u16,
 }
 
 impl Model for Settings {
@@ -29,15 +31,16 @@ impl Model for Settings {
 
     ghost Value = { exchange.Settings };
 
-    ghost view = { λ a. record { weight = a.weight; close_regret = a.close_regret; cap = a.cap; improve = a.improve; rounds = a.rounds; branches = a.branches } };
+    ghost view = { λ a. record { weight = a.weight; close_regret = a.close_regret; cap = a.cap; improve = a.improve; rounds = a.rounds; branches = a.branches; derived = a.derived } };
 
-    ghost invariant = { λ a. exchange.AreSettings (record { weight = a.weight; close_regret = a.close_regret; cap = a.cap; improve = a.improve; rounds = a.rounds; branches = a.branches }) };
+    ghost invariant = { λ a. exchange.AreSettings (record { weight = a.weight; close_regret = a.close_regret; cap = a.cap; improve = a.improve; rounds = a.rounds; branches = a.branches; derived = a.derived }) };
 
-    ghost inverse = { λ v. record { weight = v.weight; close_regret = v.close_regret; cap = v.cap; improve = v.improve; rounds = v.rounds; branches = v.branches } };
+    ghost inverse = { λ v. record { weight = v.weight; close_regret = v.close_regret; cap = v.cap; improve = v.improve; rounds = v.rounds; branches = v.branches; derived = v.derived } };
 }
 
 impl Settings {
-    /// These settings, and None exactly where one of them is outside its limits.
+    /// These settings, with no derived goods, and None exactly where one of them is outside its
+    /// limits.
     pub fn new(
         weight: u8,
         close_regret: i64,
@@ -46,7 +49,7 @@ impl Settings {
         rounds: u8,
         branches: u32,
     ) -> Option<Settings>
-        ensures { IsMade result exchange.AreSettings (record { weight = weight; close_regret = close_regret; cap = cap; improve = improve; rounds = rounds; branches = branches }) }
+        ensures { IsMade result exchange.AreSettings (record { weight = weight; close_regret = close_regret; cap = cap; improve = improve; rounds = rounds; branches = branches; derived = 0 }) }
     {
         if weight > 100 {
             return None;
@@ -70,7 +73,19 @@ impl Settings {
             improve,
             rounds,
             branches,
+            derived: 0,
         })
+    }
+
+    /// The same settings with so many derived goods, and None exactly where these are more than
+    /// 2,000.
+    pub fn with_derived(&self, derived: u16) -> Option<Settings>
+        ensures { IsMade result exchange.AreSettings (record self.now { derived = derived }) }
+    {
+        if derived > 2000 {
+            return None;
+        }
+        Some(Settings { derived, ..*self })
     }
 
     /// Whether a settlement with this number and regret is the last one: the regret is at most the
