@@ -126,6 +126,7 @@ generated_exchange number = record {
     improve = pos 1;
     rounds = 6;
     branches = 50000;
+    derived = 0;
   };
   goods = map (λ g. record { name = codes "G" ++ decimal g; exact = false }) (numbers_below 12);
   bidders =

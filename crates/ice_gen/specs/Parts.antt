@@ -30,6 +30,7 @@ the_settings = record {
   improve = pos 1;
   rounds = 6;
   branches = 50000;
+  derived = 0;
 }
 
 -- the first so many goods
