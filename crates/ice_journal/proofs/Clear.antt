@@ -1,5 +1,5 @@
 -- No field of a record has a space, so its fields are those between the spaces of its text.
-use Rattle.std.proofs.Common.{◌≡◌, ℕ, suc, ◌+◌, ◌-◌, ◌<◌, ◌≤◌, ◌^◌, Bool, true, false, ltb, List, [], ◌∷◌, ◌++◌, length, map, decimal, ℤ, pos, negsuc, neg_ℤ, unsigned_abs, refl, sym, ap, subst, ◌∙◌, arith}
+use Rattle.std.proofs.Common.{◌≡◌, ℕ, suc, ◌+◌, ◌-◌, ◌<◌, ◌≤◌, ◌^◌, Bool, true, false, ltb, zero, List, [], ◌∷◌, ◌++◌, length, map, decimal, ℤ, pos, negsuc, neg_ℤ, unsigned_abs, refl, sym, ap, subst, ◌∙◌, arith}
 use Rattle.std.specs.List.{list_all, join_with_byte, AllByRecursion, flat_map}
 use Rattle.std.specs.Fmt.{signed_decimal}
 use Rattle.std.specs.Str.Parse.{AllDigits}
@@ -20,7 +20,7 @@ use Rattle.ice_journal.specs.Records as line
 use Rattle.ice_journal.specs.Records.{Record, Change, Numbered}
 use Rattle.ice_journal.specs.Ranges.{IsRecord, IsName, IsValue, IsTotal, IsMultiplier, IsDen, IsViolationField, IsFractionField, IsChange, IsToll, IsAmount}
 use Rattle.ice_journal.proofs.RecordParts.{some_field}
-use Rattle.ice_journal.specs.Spelling.{version_word, kind_word, end_word, stage_word, limit_word, bit_byte, fraction_text, counted_list, change_fields, numbered_fields, numbers_fields, fields_of, text_of}
+use Rattle.ice_journal.specs.Spelling.{version_word, kind_word, end_word, stage_word, limit_word, bit_byte, fraction_text, counted_list, change_fields, numbered_fields, derived_fields, numbers_fields, fields_of, text_of}
 
 -- bytes above the space
 abbrev pub is_clear : List ℕ → Bool
@@ -157,6 +157,10 @@ pub amounts_tolls : (ns : List Numbered) → AllByRecursion IsAmount ns → AllB
 amounts_tolls [] h = tt
 amounts_tolls (n ∷ ns) h = (amount_toll n h.0, amounts_tolls ns h.1)
 
+clear_derived : (n : ℕ) → n ≤ 2000 → AreClear (derived_fields n)
+clear_derived zero le = tt
+clear_derived (suc n) le = (clear_decimal (suc n) (omega arith), tt)
+
 clear_version : (v : line.Version) → IsClear (version_word v)
 clear_version line.version_1 = refl
 clear_version line.version_2 = refl
@@ -206,7 +210,7 @@ clear_record (line.settings s) h = (
         clear_from 1 1000000000 s.cap (omega arith) h.cap,
         (
           clear_from 0 1000000000 s.improve (omega arith) h.improve,
-          (clear_decimal s.rounds (omega (arith, h.rounds)), (clear_decimal s.branches (omega (arith, h.branches)), tt)),
+          (clear_decimal s.rounds (omega (arith, h.rounds)), (clear_decimal s.branches (omega (arith, h.branches)), clear_derived s.derived h.derived)),
         ),
       ),
     ),

@@ -1,5 +1,5 @@
 -- Each record has one spelling, and each text is the spelling of at most one record.
-use Rattle.std.proofs.Common.{◌≡◌, ℕ, suc, ◌-◌, ◌<◌, ◌≤◌, ◌^◌, Bool, true, false, cond, codes, append-nil, length-append, List, [], ◌∷◌, ◌++◌, length, map, decimal, ℤ, pos, negsuc, neg_ℤ, unsigned_abs, Option, Some, None, refl, sym, ap, subst, ◌∙◌, arith}
+use Rattle.std.proofs.Common.{◌≡◌, ℕ, zero, suc, ◌-◌, ◌<◌, ◌≤◌, ◌^◌, Bool, true, false, cond, codes, append-nil, length-append, List, [], ◌∷◌, ◌++◌, length, map, decimal, ℤ, pos, negsuc, neg_ℤ, unsigned_abs, Option, Some, None, refl, sym, ap, subst, ◌∙◌, arith}
 use Rattle.std.specs.List.{join_with_byte, AllByRecursion, flat_map}
 use Rattle.std.specs.Fmt.{signed_decimal}
 use Rattle.std.specs.Int.{IsInRange}
@@ -20,7 +20,7 @@ use Rattle.ice_line.proofs.Digits.{decimal_same, decimal_digits}
 use Rattle.ice_journal.specs.Records as line
 use Rattle.ice_journal.specs.Records.{Record, Change, Numbered}
 use Rattle.ice_journal.specs.Ranges.{IsRecord, IsValue, IsMultiplier, IsChange, IsToll, IsFractionField, IsTotal, IsVerdictRecord}
-use Rattle.ice_journal.specs.Spelling.{version_word, kind_word, end_word, stage_word, limit_word, bit_byte, fraction_text, counted_list, change_fields, numbered_fields, fields_of, text_of, verdict_fields}
+use Rattle.ice_journal.specs.Spelling.{version_word, kind_word, end_word, stage_word, limit_word, bit_byte, fraction_text, counted_list, change_fields, numbered_fields, derived_fields, fields_of, text_of, verdict_fields}
 use Rattle.ice_journal.specs.Reading.{Finds}
 use Rattle.ice_journal.proofs.Clear.{abs_between, abs_from, amounts_tolls, fields_of_text}
 use Rattle.ice_journal.proofs.Listed.{IsOneToOne, front}
@@ -302,6 +302,14 @@ submission_same s t p q e =
     let his = counted_same s.hi t.hi [] [] p.hi_count q.hi_count p.hi q.hi rest in
     λ i. record { name = names i; lo = los.0 i; hi = his.0 i }
 
+derived_same : (m n : ℕ) → m ≤ 2000 → n ≤ 2000 → derived_fields m ≡ derived_fields n → m ≡ n
+derived_same zero zero p q e = refl
+derived_same zero (suc n) p q e = absurd cc
+derived_same (suc m) zero p q e = absurd cc
+derived_same (suc m) (suc n) p q e =
+    let texts : decimal (suc m) ≡ decimal (suc n) = cc in
+    decimal_same (suc m) (suc n) (omega arith) (omega arith) texts
+
 settings_same : (a b : Settings) → AreSettings a → AreSettings b → part_fields row.settings_row a ≡ part_fields row.settings_row b → a ≡ b
 settings_same a b p q e =
     let t1 : decimal a.weight ≡ decimal b.weight = cc in
@@ -310,13 +318,15 @@ settings_same a b p q e =
     let t4 : signed_decimal a.improve ≡ signed_decimal b.improve = cc in
     let t5 : decimal a.rounds ≡ decimal b.rounds = cc in
     let t6 : decimal a.branches ≡ decimal b.branches = cc in
+    let t7 : derived_fields a.derived ≡ derived_fields b.derived = cc in
     let e1 = decimal_same a.weight b.weight (omega (arith, p.weight)) (omega (arith, q.weight)) t1 in
     let e2 = from_same 0 1000000000000 a.close_regret b.close_regret (omega arith) p.close_regret q.close_regret t2 in
     let e3 = from_same 1 1000000000 a.cap b.cap (omega arith) p.cap q.cap t3 in
     let e4 = from_same 0 1000000000 a.improve b.improve (omega arith) p.improve q.improve t4 in
     let e5 = decimal_same a.rounds b.rounds (omega (arith, p.rounds)) (omega (arith, q.rounds)) t5 in
     let e6 = decimal_same a.branches b.branches (omega (arith, p.branches)) (omega (arith, q.branches)) t6 in
-    λ i. record { weight = e1 i; close_regret = e2 i; cap = e3 i; improve = e4 i; rounds = e5 i; branches = e6 i; derived = refl }
+    let e7 = derived_same a.derived b.derived p.derived q.derived t7 in
+    λ i. record { weight = e1 i; close_regret = e2 i; cap = e3 i; improve = e4 i; rounds = e5 i; branches = e6 i; derived = e7 i }
 
 prices_same : (a b : Prices) → IsRecord (line.prices a) → IsRecord (line.prices b) → part_fields row.prices_row a ≡ part_fields row.prices_row b → a ≡ b
 prices_same a b p q e =

@@ -106,7 +106,7 @@ pub enum Line<'room> {
         version: Version,
         kind: Kind,
     },
-    /// `settings W C P I R B`.
+    /// `settings W C P I R B`, and `settings W C P I R B D` where there may be derived goods.
     Settings(Settings),
     /// `good NAME`, with free disposal.
     Good(Name),

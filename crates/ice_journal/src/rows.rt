@@ -5,7 +5,7 @@ ghost use Rattle.std.specs.List.{AllByRecursion};
 ghost use Rattle.ice_defs.specs.Exchange.{IsBetween, AreSettings};
 ghost use Rattle.ice_journal.specs.Reading.{Finds};
 ghost use Rattle.ice_journal.specs.Ranges.{IsName, IsPlace, IsBits, IsAmount, AreNumbers, IsTotal, IsFromTo, IsDen, IsViolationField, IsFractionField, IsValue, HasLength, IsHead, IsBidderNumber, IsNodeNumber, IsLeafRecord, IsStageRecord, ArePricesRecord, IsVerdictRecord};
-ghost use Rattle.ice_journal.specs.Spelling.{bits, fraction_text, version_word, kind_word, end_word, stage_word, limit_word, settings_fields, numbers_fields, verdict_fields};
+ghost use Rattle.ice_journal.specs.Spelling.{bits, fraction_text, version_word, kind_word, end_word, stage_word, limit_word, derived_fields, settings_fields, numbers_fields, verdict_fields};
 ghost use Rattle.ice_journal.specs.Lines.{version_of, kind_of, end_of, head_of, bidder_of, amounts_of, threshold_of, payment_of, limit_row_of, refused_of};
 
 use crate::fractions::lowest_fraction;
@@ -71,6 +71,17 @@ pub fn head(mut fields: Fields<'_>) -> Option<(Version, Kind)>
     }
 }
 
+/// How many derived goods there may be, by the fields that are left: 0 where none is.
+fn derived(mut fields: Fields<'_>) -> Option<u16>
+    ensures { Finds result (λ n. n ≤ 2000) derived_fields fields.entry }
+{
+    let Some(field) = fields.next() else {
+        return Some(0);
+    };
+    let derived = natural(field, 1, 2000)? as u16;
+    if fields.is_end() { Some(derived) } else { None }
+}
+
 /// The settings.
 pub fn settings(mut fields: Fields<'_>) -> Option<Settings>
     ensures { Finds result AreSettings settings_fields fields.entry }
@@ -81,9 +92,7 @@ pub fn settings(mut fields: Fields<'_>) -> Option<Settings>
     let improve = integer(fields.next()?, 0, 1_000_000_000)?;
     let rounds = natural(fields.next()?, 0, 20)? as u8;
     let branches = natural(fields.next()?, 0, 50_000)? as u32;
-    if !fields.is_end() {
-        return None;
-    }
+    let derived = derived(fields)?;
     Some(Settings {
         weight,
         close_regret,
@@ -91,6 +100,7 @@ pub fn settings(mut fields: Fields<'_>) -> Option<Settings>
         improve,
         rounds,
         branches,
+        derived,
     })
 }
 

@@ -5,7 +5,7 @@ ghost use Rattle.std.specs.List.{join_with_byte};
 ghost use Rattle.ice_line.specs.Writing.{with_fields};
 ghost use Rattle.ice_journal.specs.Nodes.{node_record};
 ghost use Rattle.ice_journal.specs.Records as line;
-ghost use Rattle.ice_journal.specs.Spelling.{text_of, version_word, kind_word};
+ghost use Rattle.ice_journal.specs.Spelling.{text_of, version_word, kind_word, derived_fields};
 ghost use Rattle.ice_journal.specs.Lines.{version_of, kind_of};
 
 use crate::line::{Kind, Version};
@@ -46,6 +46,17 @@ pub(crate) fn put_head(version: Version, kind: Kind, to: &mut LineWriter)
     to.word(kind_text(kind));
 }
 
+/// How many derived goods there may be, where there may be some.
+fn put_derived(derived: u16, to: &mut LineWriter)
+    requires { length to.old ≤ 1000 }
+    ensures text { to.new ≡ with_fields to.old (derived_fields derived) }
+    ensures short { length to.new ≤ 8192 }
+{
+    if derived > 0 {
+        to.natural(u64::from(derived));
+    }
+}
+
 pub(crate) fn put_settings(settings: &Settings, to: &mut LineWriter)
     requires { to.old ≡ [] }
     ensures text { to.new ≡ text_of (line.settings settings.now) }
@@ -58,6 +69,7 @@ pub(crate) fn put_settings(settings: &Settings, to: &mut LineWriter)
     to.integer(settings.improve);
     to.natural(u64::from(settings.rounds));
     to.natural(u64::from(settings.branches));
+    put_derived(settings.derived, to);
 }
 
 fn put_amounts(own: &[u32], to: &mut LineWriter)

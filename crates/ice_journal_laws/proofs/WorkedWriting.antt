@@ -92,7 +92,7 @@ owns _ outside = omega (arith, ints)
 lawful : IsExchange lone
 unfolding IsDistinct
 lawful = record {
-  settings = record { weight = omega arith; close_regret = (omega (arith, ints), omega (arith, ints)); cap = (omega (arith, ints), omega (arith, ints)); improve = (omega (arith, ints), omega (arith, ints)); rounds = omega arith; branches = omega arith };
+  settings = record { weight = omega arith; close_regret = (omega (arith, ints), omega (arith, ints)); cap = (omega (arith, ints), omega (arith, ints)); improve = (omega (arith, ints), omega (arith, ints)); rounds = omega arith; branches = omega arith; derived = omega arith };
   goods_count = (omega arith, omega arith);
   bidders_count = (omega arith, omega arith);
   goods_named = (refl, tt);
