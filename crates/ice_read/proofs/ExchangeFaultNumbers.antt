@@ -1,11 +1,11 @@
 -- Each fault of an exchange file has a number, and so it is no want of memory;
 -- nor is it a sale above what is owned, but where a bidder is added.
 use Rattle.std.proofs.Common.{◌≡◌, ℕ, zero, suc, Bool, cond, ℤ, pos, neg_ℤ, List, [], ◌∷◌, length, Option, Some, None, refl, subst, arith, ◌-◌, true, false, map}
-use Rattle.std.specs.Prelude.{◌==◌, codes, replicate, position}
+use Rattle.std.specs.Prelude.{◌==◌, codes, replicate, position, is_some, Ok}
 use Rattle.std.specs.Str.{bytes_eq}
 use Rattle.serde_json.specs.Data.{Data, null, boolean, number, string, array, object, Items, no_items, item, Members, no_members, member}
 use Rattle.serde_json.specs.Events.{items_len}
-use Rattle.serde_json.specs.Find.{get_item}
+use Rattle.serde_json.specs.Find.{get, get_item}
 use Rattle.ice_defs.specs.declared.NodeKind.{NodeKind}
 use Rattle.ice_defs.specs.declared.NodeKind.TheVariants.{Choose, Buy, Sell}
 use Rattle.ice_defs.specs.Making.{node_refusal, close_refusal, good_refusal, bidder_refusal}
@@ -13,7 +13,7 @@ use Rattle.ice_defs.specs.Exchange.{Good, Bidder}
 use Rattle.ice_defs.specs.FileFault.{Path, Read, refuse}
 use Rattle.ice_read.specs.Values.{at_member, at_index, object_of, array_of, has_exactly, member_or_null, natural}
 use Rattle.ice_read.specs.TreeFile.{Draft, no_draft, value_at, good_at, make, leaf_at, Interval, bound_at, interval_at, children_at, closed_at, opened_at, choose_at, is_buy, is_sell, is_choose, no_child, node_of, node_at, tree_at}
-use Rattle.ice_read.specs.ExchangeFile.{setting_names, settings_at, unless_refused, add_good, good_value, goods_from, goods_at, own_one, own_from, own_at, add_bidder, bidder_at, bidders_from, bidders_at}
+use Rattle.ice_read.specs.ExchangeFile.{are_settings, settings_at, unless_refused, add_good, good_value, goods_from, goods_at, own_one, own_from, own_at, add_bidder, bidder_at, bidders_from, bidders_at}
 use Rattle.ice_read.proofs.FaultNumbers.{NumberIs, IsNumber, IsPlainNumber, IsNumbered, IsPlain, numbered, then_is, plain_then, plain_if, array_plain, text_plain, whole_plain}
 
 -- ---- what the makers refuse
@@ -131,13 +131,14 @@ tree_plain goods path d = node_plain goods 16 0 path no_draft d
 -- ---- settings
 
 pub settings_plain : (path : Path) (d : Data) → IsPlain (settings_at path d)
-settings_plain path d = plain_if (has_exactly setting_names d) _ (refuse 2 path) (
+settings_plain path d = plain_if (are_settings d) _ (refuse 2 path) (
     plain_then _ _ (whole_plain (pos 0) (pos 100) (at_member path (codes "weight")) (member_or_null (codes "weight") d)) (λ weight.
     plain_then _ _ (whole_plain (pos 0) (pos 1000000000000) (at_member path (codes "close_regret")) (member_or_null (codes "close_regret") d)) (λ close_regret.
     plain_then _ _ (whole_plain (pos 1) (pos 1000000000) (at_member path (codes "cap")) (member_or_null (codes "cap") d)) (λ cap.
     plain_then _ _ (whole_plain (pos 0) (pos 1000000000) (at_member path (codes "improve")) (member_or_null (codes "improve") d)) (λ improve.
     plain_then _ _ (whole_plain (pos 0) (pos 20) (at_member path (codes "rounds")) (member_or_null (codes "rounds") d)) (λ rounds.
-    plain_then _ _ (whole_plain (pos 0) (pos 50000) (at_member path (codes "branches")) (member_or_null (codes "branches") d)) (λ branches. tt)))))))
+    plain_then _ _ (whole_plain (pos 0) (pos 50000) (at_member path (codes "branches")) (member_or_null (codes "branches") d)) (λ branches.
+    plain_then _ _ (plain_if (is_some (get (codes "derived") d)) _ (Ok (pos 0)) (whole_plain (pos 0) (pos 2000) (at_member path (codes "derived")) (member_or_null (codes "derived") d)) tt) (λ derived. tt))))))))
     (λ e. omega arith, λ e. omega arith)
 
 -- ---- goods

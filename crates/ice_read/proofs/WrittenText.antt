@@ -1,7 +1,8 @@
 -- The value that a lawful exchange is written as has a text that is read as the value.
-use Rattle.std.proofs.Common.{◌≡◌, ℕ, zero, suc, ◌+◌, ◌<◌, ◌≤◌, Bool, true, false, List, [], ◌∷◌, length, map, ℤ, pos, negsuc, neg_ℤ, ◌≤ℤ◌, Some, IsUtf8, refl, sym, ap, subst, arith, cond}
+use Rattle.std.proofs.Common.{◌≡◌, ℕ, zero, suc, ◌+◌, ◌<◌, ◌≤◌, Bool, true, false, List, [], ◌∷◌, ◌++◌, length, map, ℤ, pos, negsuc, neg_ℤ, ◌≤ℤ◌, Some, IsUtf8, refl, sym, ap, subst, arith, cond}
 use Rattle.std.specs.Prelude.{codes, IsTrue}
 use Rattle.std.specs.List.{AllByRecursion, filter}
+use Rattle.std.proofs.Math.Dec.{eqb-suc-zero}
 use Rattle.std.proofs.lemmas.Int.{ints}
 use Rattle.std.proofs.lemmas.List.{get_or-map, length-map}
 use Rattle.json.proofs.Printed.Utf8.{are_ascii, IsUtf8-are_ascii}
@@ -17,7 +18,7 @@ use Rattle.ice_defs.specs.Lawful.{IsLimitedKind, IsBidder, IsExchange}
 use Rattle.ice_defs.specs.Exchange.{Settings, AreSettings, Good, Bidder, Exchange}
 use Rattle.ice_terms.proofs.Names.{name_text}
 use Rattle.ice_read.specs.Values.{value_of}
-use Rattle.ice_read.specs.Written.{whole_data, items_of, Member, members_of, object_of, is_called, good_name, good_data, own_members, kind_data, node_data, bidder_data, settings_data, exchange_data, exchange_text}
+use Rattle.ice_read.specs.Written.{whole_data, items_of, Member, members_of, object_of, is_called, good_name, good_data, own_members, kind_data, node_data, bidder_data, setting_members, settings_data, exchange_data, exchange_text}
 use Rattle.ice_read.proofs.Floatless.{floatless}
 use Rattle.ice_read.proofs.NamePlaces.{all_at}
 use Rattle.ice_read.proofs.OwnedAmounts.{spelled_members, rising_members}
@@ -69,14 +70,21 @@ members_spelled n ms = let all = fit_spelled ms in object_spelled n (members_of 
 -- ---- settings and goods
 
 settings_spelled : (s : Settings) → AreSettings s → IsSpelled 1 (settings_data s)
-settings_spelled s is = members_spelled 0 (
-    fit (codes "weight") refl (whole_spelled 0 (pos s.weight) (omega (arith, ints)) (omega (arith, ints, is.weight)))
-    ∷ fit (codes "close_regret") refl (whole_spelled 0 s.close_regret (omega (arith, ints, is.close_regret.0)) is.close_regret.1)
-    ∷ fit (codes "cap") refl (whole_spelled 0 s.cap (omega (arith, ints, is.cap.0)) (omega (arith, ints, is.cap.1)))
-    ∷ fit (codes "improve") refl (whole_spelled 0 s.improve (omega (arith, ints, is.improve.0)) (omega (arith, ints, is.improve.1)))
-    ∷ fit (codes "rounds") refl (whole_spelled 0 (pos s.rounds) (omega (arith, ints)) (omega (arith, ints, is.rounds)))
-    ∷ fit (codes "branches") refl (whole_spelled 0 (pos s.branches) (omega (arith, ints)) (omega (arith, ints, is.branches)))
-    ∷ [])
+settings_spelled s is = by s.derived is.derived
+  where
+    with : (derived : List (FitMember 0)) → IsSpelled 1 (object_of (setting_members s ++ members_in derived))
+    with derived = members_spelled 0 (
+        fit (codes "weight") refl (whole_spelled 0 (pos s.weight) (omega (arith, ints)) (omega (arith, ints, is.weight)))
+        ∷ fit (codes "close_regret") refl (whole_spelled 0 s.close_regret (omega (arith, ints, is.close_regret.0)) is.close_regret.1)
+        ∷ fit (codes "cap") refl (whole_spelled 0 s.cap (omega (arith, ints, is.cap.0)) (omega (arith, ints, is.cap.1)))
+        ∷ fit (codes "improve") refl (whole_spelled 0 s.improve (omega (arith, ints, is.improve.0)) (omega (arith, ints, is.improve.1)))
+        ∷ fit (codes "rounds") refl (whole_spelled 0 (pos s.rounds) (omega (arith, ints)) (omega (arith, ints, is.rounds)))
+        ∷ fit (codes "branches") refl (whole_spelled 0 (pos s.branches) (omega (arith, ints)) (omega (arith, ints, is.branches)))
+        ∷ derived)
+
+    by : (n : ℕ) → n ≤ 2000 → IsSpelled 1 (settings_data (record s { derived = n }))
+    by zero few = with []
+    by (suc n) few = rw (eqb-suc-zero n) (with (fit (codes "derived") refl (whole_spelled 0 (pos (suc n)) (omega (arith, ints)) (omega (arith, ints, few))) ∷ []))
 
 good_spelled : (good : Good) → IsUtf8 good.name → IsSpelled 1 (good_data good)
 good_spelled good u = by good.exact

@@ -31,3 +31,6 @@ pub(crate) const MOST_ROUNDS: u32 = 20;
 
 /// The most branches that all searches of a session, or of a regret, may take together.
 pub(crate) const MOST_BRANCHES: u32 = 50_000;
+
+/// The most derived goods that a session may state.
+pub(crate) const MOST_DERIVED: u32 = 2000;

@@ -1,9 +1,9 @@
 //! The text of an exchange.
-ghost use Rattle.std.specs.Prelude.{◌≡◌, ◌<◌, codes, map, length, IfOk, OnOk};
+ghost use Rattle.std.specs.Prelude.{◌≡◌, ◌<◌, ◌++◌, codes, map, length, IfOk, OnOk};
 ghost use Rattle.serde_json.specs.Data.{array, object};
 ghost use Rattle.serde_json.specs.View.{view};
 ghost use Rattle.ice_defs.specs.Lawful.{IsLimitedTree, IsExchange};
-ghost use Rattle.ice_read.specs.Written.{items_of, settings_data, good_data, leaf_data, own_members, node_data, bidder_data, exchange_data, exchange_text};
+ghost use Rattle.ice_read.specs.Written.{items_of, object_of, setting_members, derived_members, settings_data, good_data, leaf_data, own_members, node_data, bidder_data, exchange_data, exchange_text};
 ghost use Rattle.ice_read.specs.ExchangeFile.{exchange_of};
 ghost use Rattle.ice_read.specs.Parts.{with_tree, bidder_of, choose_data, named_data, file_data};
 
@@ -13,8 +13,9 @@ use ice_tree::{Bounds, NodeKind, Tree};
 use serde_json::{Map, Value, json};
 use std::alloc::{AllocError, Global};
 
-fn settings_value(alloc: Global, settings: Settings) -> Result<Value, AllocError>
-    ensures { IfOk result (λ v. view v ≡ settings_data settings) }
+/// The settings that are always written.
+fn without_derived(alloc: Global, settings: Settings) -> Result<Value, AllocError>
+    ensures { IfOk result (λ v. view v ≡ object_of (setting_members settings)) }
 {
     json!(in alloc; {
         "weight": settings.weight,
@@ -24,6 +25,32 @@ fn settings_value(alloc: Global, settings: Settings) -> Result<Value, AllocError
         "rounds": settings.rounds,
         "branches": settings.branches
     })
+}
+
+/// All settings, with how many derived goods they allow.
+fn with_derived(alloc: Global, settings: Settings) -> Result<Value, AllocError>
+    ensures { IfOk result (λ v. view v
+        ≡ object_of (setting_members settings ++ derived_members settings.derived)) }
+{
+    json!(in alloc; {
+        "weight": settings.weight,
+        "close_regret": settings.close_regret,
+        "cap": settings.cap,
+        "improve": settings.improve,
+        "rounds": settings.rounds,
+        "branches": settings.branches,
+        "derived": settings.derived
+    })
+}
+
+fn settings_value(alloc: Global, settings: Settings) -> Result<Value, AllocError>
+    ensures { IfOk result (λ v. view v ≡ settings_data settings) }
+{
+    if settings.derived == 0 {
+        without_derived(alloc, settings)
+    } else {
+        with_derived(alloc, settings)
+    }
 }
 
 /// A good: its name, or an object with it where the good is exact.
