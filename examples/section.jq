@@ -13,7 +13,7 @@ def nodes($number):
   end;
 (.goods | map(name)) as $goods
 | ($goods | to_entries | map({key: .value, value: .key}) | from_entries) as $number
-| (.settings | "settings \(.weight) \(.close_regret) \(.cap) \(.improve) \(.rounds) \(.branches)"),
+| (.settings | "settings \(.weight) \(.close_regret) \(.cap) \(.improve) \(.rounds) \(.branches)" + if (.derived // 0) == 0 then "" else " \(.derived)" end),
   (.goods[] | if type == "object" then "exact \(.exact)" else "good \(.)" end),
   (.bidders[]
     | .own as $own

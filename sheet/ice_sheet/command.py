@@ -52,7 +52,7 @@ def words() -> Words:
     )
     parser.add_argument("table", metavar="TABLE.csv", help="the table")
     parser.add_argument("text", metavar="SETTINGS", nargs="?", help="the settings as text in JSON")
-    parser.add_argument("--settings", metavar="FILE", help="a file in JSON with the six settings")
+    parser.add_argument("--settings", metavar="FILE", help="a file in JSON with the settings")
     parser.add_argument("--market", metavar="FILE", help="the market: an exchange, or flat bids")
     parser.add_argument("--trees", metavar="FILE", help="bidders with trees, in JSON")
     return parser

@@ -1,4 +1,4 @@
-"""The six settings of a market."""
+"""The settings of a market."""
 from __future__ import annotations
 
 from typing import Any
@@ -12,13 +12,18 @@ LIMITS = {
     "improve": (0, 10**9),
     "rounds": (0, 20),
     "branches": (0, 50_000),
+    "derived": (0, 2_000),
 }
 
 
 def settings_of(value: Any, place: str) -> dict[str, int]:
-    """The settings in a value of JSON; BadFile where they aren't just these."""
-    given = jsontext.members(value, tuple(LIMITS), place)
+    """The settings in a value of JSON, of which `derived` may be left out.
+
+    BadFile where they aren't just these.
+    """
+    has_derived = isinstance(value, dict) and "derived" in value
+    names = tuple(name for name in LIMITS if has_derived or name != "derived")
+    given = jsontext.members(value, names, place)
     return {
-        name: jsontext.number(given[name], *limits, f"{place}: `{name}`")
-        for name, limits in LIMITS.items()
+        name: jsontext.number(given[name], *LIMITS[name], f"{place}: `{name}`") for name in names
     }

@@ -241,12 +241,17 @@ class Words(unittest.TestCase):
     def test_settings(self) -> None:
         text = json.dumps(SETTINGS)
         self.assertEqual(sheet(SMALL, text)[1]["settings"], SETTINGS)
+        for derived in (0, 1, 2000):
+            given = {**SETTINGS, "derived": derived}
+            self.assertEqual(sheet(SMALL, json.dumps(given))[1]["settings"], given)
         for text, words in [
             ('{"weight": 50}', "SETTINGS: settings: the member `close_regret` is missing"),
             (text.replace("rounds", "round"), "the member `rounds` is missing"),
             (text.replace("}", ', "x": 1}'), "the member `x` doesn't belong here"),
             (text.replace("50", "101"), "`weight`: 101 is not within 0 to 100"),
             (text.replace("50", "1.0"), "`weight`: `1.0` is no whole number"),
+            (text.replace("}", ', "derived": 2001}'), "`derived`: 2001 is not within 0 to 2,000"),
+            (text.replace("}", ', "derived": null}'), "`derived`: null where a whole number"),
             (text.replace("50", "true"), "`weight`: true or false where a whole number is due"),
             ("[]", "an array where an object is due"),
             ("t.csv", "no JSON: Expecting value: line 1 column 1 (char 0); a file is given by"),

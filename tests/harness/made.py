@@ -7,7 +7,7 @@ from typing import Any
 
 from harness.cases import shared
 
-SETTINGS = {"weight": 50, "close_regret": 0, "cap": 100, "improve": 1, "rounds": 5, "branches": 200}
+SETTINGS = {"weight": 50, "close_regret": 0, "cap": 100, "improve": 1, "rounds": 5, "branches": 200, "derived": 0}
 SALE: dict[str, Any] = {"sell": "A", "units": 1, "lo": -10, "hi": -10}
 PURCHASE: dict[str, Any] = {"buy": "A", "units": 1, "lo": 20, "hi": 30}
 SELLER: dict[str, Any] = {"name": "s", "own": {"A": 1}, "tree": SALE}
