@@ -1,5 +1,5 @@
 -- How long the texts of records are.
-use Rattle.std.proofs.Common.{◌≡◌, ℕ, suc, ◌+◌, ◌-◌, ◌*◌, ◌<◌, ◌≤◌, ◌^◌, Bool, List, [], ◌∷◌, ◌++◌, length, map, decimal, ℤ, pos, negsuc, neg_ℤ, unsigned_abs, refl, sym, subst, arith, length-append}
+use Rattle.std.proofs.Common.{◌≡◌, ℕ, zero, suc, ◌+◌, ◌-◌, ◌*◌, ◌<◌, ◌≤◌, ◌^◌, Bool, List, [], ◌∷◌, ◌++◌, length, map, decimal, ℤ, pos, negsuc, neg_ℤ, unsigned_abs, refl, sym, subst, arith, length-append}
 use Rattle.std.specs.List.{join_with_byte, AllByRecursion, flat_map}
 use Rattle.std.specs.Fmt.{signed_decimal}
 use Rattle.std.proofs.lemmas.Bool.Decides.{nat_tests}
@@ -14,7 +14,7 @@ use Rattle.ice_defs.specs.PricingLimit as limits
 use Rattle.ice_journal.specs.Records as line
 use Rattle.ice_journal.specs.Records.{Record, Change, Numbered}
 use Rattle.ice_journal.specs.Ranges.{IsRecord, IsName, IsValue, IsTotal, IsMultiplier, IsDen, IsViolationField, IsFractionField, IsChange, IsToll}
-use Rattle.ice_journal.specs.Spelling.{version_word, kind_word, end_word, stage_word, limit_word, bit_byte, fraction_text, counted_list, change_fields, numbered_fields, fields_of}
+use Rattle.ice_journal.specs.Spelling.{version_word, kind_word, end_word, stage_word, limit_word, bit_byte, fraction_text, counted_list, change_fields, numbered_fields, derived_fields, fields_of}
 use Rattle.ice_journal.proofs.Clear.{abs_between, abs_from, amounts_tolls}
 use Rattle.ice_journal.proofs.Joined.{value_length, toll_length}
 use Rattle.ice_check.specs.Standing.{RecordsAreShort}
@@ -101,6 +101,10 @@ numbers (n ∷ ns) h =
     subst (λ (fs : List (List ℕ)). width fs ≤ 26 * suc (length ns)) (sym (flat_map-cons numbered_fields n ns))
     (omega (arith, number, toll_length n.amount h.0.1, numbers ns h.1))
 
+derived : (n : ℕ) → n < 10 ^ 39 → width (derived_fields n) ≤ 40
+derived zero small = omega arith
+derived (suc n) small = omega (arith, digits (suc n) small)
+
 version : (v : line.Version) → length (version_word v) ≤ 8
 version line.version_1 = omega arith
 version line.version_2 = omega arith
@@ -146,6 +150,7 @@ fields (line.settings s) h =
       from 0 1000000000 s.improve (omega arith) h.improve,
       digits s.rounds (omega (arith, h.rounds)),
       digits s.branches (omega (arith, h.branches)),
+      derived s.derived (omega (arith, h.derived)),
     )
 fields (line.good n) h = omega (arith, name n h)
 fields (line.exact n) h = omega (arith, name n h)
