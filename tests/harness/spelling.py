@@ -132,7 +132,8 @@ def forms() -> Iterator[tuple[str, list[str], bool]]:
 def of_fields() -> Texts:
     """Each record with each of its fields at its limits, past them, and misspelt."""
     texts = Texts([], [])
-    for text, kinds, _ in forms():
+    longer = ((text, kinds.split()) for text, kinds in table()["longer"].items())
+    for text, kinds in [*((text, kinds) for text, kinds, _ in forms()), *longer]:
         fields = text.split(" ")
         assert len(fields) == len(kinds), text
         for place, what in enumerate(kinds):
