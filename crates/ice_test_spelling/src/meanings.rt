@@ -95,7 +95,8 @@ fn is_fraction(fraction: &LowestFraction, num: i64, den: u16) -> bool {
 }
 
 fn are_settings(settings: &Settings) -> bool {
-    settings.weight == 1
+    ((settings.weight == 1 && settings.derived == 0)
+        || (settings.weight == 70 && settings.derived == 71))
         && settings.close_regret == 2
         && settings.cap == 3
         && settings.improve == 4
@@ -103,9 +104,10 @@ fn are_settings(settings: &Settings) -> bool {
         && settings.branches == 6
 }
 
-/// One record of each form, no two with the same numbers.
-const RECORDS: [&str; 34] = [
+/// One record of each form, no two with the same numbers; of settings both spellings.
+const RECORDS: [&str; 35] = [
     "settings 1 2 3 4 5 6",
+    "settings 70 2 3 4 5 6 71",
     "good g",
     "exact e",
     "bidder b 11 12",
