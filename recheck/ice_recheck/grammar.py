@@ -126,7 +126,7 @@ def amounts(words: list[str]) -> list[Any]:
 
 
 def settings(words: list[str]) -> list[Any]:
-    """Six numbers, or seven in version 3."""
+    """Six numbers, or seven."""
     demand(len(words) in (len(SETTINGS) - 1, len(SETTINGS)))
     return [reader(word) for reader, word in zip(SETTINGS, words)]
 

@@ -48,7 +48,7 @@ def read_journal(records: Records, asks_gap: bool = False) -> str:
         records.read_to_end()
         raise Refused(OTHER_KIND, "-")
     version = VERSIONS[head.form]
-    exchange = read_exchange(records, version)
+    exchange = read_exchange(records)
     journal = Journal(records, version, exchange, tolled_goods(exchange), asks_gap)
     return KINDS[head.fields[0]](journal)
 

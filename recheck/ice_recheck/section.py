@@ -53,10 +53,10 @@ class Exchange:
         return [bidder.bounds for bidder in self.bidders]
 
 
-def read_exchange(records: Records, version: int) -> Exchange:
+def read_exchange(records: Records) -> Exchange:
     """The exchange that the section describes, where no maker refuses it."""
+    # Seven numbers pass in each version till the program writes version 3; `order` then in 1, 2.
     settings = Settings(*records.take("settings").fields)
-    records.test(settings.derived == 0 or version == 3, Rule.ORDER)
     goods = read_goods(records)
     bidders: list[Bidder] = []
     while not bidders or records.next_is("bidder"):

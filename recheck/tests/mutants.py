@@ -6,8 +6,8 @@
 makes COUNT mutants, 2,000 where nothing is said, of the seeds from FIRST on, which is 0. The status
 is 1 where an answer differs; then the journals are kept, in a folder that is named. What other
 tests hold, and the examples, are the journals that are damaged, of each kind and in versions 1 and
-2. The program doesn't read version 3 yet: mutants that have its head, or seven settings, are left
-out. The second opinion in Python and that in the browser are compared on version 3.
+2. The program doesn't read version 3 yet: mutants that have its head are left out. The second
+opinion in Python and that in the browser are compared on version 3.
 """
 from __future__ import annotations
 

@@ -26,7 +26,7 @@ JOURNALS = [
     if file.suffix in (".journal", ".session", ".regret", ".assign")
 ]
 HEAD = re.compile(r"\s*ice [12] (assign|regret|session)\b")
-OF_VERSION_3 = re.compile(rb"^(ice 3 (regret|session)|settings( \d+){7})$", re.MULTILINE)
+OF_VERSION_3 = re.compile(rb"^ice 3 (regret|session)$", re.MULTILINE)
 LITERAL = re.compile(r'"((?:[^"\\]|\\.)*)"', re.DOTALL)
 ARRAY = re.compile(rf"\[\s*((?:{LITERAL.pattern}\s*,?\s*)+)\]", re.DOTALL)
 CHANGE = re.compile(rf"\(\s*(\d+),\s*{LITERAL.pattern}", re.DOTALL)

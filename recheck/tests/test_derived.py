@@ -85,16 +85,16 @@ class Lots(Journals):
         for multiplier in (20480, 20479, 20481):
             self.ends([*front, *GROUP[:-1], f"tolled 1 0 {multiplier}"], "above")
         self.found(["ice 3 regret", f"{SIX} 0", *MARKET], "refused 1 50 2")
-        self.ends(["ice 2 regret", SIX, *MARKET, "derive 1"], "order")
+        for settings in (SIX, f"{SIX} 10"):
+            self.ends(["ice 2 regret", settings, *MARKET, "derive 1"], "order")
 
     def test_settings(self) -> None:
-        for kind in ("1 assign", "1 regret", "2 regret", "1 session", "2 session"):
-            self.ends([f"ice {kind}", f"{SIX} 1"], "order")
-        for head in ("ice 3 regret", "ice 3 session"):
+        kinds = ["1 assign", *(f"{n} {kind}" for n in (1, 2, 3) for kind in ("regret", "session"))]
+        for head in (f"ice {kind}" for kind in kinds):
             for settings in (SIX, f"{SIX} 1", f"{SIX} 2000"):
                 self.ends([head, settings], None)
-            self.found([head, f"{SIX} 2001"], "refused 1 50 2")
-            self.found([head, f"{SIX} 1 1"], "refused 1 50 2")
+            for more in ("0", "2001", "1 1"):
+                self.found([head, f"{SIX} {more}"], "refused 1 50 2")
         self.found(["ice 3 assign", SIX], "refused 1 50 1")
 
     def test_only_so_many(self) -> None:
