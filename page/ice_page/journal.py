@@ -217,8 +217,8 @@ class Reader:
         lines.require(
             spelled in KINDS, f"`ice {spelled}` heads no journal of kind assign, regret or session"
         )
+        # Seven numbers pass in each version till the program writes version 3; then in 3 alone.
         version, settings = int(head[4:]), Settings(*lines.take("settings").fields)
-        lines.require(version == 3 or not settings.derived, f"seven settings in version {version}")
         self.journal, self.leaf = Journal(version, kind, settings), LEAVES[version]
 
     def read(self) -> Journal:

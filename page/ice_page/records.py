@@ -163,7 +163,7 @@ ALL_FORMS = (
     Form("ice 1 KIND", one_of("assign", "regret", "session", "exchange", "prices")),
     Form("ice 2 KIND", one_of("regret", "session")),
     Form(
-        "settings W C P I R B",
+        "settings W C P I R B D",
         whole(0, 100),
         whole(0, 10**12),
         whole(1, 10**9),
@@ -224,7 +224,7 @@ FAIR_FORMS = (
     Form("hold B LOW HIGH", BIDDER, HELD, HELD),
     Form("end fair"),
 )
-# The head of version 3, which the program doesn't read yet; settings have a seventh number in it.
+# The head of version 3, which the program doesn't read yet.
 LATER_FORMS = (Form("ice 3 KIND", one_of("regret", "session")),)
 OTHER_FORMS = (*STATEMENT_FORMS, *FAIR_FORMS, *LATER_FORMS)
 ALL_HEADS = FORMS | {form.head: form for form in OTHER_FORMS}

@@ -119,13 +119,13 @@ class Derived(unittest.TestCase):
     def test_earlier_versions_have_none(self) -> None:
         for version, leaf in ((1, "leaf"), (2, "near 1 0")):
             text = REGRET.replace("ice 3", f"ice {version}")
-            self.refused(text, 2, "seven settings")
-            text = text.replace("200 10\n", "200\n")
             self.refused(text, 12, "`derive 1` stands where `final` or `spent` is due")
             text = text.replace(GOOD, "")
             self.refused(text, 17, "`tolled 1 1 40960` stands where")
             text = text.replace(TOLL, f"{leaf} 20480\n")
-            self.assertEqual(read(text).version, version)
+            for settings, count in (("200 10\n", 10), ("200\n", 0)):
+                journal = read(text.replace("200 10\n", settings))
+                self.assertEqual((journal.version, journal.settings.derived), (version, count))
             for record in ("derive 1", "amounts 1 1 0 1", "tolled 0"):
                 self.refused(text.replace("end regret", record), 25, f"`{record}` stands where")
 
