@@ -106,6 +106,15 @@ function amountsFields(words) {
   return [BIDDER(words[0]), ...nodeAmounts(words.slice(1))];
 }
 
+const SETTINGS = [small(0, 100), small(0, 1e12), small(1, 1e9), small(0, 1e9), small(0, 20),
+  small(0, 50000), small(1, 2000)];
+
+// Six numbers, or seven.
+function settingsFields(words) {
+  demand(words.length >= 6);
+  return fields(...SETTINGS.slice(0, words.length))(words);
+}
+
 // A name, K and K lower values, L and L upper ones.
 function submitFields(words) {
   demand(words.length >= 3);
@@ -118,8 +127,7 @@ const END_WORDS = ["assign", "exchange", "prices", "regret", "closed", "open", "
 const RECORDS = new Map([
   ["ice 1", fields(among("assign", "regret", "session", "exchange", "prices"))],
   ["ice 2", fields(among("regret", "session"))],
-  ["settings", fields(small(0, 100), small(0, 1e12), small(1, 1e9), small(0, 1e9), small(0, 20),
-    small(0, 50000))],
+  ["settings", settingsFields],
   ["good", fields(NAME)],
   ["exact", fields(NAME)],
   ["bidder", repeating(NAME, small(0, 1e6))],
