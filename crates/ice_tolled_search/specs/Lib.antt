@@ -1,0 +1,4 @@
+pub mod Stated
+pub mod Pass
+pub mod Turn
+pub mod Results
